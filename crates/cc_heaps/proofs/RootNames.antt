@@ -16,7 +16,8 @@ use Rattle.cc_names.proofs.NameTests.{same_name-exact}
 use Rattle.cc_model.specs.Slots.{contents, from_to}
 use Rattle.cc_model.specs.Entries.{joint, joints}
 use Rattle.cc_model.specs.Heap.{HeapNative}
-use Rattle.cc_model.specs.View.{native_edges, script_slot_edges}
+use Rattle.cc_model.specs.Places.{places_of_native}
+use Rattle.cc_model.specs.View.{script_slot_edges}
 use Rattle.cc_model.specs.Exposure.{slots_of_scripts}
 use Rattle.cc_model.specs.Colours.{black_rules, black_names, scripts_held_by, scripts_held, marked_names}
 use Rattle.cc_model.specs.WellFormed.{IsWellFormed, script_names}
@@ -130,7 +131,7 @@ module _ {owned : List ℕ} (p : Inside) (l : IsLinked p) (o : IsInOrder owned (
       w = o.sound.well_formed
 
       targets_of : HeapNative → List Name
-      targets_of n = map (λ (e : Name × Name). e.1) (native_edges n)
+      targets_of n = contents (places_of_native n)
 
   -- what is black has a name of a script object that is there
   black-there : (x : Name) → Among x (black_names (heap_of p)) → (q : Object) × Among q p.scripts × (q.name ≡ x)

@@ -1,6 +1,6 @@
 -- HEAPS GO ON FOLLOWING A GRAPH where the shapes of objects change alike in both, where something is left out that nothing
 -- reaches, and where registers are written alike.
-use Rattle.std.proofs.Common.{arith, ◌≡◌, ℕ, false, map, length, Option, Some, option_map, refl, sym, ◌∙◌, ap, subst, inl, inr, ◌⊎◌, ⊎_elim}
+use Rattle.std.proofs.Common.{arith, ◌≡◌, ℕ, false, map, length, Option, Some, None, option_map, refl, sym, ◌∙◌, ap, subst, inl, inr, ◌⊎◌, ⊎_elim}
 use Rattle.std.specs.Prelude.{IsTrue}
 use Rattle.cc_lists.specs.Members.{Among}
 use Rattle.cc_lists.proofs.Members.{Among-map, Among-map_cases}
@@ -12,7 +12,7 @@ use Rattle.cc_model.specs.Graph.{Graph}
 use Rattle.cc_model.specs.Heap.{Heap, HeapNative, HeapScript}
 use Rattle.cc_model.specs.StandsFor.{Shape, shape_in, shape_of_held_native, shape_of_held_script, IsEmptied}
 use Rattle.cc_laws_heap.specs.Freeing.{Uncounted, uncounted, SameBeside}
-use Rattle.cc_laws_heap.proofs.Shapes.{edges_of_shape}
+use Rattle.cc_laws_heap.proofs.Shapes.{edges_of_shape, IsOfNone}
 use Rattle.cc_laws_heap.proofs.GraphParts.{with_registers}
 use Rattle.cc_laws_heap.proofs.Following.{NativeFollows, AreObjects, AreEntries, Follows}
 
@@ -107,6 +107,8 @@ pub record SameGraphBeside (g e : Graph) : Type 0 where
 pub record IsChange (P : Name → Type 0) (f : Change) (g : Graph) : Type 0 where
   pub moved : (x : Name) → ((s : Shape) → f x s ≡ s) ⊎ P x
   pub edges : (x y : Name) (s : Shape) → P x → shape_in g x ≡ Some s → Among y (edges_of_shape x (f x s)) → P y
+  -- none gets or loses a delegate
+  pub delegates : (x : Name) (s : Shape) → (f x s).delegate ≡ s.delegate
   -- a reflector that is not preserved after it was not before, and does not change
   pub blank : (k : ℕ) (s t : Shape) → shape_in g (native k) ≡ Some s → (f (native k) s).preserved ≡ false → shape_in g (reflector k) ≡ Some t →
       (s.preserved ≡ false) × (f (reflector k) t ≡ t)
@@ -130,7 +132,7 @@ Follows-changed P f h k g e heap graph a b c t = record {
       let same = c.blank j n.0 m.0 n.1 (ap (λ (s : Shape). s.preserved) n.2 ∙ p) m.1 in
       let before = t.blank j n.0 m.0 n.1 same.0 m.1 in
       let still : m.0 ≡ r = sym same.1 ∙ m.2 in
-      (ap (λ (s : Shape). s.slots) (sym still) ∙ before.0, λ d i. before.1 d (subst (Among d) b.entries i));
+      (ap (λ (s : Shape). s.slots) (sym still) ∙ before.0, (λ d i. before.1 d (subst (Among d) b.entries i)), no_delegate (reflector j) before.2);
   closed = record {
     native_registers = λ x i. t.closed.native_registers x (subst (λ (l : Slots). Among x (contents l)) b.native_registers i);
     script_registers = λ x i. t.closed.script_registers x (subst (λ (l : Slots). Among x (contents l)) b.script_registers i);
@@ -138,8 +140,14 @@ Follows-changed P f h k g e heap graph a b c t = record {
         let m = option_map-found (f x) (shape_in g x) s (sym (graph x) ∙ q) in
         c.edges x y m.0 p m.1 (subst (λ (v : Shape). Among y (edges_of_shape x v)) (sym m.2) i);
     entries = λ d i. t.closed.entries d (subst (Among d) b.entries i);
+    keys = λ d y i. t.closed.keys d y (subst (Among d) b.entries i);
   };
 }
+  where
+    no_delegate : (x : Name) → IsOfNone g x → IsOfNone e x
+    no_delegate x none z s i q =
+        let m = option_map-found (f z) (shape_in g z) s (sym (graph z) ∙ i) in
+        none z m.0 m.1 (sym (c.delegates z m.0) ∙ (ap (λ (v : Shape). v.delegate) m.2 ∙ q))
 
 -- Nothing changes that is seen in the graph
 
@@ -180,7 +188,7 @@ Leaves-uncounted h k natives b = record {
 }
   where
     shape_of_uncounted : Uncounted → Shape
-    shape_of_uncounted u = record { slots = Some u.slots; preserved = u.preserved }
+    shape_of_uncounted u = record { slots = Some u.slots; delegate = None; preserved = u.preserved }
 
 -- Registers
 

@@ -2,15 +2,15 @@
 -- and what they told as freed is not reached.
 use Rattle.std.proofs.Common.{arith, ◌≡◌, ℕ, ◌+◌, List, length, Option, Some, None, option_map, refl, sym, ◌∙◌, ap, subst, inr, ◌⊎◌}
 use Rattle.std.specs.Prelude.{IsTrue}
-use Rattle.std.proofs.lemmas.Bool.{false≢true}
+use Rattle.std.proofs.lemmas.Bool.{false≢true, and_parts}
 use Rattle.cc_lists.specs.Members.{Among}
 use Rattle.cc_names.specs.Allowance.{Allowance}
 use Rattle.cc_names.specs.declared.name.Name.{Name}
 use Rattle.cc_names.specs.declared.name.Name.TheVariants as name
 use Rattle.cc_names.specs.declared.register.Reg.{Reg}
 use Rattle.cc_names.specs.declared.register.Reg.TheVariants.{N, S}
-use Rattle.cc_names.specs.declared.kind.Kind.TheVariants.{Plain, Map}
-use Rattle.cc_names.specs.Names.{native, object, reflector}
+use Rattle.cc_names.specs.declared.kind.Kind.TheVariants.{Plain, Map, Proxy as proxy_kind}
+use Rattle.cc_names.specs.Names.{native, object, reflector, is_script}
 use Rattle.cc_names.specs.Sizes.{bank_length}
 use Rattle.cc_model.specs.declared.command.Command.{Command}
 use Rattle.cc_model.specs.declared.command.Command.TheVariants.{Native, Script, WeakMap, Proxy, CopyNative, CopyScript, Drop, Set, Get, Put, Take, Wrap, Unwrap, Preserve, SetEntry, GetEntry, Expose}
@@ -19,9 +19,9 @@ use Rattle.cc_model.specs.Ranges.{in_range}
 use Rattle.cc_model.specs.Slots.{empty_slots}
 use Rattle.cc_model.specs.Checks.{slot_at, value_at, native_of, reflector_of, refusal_of}
 use Rattle.cc_model.specs.Graph as graph
-use Rattle.cc_model.specs.Graph.{Graph, plain_object, weak_map, empty_graph, changed, unless_refused, step}
-use Rattle.cc_model.specs.Reached.{Reached, held, edge, value}
-use Rattle.cc_model.specs.WellMade.{IsWellMade}
+use Rattle.cc_model.specs.Graph.{Graph, plain_object, weak_map, proxy, empty_graph, changed, unless_refused, step}
+use Rattle.cc_model.specs.Reached.{Reached, held, edge, value, key}
+use Rattle.cc_model.specs.WellMade.{IsWellMade, was_made}
 use Rattle.cc_model.specs.Heap as heap
 use Rattle.cc_model.specs.Heap.{Heap, empty_heap}
 use Rattle.cc_model.specs.Effects as effects_of
@@ -30,24 +30,24 @@ use Rattle.cc_model.specs.WellFormed.{IsWellFormed, names_there, native_names}
 use Rattle.cc_model.specs.StandsFor.{StandsFor}
 use Rattle.cc_laws_heap.specs.Sound.{IsSound}
 use Rattle.cc_laws_heap.proofs.Holds.{OfSome, OfSome-then, contents-get}
-use Rattle.cc_laws_heap.proofs.GraphReads.{MadeNative, native_register-made, script_register-made}
-use Rattle.cc_laws_heap.proofs.GraphCommands.{step-well}
+use Rattle.cc_laws_heap.proofs.GraphReads.{MadeNative, MadeScript, MadeScript-made, native_register-made, script_register-made}
+use Rattle.cc_laws_heap.proofs.GraphCommands.{preserve-well, scripts-preserve, step-well}
 use Rattle.cc_laws_heap.proofs.References.{native-there}
 use Rattle.cc_laws_heap.proofs.ReachedAlike.{reached-there}
 use Rattle.cc_laws_heap.proofs.CascadeTakesOut.{TellsWhatIsGone, let_go-gone}
 use Rattle.cc_laws_heap.proofs.Taken.{IsTaken-from}
 use Rattle.cc_laws_heap.proofs.CommandsSound.{effects-sound}
 use Rattle.cc_laws_heap.proofs.Numbered.{numbered-nothing}
-use Rattle.cc_laws_heap.proofs.RepliesAlike.{AreAlike, slot_at-alike, refusal_of-alike, objects-stand}
-use Rattle.cc_laws_heap.proofs.ReachedReads.{register-reached, source-reached, script_source-reached, slot_at-reached, value_at-reached, script-behind, native_of-reached}
+use Rattle.cc_laws_heap.proofs.RepliesAlike.{AreAlike, slot_at-alike, refusal_of-alike, delegate-stands, objects-stand}
+use Rattle.cc_laws_heap.proofs.ReachedReads.{HasBehind, register-reached, source-reached, script_source-reached, slot_at-reached, value_at-reached, script-behind, native_of-reached}
 use Rattle.cc_laws_heap.proofs.Following.{Follows, stands-follows}
 use Rattle.cc_laws_heap.proofs.Standing.{follows-stands}
 use Rattle.cc_laws_heap.proofs.Changing.{Follows-left}
 use Rattle.cc_laws_heap.proofs.SlotsWritten.{IsPreserved}
-use Rattle.cc_laws_heap.proofs.NewObjects.{next_native, next_object, Follows-native, Follows-plain, Follows-map}
+use Rattle.cc_laws_heap.proofs.NewObjects.{next_native, next_object, Follows-native, Follows-plain, Follows-map, Follows-proxy}
 use Rattle.cc_laws_heap.proofs.Unseen.{Leaves-exposed}
 use Rattle.cc_laws_heap.proofs.Wrapping.{Follows-wrapped}
-use Rattle.cc_laws_heap.proofs.StepsAlike.{Follows-script_register, Follows-put, Follows-hold, Follows-hold_script, Follows-store, Follows-preserve, Follows-put_script, Follows-set_entry}
+use Rattle.cc_laws_heap.proofs.StepsAlike.{Follows-script_register, Follows-put, Follows-hold, Follows-hold_script, Follows-store, Follows-preserve, preserved-after, Follows-put_script, Follows-set_entry}
 use Rattle.cc_laws_heap.proofs.Making.{contents-empty_none}
 
 module _ (h : Heap) (g : Graph) (w : IsWellFormed h) (m : IsWellMade g) (s : StandsFor h g) where
@@ -80,6 +80,36 @@ module _ (h : Heap) (g : Graph) (w : IsWellFormed h) (m : IsWellMade g) (s : Sta
       (λ P p u. f P (Follows-script_register P (effects_of.wrapped h (Some (name.Native k))) (graph.wrapped g (Some (name.Native k))) d (Some (reflector k.0)) (Some (reflector k.0)) refl p u))
   wrap d _ r t Q f = absurd (false≢true t)
 
+  -- what a script register holds has the same delegate
+  delegate-same : (k : ℕ) → OfSome (λ x. heap.delegate_at h x ≡ graph.delegate_in g x) (graph.register g (S k))
+  delegate-same k = go (graph.register g (S k)) (script_register-made g m k) (register-reached g (S k))
+    where
+      go : (o : Option Name) → OfSome (MadeScript g) o → OfSome (Reached g) o → OfSome (λ x. heap.delegate_at h x ≡ graph.delegate_in g x) o
+      go None i d = tt
+      go (Some x) i d = delegate-stands h g s x (and_parts (is_script x) (was_made g x) i).0 d
+
+  -- a proxy made of what a register holds, which is preserved first where it is a reflector, and put into a register
+  make_proxy : (d : ℕ) (o : Option Name) → OfSome (Reached g) o → OfSome (HasBehind (Reached g)) o → OfSome (MadeScript g) o → (Q : Type 0) →
+      ((P : Name → Type 0) → Follows P (effects_of.make_proxy h d o) (graph.with_proxy g d o) → Q) → Q
+  make_proxy d None r b i Q f = f (Reached g) start
+  make_proxy d (Some x) r b i Q f = f (λ z. Reached g z ⊎ (next_object e ≡ z))
+      (Follows-script_register (λ z. Reached g z ⊎ (next_object e ≡ z)) (effects_of.with_object k proxy_kind 0 (Some x)) (graph.with_script e (proxy x)) d
+      (Some (object (k.scripts_made + 1))) (Some (object (length g.scripts + 1)))
+      (ap (λ j. Some (object (j + 1))) (t.beside.scripts_made ∙ ap length same)) (inr (ap (λ os. object (length os + 1)) same))
+      (Follows-proxy (Reached g) k e x r (preserved-after g x) (preserve-well g m (Some x) (MadeScript-made g x i)) t))
+    where
+      k : Heap
+      k = heap.preserve h (Some x)
+
+      e : Graph
+      e = graph.preserve g (Some x)
+
+      t : Follows (Reached g) k e
+      t = Follows-preserve (Reached g) h g (Some x) r b start
+
+      same : e.scripts ≡ g.scripts
+      same = scripts-preserve g (Some x)
+
   -- AFTER EACH COMMAND THE HEAPS FOLLOW what it makes of the graph: whatever follows from that, follows.
   effects-follow : (c : Command) (Q : Type 0) → ((P : Name → Type 0) → Follows P (effects h c).heap (changed g c) → Q) → Q
   unfolding effects make_native changed
@@ -88,13 +118,16 @@ module _ (h : Heap) (g : Graph) (w : IsWellFormed h) (m : IsWellMade g) (s : Sta
       (Some (native (h.natives_made + 1))) (Some (native (length g.natives + 1))) (ap (λ k. Some (native (k + 1))) s.natives_made) (inr refl)
       (Follows-native (Reached g) h g n m start))
   effects-follow (Script d n) Q f = f (λ z. Reached g z ⊎ (next_object g ≡ z))
-      (Follows-script_register (λ z. Reached g z ⊎ (next_object g ≡ z)) (effects_of.with_object h Plain n) (graph.with_script g (plain_object (empty_slots n))) d
+      (Follows-script_register (λ z. Reached g z ⊎ (next_object g ≡ z)) (effects_of.with_object h Plain n None) (graph.with_script g (plain_object (empty_slots n))) d
       (Some (object (h.scripts_made + 1))) (Some (object (length g.scripts + 1))) (ap (λ k. Some (object (k + 1))) s.scripts_made) (inr refl)
       (Follows-plain (Reached g) h g n m start))
   effects-follow (WeakMap d) Q f = f (λ z. Reached g z ⊎ (next_object g ≡ z))
-      (Follows-script_register (λ z. Reached g z ⊎ (next_object g ≡ z)) (effects_of.with_object h Map 0) (graph.with_script g weak_map) d
+      (Follows-script_register (λ z. Reached g z ⊎ (next_object g ≡ z)) (effects_of.with_object h Map 0 None) (graph.with_script g weak_map) d
       (Some (object (h.scripts_made + 1))) (Some (object (length g.scripts + 1))) (ap (λ k. Some (object (k + 1))) s.scripts_made) (inr refl)
       (Follows-map (Reached g) h g m start))
+  effects-follow (Proxy d r) Q f = make_proxy d (graph.register g (S r)) (register-reached g (S r))
+      (script-behind g (graph.register g (S r)) (script_register-made g m r) (register-reached g (S r))) (script_register-made g m r) Q
+      (λ P t. f P (subst (λ x. Follows P (effects_of.make_proxy h d x) (graph.with_proxy g d (graph.register g (S r)))) (sym (a.register (S r))) t))
   effects-follow (CopyNative d r) Q f = f (Reached g) (Follows-hold (Reached g) h g d (heap.register h (N r)) (graph.register g (N r)) (a.register (N r)) (register-reached g (N r)) start)
   effects-follow (CopyScript d r) Q f = f (Reached g) (Follows-script_register (Reached g) h g d (heap.register h (S r)) (graph.register g (S r)) (a.register (S r)) (register-reached g (S r)) start)
   effects-follow (Drop (N d)) Q f = f (Reached g) (Follows-put (Reached g) h g d None None refl tt start)
@@ -125,7 +158,7 @@ module _ (h : Heap) (g : Graph) (w : IsWellFormed h) (m : IsWellMade g) (s : Sta
       (subst (λ y. Follows (Reached g) (effects_of.set_entry h (graph.register g (S x)) y (heap.source h (option_map S v))) (changed_entry x k v)) (sym (a.register (S k)))
       (subst (λ y. Follows (Reached g) (effects_of.set_entry h (graph.register g (S x)) (graph.register g (S k)) y) (changed_entry x k v)) (sym (script_source-alike v))
       (Follows-set_entry (Reached g) h g (graph.register g (S x)) (graph.register g (S k)) (graph.source g (option_map S v)) (register-reached g (S x)) (register-reached g (S k))
-      (script-behind g (graph.register g (S k)) (script_register-made g m k) (register-reached g (S k))) (script_source-reached g v) m.one_entry start))))
+      (script-behind g (graph.register g (S k)) (script_register-made g m k) (register-reached g (S k))) (script_source-reached g v) (delegate-same k) m.one_entry start))))
     where
       changed_entry : ℕ → ℕ → Option ℕ → Graph
       changed_entry x k v = graph.set_entry g (graph.register g (S x)) (graph.register g (S k)) (graph.source g (option_map S v))
@@ -170,6 +203,7 @@ empty-unreached limits _ (held (N r) x e) = contents-empty_none bank_length x (c
 empty-unreached limits _ (held (S r) x e) = contents-empty_none bank_length x (contents-get (empty_slots bank_length) r x e)
 empty-unreached limits _ (edge x y d i) = empty-unreached limits x d
 empty-unreached limits _ (value e i a b) = i
+empty-unreached limits _ (key e d i q a b) = i
 
 -- THE EMPTY HEAPS STAND FOR THE EMPTY GRAPH.
 pub empty-stands : (limits : Allowance) → StandsFor (empty_heap limits) (empty_graph limits)

@@ -26,18 +26,18 @@ is_pair m k a b = same_name m a && same_name k b
 
 -- an entry of a map and a key is told as they are
 is_pair-entry : (m k a b : Name) (e : Entry) → is_entry_of m k e ≡ true → is_entry_of a b e ≡ is_pair m k a b
-is_pair-entry m k a b e t = is_entry_of-alike a b m k e (entry m k k) t (is_entry_of-own (entry m k k))
+is_pair-entry m k a b e t = is_entry_of-alike a b m k e (entry m k None k) t (is_entry_of-own (entry m k None k))
 
 -- an entry of another map or another key is not of this one
 is_pair-other : (m k a b : Name) (e : Entry) → is_entry_of m k e ≡ false → is_pair m k a b ≡ true → is_entry_of a b e ≡ false
 is_pair-other m k a b e f p =
-    let same = is_entry_of-parts a b (entry m k k) p in
+    let same = is_entry_of-parts a b (entry m k None k) p in
     rw (sym same.0, sym same.1) f
 
 -- the value after an entry was set
-value_in-set : (es : List Entry) (m k v a b : Name) → value_in (with_entry es m k v) a b ≡ cond (is_pair m k a b) (Some v) (value_in es a b)
-value_in-set [] m k v a b = grind arith
-value_in-set (e ∷ es) m k v a b = grind (arith, is_pair-entry, is_pair-other, value_in-set es m k v a b)
+value_in-set : (es : List Entry) (m k : Name) (its_delegate : Option Name) (v a b : Name) → value_in (with_entry es m k its_delegate v) a b ≡ cond (is_pair m k a b) (Some v) (value_in es a b)
+value_in-set [] m k its_delegate v a b = grind arith
+value_in-set (e ∷ es) m k its_delegate v a b = grind (arith, is_pair-entry, is_pair-other, value_in-set es m k its_delegate v a b)
 
 -- the value after an entry was taken out
 value_in-without : (es : List Entry) (m k a b : Name) → value_in (without_entry es m k) a b ≡ cond (is_pair m k a b) None (value_in es a b)
@@ -63,47 +63,47 @@ ArePart-filter {X} p (x ∷ xs) (y ∷ ys) a = ⊎_elim
     skip false i = i
 
 -- the same entry set in a list and in a part of it that has the same entry of this map and this key, or none
-ArePart-set : (m k v : Name) (xs ys : List Entry) → ArePart xs ys → value_in xs m k ≡ value_in ys m k → entries_of m k ys ≤ 1 →
-    ArePart (with_entry xs m k v) (with_entry ys m k v)
-ArePart-set m k v [] [] a e few = inl (refl, tt)
-ArePart-set m k v [] (y ∷ ys) a e few = go (λ e f. ArePart-set m k v [] ys (ArePart-none ys) e f) (is_entry_of m k y) refl e
+ArePart-set : (m k : Name) (its_delegate : Option Name) (v : Name) (xs ys : List Entry) → ArePart xs ys → value_in xs m k ≡ value_in ys m k → entries_of m k ys ≤ 1 →
+    ArePart (with_entry xs m k its_delegate v) (with_entry ys m k its_delegate v)
+ArePart-set m k its_delegate v [] [] a e few = inl (refl, tt)
+ArePart-set m k its_delegate v [] (y ∷ ys) a e few = go (λ e f. ArePart-set m k its_delegate v [] ys (ArePart-none ys) e f) (is_entry_of m k y) refl e
   where
-    go : (value_in [] m k ≡ value_in ys m k → entries_of m k ys ≤ 1 → ArePart (entry m k v ∷ []) (with_entry ys m k v)) → (t : Bool) → is_entry_of m k y ≡ t →
-        value_in [] m k ≡ elim t [ true ↦ Some y.value | false ↦ value_in ys m k ] → ArePart (entry m k v ∷ []) (elim t [ true ↦ entry m k v ∷ ys | false ↦ y ∷ with_entry ys m k v ])
+    go : (value_in [] m k ≡ value_in ys m k → entries_of m k ys ≤ 1 → ArePart (entry m k its_delegate v ∷ []) (with_entry ys m k its_delegate v)) → (t : Bool) → is_entry_of m k y ≡ t →
+        value_in [] m k ≡ elim t [ true ↦ Some y.value | false ↦ value_in ys m k ] → ArePart (entry m k its_delegate v ∷ []) (elim t [ true ↦ entry m k its_delegate v ∷ ys | false ↦ y ∷ with_entry ys m k its_delegate v ])
     go ih true t f = absurd (cc)
     go ih false t f = inr (ih f (omega (arith, count_by-cons (is_entry_of m k) y ys)))
-ArePart-set m k v (x ∷ xs) [] a e few = absurd a
-ArePart-set m k v (x ∷ xs) (y ∷ ys) a e few = ⊎_elim
-    (λ s. subst (λ z. value_in (z ∷ xs) m k ≡ value_in (y ∷ ys) m k → ArePart (with_entry (z ∷ xs) m k v) (with_entry (y ∷ ys) m k v)) (sym s.0)
-    (both (λ f n. ArePart-set m k v xs ys s.1 f n) s.1 (is_entry_of m k y) refl) e)
-    (λ p. skip (λ f n. ArePart-set m k v (x ∷ xs) ys p f n) p (is_entry_of m k y) refl e) a
+ArePart-set m k its_delegate v (x ∷ xs) [] a e few = absurd a
+ArePart-set m k its_delegate v (x ∷ xs) (y ∷ ys) a e few = ⊎_elim
+    (λ s. subst (λ z. value_in (z ∷ xs) m k ≡ value_in (y ∷ ys) m k → ArePart (with_entry (z ∷ xs) m k its_delegate v) (with_entry (y ∷ ys) m k its_delegate v)) (sym s.0)
+    (both (λ f n. ArePart-set m k its_delegate v xs ys s.1 f n) s.1 (is_entry_of m k y) refl) e)
+    (λ p. skip (λ f n. ArePart-set m k its_delegate v (x ∷ xs) ys p f n) p (is_entry_of m k y) refl e) a
   where
     before : entries_of m k (y ∷ ys) ≡ cond (is_entry_of m k y) 1 0 + entries_of m k ys
     before = count_by-cons (is_entry_of m k) y ys
 
-    both : (value_in xs m k ≡ value_in ys m k → entries_of m k ys ≤ 1 → ArePart (with_entry xs m k v) (with_entry ys m k v)) → ArePart xs ys → (t : Bool) → is_entry_of m k y ≡ t →
+    both : (value_in xs m k ≡ value_in ys m k → entries_of m k ys ≤ 1 → ArePart (with_entry xs m k its_delegate v) (with_entry ys m k its_delegate v)) → ArePart xs ys → (t : Bool) → is_entry_of m k y ≡ t →
         elim t as (λ _. Option Name) [ true ↦ Some y.value | false ↦ value_in xs m k ] ≡ elim t [ true ↦ Some y.value | false ↦ value_in ys m k ] →
-        ArePart (elim t as (λ _. List Entry) [ true ↦ entry m k v ∷ xs | false ↦ y ∷ with_entry xs m k v ]) (elim t [ true ↦ entry m k v ∷ ys | false ↦ y ∷ with_entry ys m k v ])
+        ArePart (elim t as (λ _. List Entry) [ true ↦ entry m k its_delegate v ∷ xs | false ↦ y ∷ with_entry xs m k its_delegate v ]) (elim t [ true ↦ entry m k its_delegate v ∷ ys | false ↦ y ∷ with_entry ys m k its_delegate v ])
     both ih p true t f = inl (refl, p)
     both ih p false t f = inl (refl, ih f (omega (arith, before)))
 
-    skip : (value_in (x ∷ xs) m k ≡ value_in ys m k → entries_of m k ys ≤ 1 → ArePart (with_entry (x ∷ xs) m k v) (with_entry ys m k v)) → ArePart (x ∷ xs) ys →
+    skip : (value_in (x ∷ xs) m k ≡ value_in ys m k → entries_of m k ys ≤ 1 → ArePart (with_entry (x ∷ xs) m k its_delegate v) (with_entry ys m k its_delegate v)) → ArePart (x ∷ xs) ys →
         (t : Bool) → is_entry_of m k y ≡ t → value_in (x ∷ xs) m k ≡ elim t [ true ↦ Some y.value | false ↦ value_in ys m k ] →
-        ArePart (with_entry (x ∷ xs) m k v) (elim t [ true ↦ entry m k v ∷ ys | false ↦ y ∷ with_entry ys m k v ])
+        ArePart (with_entry (x ∷ xs) m k its_delegate v) (elim t [ true ↦ entry m k its_delegate v ∷ ys | false ↦ y ∷ with_entry ys m k its_delegate v ])
     skip ih p true t f =
         let here : entries_of m k (y ∷ ys) ≡ 1 + entries_of m k ys = before ∙ ap (λ b. cond b 1 0 + entries_of m k ys) t in
         let d = found-among (x ∷ xs) m k y.value f in
         let there : Among d.0 ys = ArePart-among (x ∷ xs) ys d.0 p d.1 in
         let is_it : is_entry_of m k d.0 ≡ true = is_entry_of-from m k d.0 d.2 d.3 in
         absurd (omega (arith, count_by-some (is_entry_of m k) d.0 ys there is_it))
-    skip ih p false t f = ArePart-skip (with_entry (x ∷ xs) m k v) y (with_entry ys m k v) (ih f (omega (arith, before)))
+    skip ih p false t f = ArePart-skip (with_entry (x ∷ xs) m k its_delegate v) y (with_entry ys m k its_delegate v) (ih f (omega (arith, before)))
 
 -- Entries
 
 -- an entry set in both lists leaves them alike
-pub AreEntries-set : (P : Name → Type 0) (es fs : List Entry) (m k v : Name) → P m → P k → entries_of m k fs ≤ 1 → AreEntries P es fs →
-    AreEntries P (with_entry es m k v) (with_entry fs m k v)
-AreEntries-set P es fs m k v p q few a = grind (arith, value_in-set, ArePart-set)
+pub AreEntries-set : (P : Name → Type 0) (es fs : List Entry) (m k : Name) (its_delegate : Option Name) (v : Name) → P m → P k → entries_of m k fs ≤ 1 → AreEntries P es fs →
+    AreEntries P (with_entry es m k its_delegate v) (with_entry fs m k its_delegate v)
+AreEntries-set P es fs m k its_delegate v p q few a = grind (arith, value_in-set, ArePart-set)
 
 -- and so does one taken out of both
 pub AreEntries-without : (P : Name → Type 0) (es fs : List Entry) (m k : Name) → AreEntries P es fs → AreEntries P (without_entry es m k) (without_entry fs m k)
@@ -111,7 +111,7 @@ AreEntries-without P es fs m k a = grind (arith, value_in-without, ArePart-filte
 
 -- ENTRIES CHANGED ALIKE: what they have for values is what `P` holds of, and a key that is new is no reflector that is not preserved.
 pub Follows-entries : (P : Name → Type 0) (h : Heap) (g : Graph) (es fs : List Entry) → AreEntries P es fs →
-    ((e : Entry) → Among e fs → Among e g.entries ⊎ (P e.value × IsPreserved g e.key)) →
+    ((e : Entry) → Among e fs → Among e g.entries ⊎ (P e.value × P e.key × IsPreserved g e.key)) →
     Follows P h g → Follows P (record h { entries = es }) (with_entries g fs)
 Follows-entries P h g es fs a new t = record {
   beside = record {
@@ -130,14 +130,16 @@ Follows-entries P h g es fs a new t = record {
         before.0,
         λ e i named. ⊎_elim
             (λ old. before.1 e old named)
-            (λ c. true≢false (sym (c.1 j s named x) ∙ p))
+            (λ c. true≢false (sym (c.2 j s named x) ∙ p))
             (new e i),
+        λ z v f. before.2 z v (sym (same z) ∙ f),
       );
   closed = record {
     native_registers = t.closed.native_registers;
     script_registers = t.closed.script_registers;
     edges = λ x y s p q. t.closed.edges x y s p (sym (same x) ∙ q);
     entries = λ e i p q. ⊎_elim (λ old. t.closed.entries e old p q) (λ c. c.0) (new e i);
+    keys = λ e d i r p q. ⊎_elim (λ old. t.closed.keys e d old r p q) (λ c. c.1) (new e i);
   };
 }
   where

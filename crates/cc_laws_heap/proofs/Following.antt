@@ -1,6 +1,6 @@
 -- HEAPS THAT FOLLOW A GRAPH, but that what is reached may be missing from them. Where they are well formed it is there,
 -- so that they stand for the graph.
-use Rattle.std.proofs.Common.{arith, ◌≡◌, ℕ, false, List, length, Some, option_map, sym, ◌∙◌, ap, subst, inl, inr, ◌⊎◌, ⊎_elim}
+use Rattle.std.proofs.Common.{arith, ◌≡◌, ℕ, false, List, length, Some, None, option_map, sym, ◌∙◌, ap, subst, inl, inr, ◌⊎◌, ⊎_elim}
 use Rattle.std.specs.Prelude.{IsTrue}
 use Rattle.cc_lists.specs.Members.{Among}
 use Rattle.cc_names.specs.declared.name.Name.{Name}
@@ -9,13 +9,13 @@ use Rattle.cc_names.specs.Names.{native, reflector, is_script}
 use Rattle.cc_model.specs.Slots.{Slots, contents, empty_slots, reflector_slots}
 use Rattle.cc_model.specs.Entries.{Entry, value_in}
 use Rattle.cc_model.specs.Graph.{Graph, GraphNative, native_in}
-use Rattle.cc_model.specs.Reached.{Reached, held, edge, value}
+use Rattle.cc_model.specs.Reached.{Reached, held, edge, value, key}
 use Rattle.cc_model.specs.Heap.{Heap, HeapNative, HeapScript}
 use Rattle.cc_model.specs.WellFormed.{IsWellFormed}
 use Rattle.cc_model.specs.StandsFor.{Shape, shape_in, shape_of_native, shape_of_held_native, shape_of_held_script, script_shape, ArePart, IsEmptied, NativeStands, IsNoKey, StandsFor}
 use Rattle.cc_laws_heap.proofs.ScriptNames.{script-named}
 use Rattle.cc_laws_heap.proofs.Holds.{contents-place}
-use Rattle.cc_laws_heap.proofs.Shapes.{edges_of_shape}
+use Rattle.cc_laws_heap.proofs.Shapes.{edges_of_shape, IsOfNone, no_delegate-of_none}
 use Rattle.cc_laws_heap.proofs.HeapShapes.{shape_at-native}
 use Rattle.cc_laws_heap.proofs.ReachedAlike.{edges_of-made}
 
@@ -25,6 +25,7 @@ pub record IsClosed (P : Name → Type 0) (g : Graph) : Type 0 where
   pub script_registers : (x : Name) → Among x (contents g.script_registers) → P x
   pub edges : (x y : Name) (s : Shape) → P x → shape_in g x ≡ Some s → Among y (edges_of_shape x s) → P y
   pub entries : (e : Entry) → Among e g.entries → P e.the_map → P e.key → P e.value
+  pub keys : (e : Entry) (d : Name) → Among e g.entries → e.delegate ≡ Some d → P e.the_map → P d → P e.key
 
 -- registers, limits and numbers made agree
 pub record AgreesBeside (h : Heap) (g : Graph) : Type 0 where
@@ -50,10 +51,10 @@ pub record AreEntries (P : Name → Type 0) (es fs : List Entry) : Type 0 where
   pub values : (m k : Name) → P m → P k → value_in es m k ≡ value_in fs m k
   pub part : ArePart es fs
 
--- a reflector that is not preserved is blank
+-- a reflector that is not preserved is blank, and is no delegate
 abbrev pub IsBlank : Graph → Type 0
 IsBlank g = (k : ℕ) (s t : Shape) → shape_in g (native k) ≡ Some s → s.preserved ≡ false → shape_in g (reflector k) ≡ Some t →
-    (t.slots ≡ Some (empty_slots reflector_slots)) × IsNoKey g (reflector k)
+    (t.slots ≡ Some (empty_slots reflector_slots)) × IsNoKey g (reflector k) × IsOfNone g (reflector k)
 
 -- HEAPS THAT FOLLOW A GRAPH, as far as `P` goes
 pub record Follows (P : Name → Type 0) (h : Heap) (g : Graph) : Type 0 where
@@ -71,7 +72,7 @@ shape_in-native g k s = grind arith
 
 -- what has a reflector's name and a shape is that of a native
 pub shape_in-reflector : (g : Graph) (k : ℕ) (t : Shape) → shape_in g (reflector k) ≡ Some t →
-    (n : GraphNative) × (slots : Slots) × (native_in g k ≡ Some n) × (n.reflector ≡ Some slots) × (script_shape (Some slots) ≡ t)
+    (n : GraphNative) × (slots : Slots) × (native_in g k ≡ Some n) × (n.reflector ≡ Some slots) × (script_shape (Some slots) None ≡ t)
 shape_in-reflector g k t = grind arith
 
 -- From standing to following
@@ -84,6 +85,7 @@ module _ (h : Heap) (g : Graph) (w : IsWellFormed h) (s : StandsFor h g) where
     script_registers = λ x m. let k = contents-place g.script_registers x m in held (S k.0) x k.1;
     edges = λ x y t d e m. edge x y d (subst (Among y) (sym (edges_of-made g x t e)) m);
     entries = λ e m a b. value e m a b;
+    keys = λ e d m q a b. key e d m q a b;
   }
 
   -- a native that stands in the graph follows it
@@ -116,6 +118,6 @@ module _ (h : Heap) (g : Graph) (w : IsWellFormed h) (s : StandsFor h g) where
         let one : Some r.0 ≡ Some n.0 = sym r.2 ∙ n.1 in
         let same : r.0 ≡ n.0 = cc in
         let c = s.blank k n.0 r.1 n.1 (ap (λ (t : Shape). t.preserved) n.2 ∙ p) (sym (ap (λ (m : GraphNative). m.reflector) same) ∙ r.3) in
-        (sym (ap (λ (t : Shape). t.slots) r.4) ∙ ap (λ l. Some l) c.0, c.1);
+        (sym (ap (λ (t : Shape). t.slots) r.4) ∙ ap (λ l. Some l) c.0, c.1, no_delegate-of_none g (reflector k) c.2);
     closed = reached-closed;
   }

@@ -53,7 +53,7 @@ module _ (g : Graph) (w : IsWellMade g) where
   native_slot-well _ i x t m = absurd (false≢true t)
 
   -- a reflector preserved
-  preserve-well : (o : Option Name) → OfSome (Made g) o → IsWellMade (preserve g o)
+  pub preserve-well : (o : Option Name) → OfSome (Made g) o → IsWellMade (preserve g o)
   preserve-well (Some (name.Reflector k)) t = IsWellMade-change_native g k.0 as_preserved (λ n r. r) w (KeepsNative-preserved g k.0 t)
   preserve-well _ t = w
 

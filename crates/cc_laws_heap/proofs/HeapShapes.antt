@@ -1,25 +1,25 @@
 -- THE SHAPES OF WHAT IS IN THE HEAPS: each object is found under its name, and its edges are those of the flat view.
-use Rattle.std.proofs.Common.{arith, ◌≡◌, map, Some, option_map, refl, sym, ◌∙◌, ap, subst, ◌⊎◌, ⊎_elim}
+use Rattle.std.proofs.Common.{arith, ◌≡◌, ◌++◌, map, Option, Some, option_map, refl, sym, ◌∙◌, ap, subst, ◌⊎◌, ⊎_elim}
+use Rattle.std.specs.Option.{option_to_list}
 use Rattle.std.specs.List.{flat_map}
 use Rattle.cc_lists.specs.Members.{Among}
 use Rattle.cc_lists.proofs.Members.{Among-map, Among-map_cases, Among-left, Among-right, Among-append, Among-flat_map, Among-flat_map_cases}
 use Rattle.cc_names.specs.declared.name.Name.{Name}
-use Rattle.cc_names.specs.declared.name.Name.TheVariants as name
+use Rattle.cc_names.specs.declared.kind.Kind.{Kind}
 use Rattle.cc_names.specs.Names.{native, same_name}
 use Rattle.cc_names.proofs.NameTests.{same_name-true, same_name-refl}
-use Rattle.cc_names.specs.declared.kind.Kind.{Kind}
-use Rattle.cc_model.specs.Slots.{from_to, Slots, contents}
-use Rattle.cc_model.specs.Heap.{Heap, HeapNative, HeapScript, script_at, slots_of_kind}
+use Rattle.cc_model.specs.Slots.{Slots, contents, from_to}
+use Rattle.cc_model.specs.Checks.{native_of}
+use Rattle.cc_model.specs.Heap.{Heap, HeapNative, HeapScript, slots_of_kind, script_at}
 use Rattle.cc_model.specs.View.{view, native_edges, script_edges}
 use Rattle.cc_model.proofs.Places.{contents-last}
 use Rattle.cc_model.specs.WellFormed.{IsWellFormed, FitsName, native_names, script_names, names_there}
-use Rattle.cc_model.specs.StandsFor.{Shape, shape_at, shape_of_held_native, shape_of_held_script, script_shape}
-use Rattle.cc_model.specs.Places.{places_of_named}
+use Rattle.cc_model.specs.StandsFor.{Shape, script_shape, shape_at, shape_of_held_native, shape_of_held_script}
 use Rattle.cc_lists.proofs.Filtering.{find-among, find-passes}
 use Rattle.cc_lists.proofs.Searching.{find-only}
 use Rattle.cc_laws_heap.proofs.ScriptNames.{scripts-once, script_at-member}
 use Rattle.cc_laws_heap.proofs.Natives.{native_at-there, native_at-number, native_at-member, IsWellFormed-distinct}
-use Rattle.cc_laws_heap.proofs.Shapes.{edges_of_shape}
+use Rattle.cc_laws_heap.proofs.Shapes.{edges_of_shape, contents-script}
 
 -- Objects under their names
 
@@ -66,25 +66,11 @@ native_edges-shape n = grind (arith, contents-last)
 
 -- and so are those of a script object
 script_edges-shape : (o : HeapScript) → FitsName o.name o.kind o.slots → script_edges o ≡ map (from_to o.name) (edges_of_shape o.name (shape_of_held_script o))
-script_edges-shape o fits = ap (map (from_to o.name)) (by_name o.name o.kind o.slots fits)
+script_edges-shape o fits = ap (map (from_to o.name)) (contents-script o.slots o.delegate (native_of (Some o.name)) ∙ by_name o.name o.kind o.slots o.delegate fits)
   where
-    -- the places of a script object hold what its shape leads to
-    by_name : (x : Name) (kind : Kind) (slots : Slots) → FitsName x kind slots →
-        contents (places_of_named x slots o.delegate) ≡ edges_of_shape x (script_shape (slots_of_kind kind slots) o.delegate)
-    by_name (name.Native k) kind slots f = absurd f
-    by_name (name.Script k) kind slots f = contents-last (script_places slots o.delegate) None
-        ∙ (append-nil (contents (script_places slots o.delegate)) ∙ (contents-last slots o.delegate ∙ ap (λ xs. xs ++ option_to_list o.delegate) (by_kind kind slots f)))
-      where
-        by_kind : (q : Kind) (ss : Slots) → FitsName (name.Script k) q ss → contents ss ≡ contents (slots_or_none (slots_of_kind q ss))
-        by_kind Plain ss t = refl
-        by_kind Map ss t = ap contents t
-        by_kind Proxy ss t = refl
-        by_kind Reflector ss t = absurd t
-    by_name (name.Reflector k) Reflector slots f = contents-last (script_places slots o.delegate) (Some (native k.0))
-        ∙ (ap (λ xs. xs ++ native k.0 ∷ []) (contents-last slots o.delegate) ∙ append_assoc (contents slots) (option_to_list o.delegate) (native k.0 ∷ []))
-    by_name (name.Reflector k) Plain slots f = absurd f
-    by_name (name.Reflector k) Map slots f = absurd f
-    by_name (name.Reflector k) Proxy slots f = absurd f
+    by_name : (x : Name) (kind : Kind) (slots : Slots) (d : Option Name) → FitsName x kind slots →
+        contents slots ++ (option_to_list d ++ option_to_list (native_of (Some x))) ≡ edges_of_shape x (script_shape (slots_of_kind kind slots) d)
+    by_name x kind slots d f = grind arith
 
 -- AN EDGE OF THE FLAT VIEW is one of an object that is there.
 pub edge-held : (h : Heap) → IsWellFormed h → (x y : Name) → Among (x, y) (view h).edges → (s : Shape) × (shape_at h x ≡ Some s) × Among y (edges_of_shape x s)

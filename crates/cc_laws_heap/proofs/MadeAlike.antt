@@ -1,5 +1,5 @@
 -- AN OBJECT MADE ALIKE in heaps and in the graph that they follow: it holds nothing, and no entry is of it.
-use Rattle.std.proofs.Common.{arith, ◌≡◌, ◌≢◌, ℕ, List, Some, None, option_map, sym, ◌∙◌, ap, subst, inl, inr, ◌⊎◌, ⊎_elim}
+use Rattle.std.proofs.Common.{arith, ◌≡◌, ◌≢◌, ℕ, true, false, List, Some, None, option_map, sym, ◌∙◌, ap, subst, inl, inr, ◌⊎◌, ⊎_elim}
 use Rattle.std.specs.Prelude.{IsTrue}
 use Rattle.std.proofs.lemmas.Bool.{true≢false, false≢true, cases_Bool}
 use Rattle.cc_lists.specs.Members.{Among}
@@ -12,7 +12,7 @@ use Rattle.cc_model.specs.Graph.{Graph}
 use Rattle.cc_model.specs.Heap.{Heap, HeapNative, HeapScript}
 use Rattle.cc_model.specs.StandsFor.{Shape, shape_in, shape_of_native, shape_of_held_native, shape_of_held_script}
 use Rattle.cc_laws_heap.proofs.EntryLists.{found-among}
-use Rattle.cc_laws_heap.proofs.Shapes.{edges_of_shape}
+use Rattle.cc_laws_heap.proofs.Shapes.{edges_of_shape, IsOfNone}
 use Rattle.cc_laws_heap.proofs.ReachedAlike.{ArePart-among}
 use Rattle.cc_laws_heap.proofs.Following.{AgreesBeside, AreObjects, AreEntries, IsBlank, Follows, shape_in-reflector}
 
@@ -24,8 +24,11 @@ pub record IsMade (P : Name → Type 0) (h k : Heap) (g e : Graph) (x : Name) (s
   pub made : shape_in e x ≡ Some s
   pub before : (t : Shape) → shape_in g x ≡ Some t → (t ≡ s) × IsTrue (is_script x)
   pub targets : (y : Name) → Among y (edges_of_shape x s) → P y
-  pub no_entry : (d : Entry) → Among d g.entries → (d.the_map ≢ x) × (d.key ≢ x)
+  pub no_entry : (d : Entry) → Among d g.entries → (d.the_map ≢ x) × (d.key ≢ x) × (d.delegate ≢ Some x)
+  pub no_delegate : IsOfNone g x
   pub blank : (j : ℕ) → x ≡ reflector j → s.slots ≡ Some (empty_slots reflector_slots)
+  -- where it has a reflector for a delegate, that is preserved
+  pub delegate : (j : ℕ) (a : Shape) → s.delegate ≡ Some (reflector j) → shape_in g (native j) ≡ Some a → a.preserved ≡ true
   -- nothing else changes
   pub beside : AgreesBeside k e
   pub heap_entries : k.entries ≡ h.entries
@@ -96,8 +99,12 @@ module _ (P : Name → Type 0) (h k : Heap) (g e : Graph) (x : Name) (s : Shape)
   blank-made : IsBlank e
   blank-made j a b i p f = ⊎_elim
       (λ old. ⊎_elim
-      (λ q. let r = t.blank j a b old p q in (r.0, λ d m. r.1 d (subst (Among d) c.graph_entries m)))
-      (λ q. (ap (λ (v : Shape). v.slots) q.1 ∙ c.blank j (sym q.0), λ d m n. (c.no_entry d (subst (Among d) c.graph_entries m)).1 (n ∙ q.0)))
+      (λ q. let r = t.blank j a b old p q in (r.0, (λ d m. r.1 d (subst (Among d) c.graph_entries m)), no_delegate j a old p r.2))
+      (λ q. (
+        ap (λ (v : Shape). v.slots) q.1 ∙ c.blank j (sym q.0),
+        (λ d m n. (c.no_entry d (subst (Among d) c.graph_entries m)).1 (n ∙ q.0)),
+        no_delegate j a old p (subst (IsOfNone g) (sym q.0) c.no_delegate),
+      ))
       (had (reflector j) b f))
       (λ new. ⊎_elim
       (λ q.
@@ -110,6 +117,12 @@ module _ (P : Name → Type 0) (h k : Heap) (g e : Graph) (x : Name) (s : Shape)
     where
       apart : native j ≡ reflector j → ⊥
       apart q = cc
+
+      no_delegate : (j : ℕ) (a : Shape) → shape_in g (native j) ≡ Some a → a.preserved ≡ false → IsOfNone g (reflector j) → IsOfNone e (reflector j)
+      no_delegate j a i p none z r f q = ⊎_elim
+          (λ l. none z r l q)
+          (λ l. absurd (true≢false (sym (c.delegate j a (ap (λ (v : Shape). v.delegate) (sym l.1) ∙ q) i) ∙ p)))
+          (had z r f)
 
   -- AN OBJECT MADE ALIKE.
   pub Follows-made : Follows (λ z. P z ⊎ (x ≡ z)) k e
@@ -133,6 +146,11 @@ module _ (P : Name → Type 0) (h k : Heap) (g e : Graph) (x : Name) (s : Shape)
           let there : Among d g.entries = subst (Among d) c.graph_entries i in
           ⊎_elim
           (λ a. ⊎_elim (λ b. inl (t.closed.entries d there a b)) (λ b. absurd ((c.no_entry d there).1 (sym b))) q)
+          (λ a. absurd ((c.no_entry d there).0 (sym a))) p;
+      keys = λ d y i r p q.
+          let there : Among d g.entries = subst (Among d) c.graph_entries i in
+          ⊎_elim
+          (λ a. ⊎_elim (λ b. inl (t.closed.keys d y there r a b)) (λ b. absurd ((c.no_entry d there).2 (r ∙ ap (λ z. Some z) (sym b)))) q)
           (λ a. absurd ((c.no_entry d there).0 (sym a))) p;
     };
   }

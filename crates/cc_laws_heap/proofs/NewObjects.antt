@@ -1,5 +1,5 @@
 -- NATIVES AND SCRIPT OBJECTS MADE ALIKE in heaps and in the graph that they follow.
-use Rattle.std.proofs.Common.{◌≡◌, ◌≢◌, ℕ, ◌+◌, false, List, [], ◌∷◌, ◌++◌, length, Some, None, is_some, option_map, refl, sym, ◌∙◌, ap, subst, inl, inr, ◌⊎◌, ⊎_elim, arith, length-append}
+use Rattle.std.proofs.Common.{◌≡◌, ◌≢◌, ℕ, ◌+◌, false, List, [], ◌∷◌, ◌++◌, length, Option, Some, None, is_some, option_map, refl, sym, ◌∙◌, ap, subst, inl, inr, ◌⊎◌, ⊎_elim, arith, length-append}
 use Rattle.std.specs.Prelude.{IsTrue}
 use Rattle.std.specs.Option.{option_and_then}
 use Rattle.std.proofs.lemmas.Bool.{true≢false}
@@ -9,29 +9,49 @@ use Rattle.cc_lists.proofs.Members.{Among-append}
 use Rattle.cc_names.specs.declared.name.Name.{Name}
 use Rattle.cc_names.specs.declared.name.Name.TheVariants as name
 use Rattle.cc_names.specs.declared.kind.Kind.{Kind}
-use Rattle.cc_names.specs.declared.kind.Kind.TheVariants.{Plain, Map}
+use Rattle.cc_names.specs.declared.kind.Kind.TheVariants.{Plain, Map, Proxy}
 use Rattle.cc_names.specs.Names.{native, object, reflector}
 use Rattle.cc_model.specs.Slots.{contents, empty_slots}
 use Rattle.cc_model.specs.Entries.{Entry}
 use Rattle.cc_model.specs.Graph as graph
-use Rattle.cc_model.specs.Graph.{Graph, GraphNative, GraphScript, plain_object, weak_map, native_in, script_in}
-use Rattle.cc_model.specs.WellMade.{IsWellMade, was_made}
+use Rattle.cc_model.specs.Graph.{Graph, GraphNative, GraphScript, plain_object, weak_map, proxy, native_in, script_in, delegate_in, delegate_of_script}
+use Rattle.cc_model.specs.WellMade.{IsWellMade, was_made, is_made_script}
 use Rattle.cc_model.specs.Heap.{Heap, HeapNative, HeapScript, slots_of_kind}
 use Rattle.cc_model.specs.Effects as effects
 use Rattle.cc_model.specs.StandsFor.{shape_in, shape_of_native, shape_of_object, shape_of_reflector, shape_of_held_native, shape_of_held_script, native_shape, script_shape}
 use Rattle.cc_laws_heap.proofs.Numbered.{numbered-next, numbered-push, numbered-push_other}
-use Rattle.cc_laws_heap.proofs.Shapes.{edges_of_shape}
+use Rattle.cc_laws_heap.proofs.Shapes.{edges_of_shape, IsOfNone, proxy-found}
 use Rattle.cc_laws_heap.proofs.GraphReads.{MadeScript-made}
 use Rattle.cc_laws_heap.proofs.Following.{AgreesBeside, Follows}
+use Rattle.cc_laws_heap.proofs.SlotsWritten.{IsPreserved}
 use Rattle.cc_laws_heap.proofs.MadeAlike.{IsMade, Follows-made}
 use Rattle.cc_laws_heap.proofs.Making.{contents-empty_none}
 
+-- a delegate was made
+delegate-made : (g : Graph) → IsWellMade g → (z x : Name) → delegate_in g z ≡ Some x → IsTrue (is_made_script g x)
+delegate-made g w (name.Native k) x e = absurd (cc)
+delegate-made g w (name.Script k) x e = go (script_in g k.0) refl e
+  where
+    go : (o : Option GraphScript) → script_in g k.0 ≡ o → option_and_then delegate_of_script o ≡ Some x → IsTrue (is_made_script g x)
+    go None i q = absurd (cc)
+    go (Some (plain_object slots)) i q = absurd (cc)
+    go (Some weak_map) i q = absurd (cc)
+    go (Some (proxy d)) i q = let same : d ≡ x = cc in subst (λ y. IsTrue (is_made_script g y)) same (w.delegates k.0 d i)
+delegate-made g w (name.Reflector k) x e = absurd (cc)
+
+-- what was never made is no delegate
+pub unmade-no_delegate : (g : Graph) → IsWellMade g → (x : Name) → ¬ (IsTrue (was_made g x)) → IsOfNone g x
+unmade-no_delegate g w x none z s e q =
+    let f = proxy-found g z s x e q in
+    none (MadeScript-made g x (w.delegates f.0 x f.2))
+
 -- what was never made has no entry
-pub unmade-no_entry : (g : Graph) → IsWellMade g → (x : Name) → ¬ (IsTrue (was_made g x)) → (d : Entry) → Among d g.entries → (d.the_map ≢ x) × (d.key ≢ x)
+pub unmade-no_entry : (g : Graph) → IsWellMade g → (x : Name) → ¬ (IsTrue (was_made g x)) → (d : Entry) → Among d g.entries → (d.the_map ≢ x) × (d.key ≢ x) × (d.delegate ≢ Some x)
 unmade-no_entry g w x none d i =
     let e = w.entries d i in (
       λ q. none (subst (λ z. IsTrue (was_made g z)) (sym e.the_map.1 ∙ q) (ap is_some e.the_map.2)),
       λ q. none (subst (λ z. IsTrue (was_made g z)) q (MadeScript-made g d.key e.key)),
+      λ q. none (MadeScript-made g x (delegate-made g w d.key x (sym e.delegate ∙ q))),
     )
 
 -- what stands last in a list, or before
@@ -58,8 +78,10 @@ IsMade-native P h g n w b = record {
   made = ap (option_map shape_of_native) (numbered-push g.natives (new_native n));
   before = λ t i. let none : None ≡ Some t = sym (ap (option_map shape_of_native) (numbered-next g.natives)) ∙ i in absurd (cc);
   targets = λ y i. ⊎_elim (λ l. absurd (contents-empty_none n y l)) (λ r. absurd r) (Among-append y (contents (empty_slots n)) [] i);
-  no_entry = unmade-no_entry g w (next_native g) (λ m. true≢false (sym m ∙ ap is_some (numbered-next g.natives)));
+  no_entry = unmade-no_entry g w (next_native g) unmade;
+  no_delegate = unmade-no_delegate g w (next_native g) unmade;
   blank = λ j e. absurd (apart e);
+  delegate = λ j a q. absurd (cc);
   beside = record {
     native_registers = b.native_registers;
     script_registers = b.script_registers;
@@ -73,6 +95,9 @@ IsMade-native P h g n w b = record {
   script_registers = refl;
 }
   where
+    unmade : ¬ (IsTrue (was_made g (next_native g)))
+    unmade m = true≢false (sym m ∙ ap is_some (numbered-next g.natives))
+
     number : native (h.natives_made + 1) ≡ next_native g
     number = ap (λ k. native (k + 1)) b.natives_made
 
@@ -104,10 +129,11 @@ abbrev pub next_object : Graph → Name
 next_object g = object (length g.scripts + 1)
 
 -- a script object made is an object made
-IsMade-script : (P : Name → Type 0) (h : Heap) (g : Graph) (kind : Kind) (n : ℕ) (o : GraphScript) → script_shape (slots_of_kind kind (empty_slots n)) ≡ shape_of_object o →
-    ((y : Name) → ¬ (Among y (edges_of_shape (next_object g) (shape_of_object o)))) → IsWellMade g → AgreesBeside h g →
-    IsMade P h (effects.with_object h kind n) g (graph.with_script g o) (next_object g) (shape_of_object o)
-IsMade-script P h g kind n o same empty w b = record {
+IsMade-script : (P : Name → Type 0) (h : Heap) (g : Graph) (kind : Kind) (n : ℕ) (o : GraphScript) →
+    script_shape (slots_of_kind kind (empty_slots n)) (delegate_of_script o) ≡ shape_of_object o →
+    ((y : Name) → Among y (edges_of_shape (next_object g) (shape_of_object o)) → P y) → ((x : Name) → delegate_of_script o ≡ Some x → IsPreserved g x) →
+    IsWellMade g → AgreesBeside h g → IsMade P h (effects.with_object h kind n (delegate_of_script o)) g (graph.with_script g o) (next_object g) (shape_of_object o)
+IsMade-script P h g kind n o same targets preserved w b = record {
   natives = λ m i. inl i;
   scripts = λ p i. ⊎_elim (λ l. inl l)
       (λ e. inr (ap (λ (q : HeapScript). q.name) (sym e) ∙ number, ap shape_of_held_script (sym e) ∙ same, refl))
@@ -115,9 +141,11 @@ IsMade-script P h g kind n o same empty w b = record {
   others = others;
   made = ap (option_map shape_of_object) (numbered-push g.scripts o);
   before = λ t i. let none : None ≡ Some t = sym (ap (option_map shape_of_object) (numbered-next g.scripts)) ∙ i in absurd (cc);
-  targets = λ y i. absurd (empty y i);
-  no_entry = unmade-no_entry g w (next_object g) (λ m. true≢false (sym m ∙ ap is_some (numbered-next g.scripts)));
+  targets = targets;
+  no_entry = unmade-no_entry g w (next_object g) unmade;
+  no_delegate = unmade-no_delegate g w (next_object g) unmade;
   blank = λ j e. absurd (apart e);
+  delegate = λ j a q i. preserved (reflector j) q j a refl i;
   beside = record {
     native_registers = b.native_registers;
     script_registers = b.script_registers;
@@ -131,6 +159,9 @@ IsMade-script P h g kind n o same empty w b = record {
   script_registers = refl;
 }
   where
+    unmade : ¬ (IsTrue (was_made g (next_object g)))
+    unmade m = true≢false (sym m ∙ ap is_some (numbered-next g.scripts))
+
     number : object (h.scripts_made + 1) ≡ next_object g
     number = ap (λ k. object (k + 1)) b.scripts_made
 
@@ -140,15 +171,22 @@ IsMade-script P h g kind n o same empty w b = record {
     others : (z : Name) → z ≢ next_object g → shape_in (graph.with_script g o) z ≡ shape_in g z
     others z d = grind (arith, numbered-push_other)
 
--- A PLAIN OBJECT MADE, and a weak map.
+-- A PLAIN OBJECT MADE,
 pub Follows-plain : (P : Name → Type 0) (h : Heap) (g : Graph) (n : ℕ) → IsWellMade g → Follows P h g →
-    Follows (λ z. P z ⊎ (next_object g ≡ z)) (effects.with_object h Plain n) (graph.with_script g (plain_object (empty_slots n)))
-Follows-plain P h g n w t = Follows-made P h (effects.with_object h Plain n) g (graph.with_script g (plain_object (empty_slots n))) (next_object g) (script_shape (Some (empty_slots n)))
+    Follows (λ z. P z ⊎ (next_object g ≡ z)) (effects.with_object h Plain n None) (graph.with_script g (plain_object (empty_slots n)))
+Follows-plain P h g n w t = Follows-made P h (effects.with_object h Plain n None) g (graph.with_script g (plain_object (empty_slots n))) (next_object g) (script_shape (Some (empty_slots n)) None)
     (IsMade-script P h g Plain n (plain_object (empty_slots n)) refl
-    (λ y i. ⊎_elim (λ l. contents-empty_none n y l) (λ r. r) (Among-append y (contents (empty_slots n)) [] i)) w t.beside) t
+    (λ y i. ⊎_elim (λ l. absurd (contents-empty_none n y l)) (λ r. absurd r) (Among-append y (contents (empty_slots n)) [] i)) (λ x e. absurd (cc)) w t.beside) t
 
--- A WEAK MAP MADE.
+-- a weak map made,
 pub Follows-map : (P : Name → Type 0) (h : Heap) (g : Graph) → IsWellMade g → Follows P h g →
-    Follows (λ z. P z ⊎ (next_object g ≡ z)) (effects.with_object h Map 0) (graph.with_script g weak_map)
-Follows-map P h g w t = Follows-made P h (effects.with_object h Map 0) g (graph.with_script g weak_map) (next_object g) (script_shape None)
-    (IsMade-script P h g Map 0 weak_map refl (λ y i. i) w t.beside) t
+    Follows (λ z. P z ⊎ (next_object g ≡ z)) (effects.with_object h Map 0 None) (graph.with_script g weak_map)
+Follows-map P h g w t = Follows-made P h (effects.with_object h Map 0 None) g (graph.with_script g weak_map) (next_object g) (script_shape None None)
+    (IsMade-script P h g Map 0 weak_map refl (λ y i. absurd i) (λ x e. absurd (cc)) w t.beside) t
+
+-- and a proxy made of what `P` holds of, which is preserved where it is a reflector.
+pub Follows-proxy : (P : Name → Type 0) (h : Heap) (g : Graph) (x : Name) → P x → IsPreserved g x → IsWellMade g → Follows P h g →
+    Follows (λ z. P z ⊎ (next_object g ≡ z)) (effects.with_object h Proxy 0 (Some x)) (graph.with_script g (proxy x))
+Follows-proxy P h g x p kept w t = Follows-made P h (effects.with_object h Proxy 0 (Some x)) g (graph.with_script g (proxy x)) (next_object g) (script_shape (Some []) (Some x))
+    (IsMade-script P h g Proxy 0 (proxy x) refl (λ y i. ⊎_elim (λ e. subst P e p) (λ n. absurd n) i)
+    (λ y e. let same : x ≡ y = cc in subst (IsPreserved g) same kept) w t.beside) t

@@ -2,14 +2,15 @@
 use Rattle.std.proofs.Common.{arith, ◌≡◌, List, [], ◌∷◌, Some, refl, sym, ◌∙◌, ap, subst, inl, inr, ⊎_elim}
 use Rattle.cc_lists.specs.Members.{Among}
 use Rattle.cc_lists.proofs.Members.{Among-map, Among-map_cases, Among-left, Among-right, Among-append}
-use Rattle.cc_lists.proofs.Least.{derive-root, derive-along, derive-jointly, derived-within}
+use Rattle.cc_lists.proofs.Least.{derive-root, derive-along}
 use Rattle.cc_names.specs.declared.name.Name.{Name}
 use Rattle.cc_names.specs.declared.register.Reg.{Reg}
 use Rattle.cc_names.specs.declared.register.Reg.TheVariants.{N, S}
 use Rattle.cc_model.specs.Slots.{Slots, contents}
-use Rattle.cc_model.specs.Entries.{Entry, joint, joints, rules_of}
-use Rattle.cc_model.specs.Graph.{Graph, register}
-use Rattle.cc_model.specs.Reached.{Reached, held, edge, value, edges_of}
+use Rattle.cc_model.specs.Entries.{Entry, Joint, joint, joints, rules_of}
+use Rattle.cc_model.proofs.Joints.{Gives, its_value, its_key, value-joint, delegate-joint, joint-cases, derive-joint, derived-by_joints}
+use Rattle.cc_model.specs.Graph.{Graph, register, delegate_in}
+use Rattle.cc_model.specs.Reached.{Reached, held, edge, value, key, edges_of}
 use Rattle.cc_model.specs.WellMade.{IsWellMade}
 use Rattle.cc_model.specs.Heap.{Heap}
 use Rattle.cc_model.specs.View.{view, ReachedIn}
@@ -50,6 +51,15 @@ pub reached-there : (h : Heap) (g : Graph) (x : Name) → StandsFor h g → Reac
 reached-there h g x s d = let k = s.reached x d in shape_at-there h x k.shape k.there
 
 module _ (h : Heap) (g : Graph) (w : IsWellFormed h) (m : IsWellMade g) (s : StandsFor h g) where
+  -- the entry of a reached map and a reached key is there
+  here : (e : Entry) → Among e g.entries → Reached g e.the_map → Reached g e.key →
+      (f : Entry) × Among f h.entries × (f.the_map ≡ e.the_map) × (f.key ≡ e.key) × (f.value ≡ e.value)
+  here e i a b = found-among h.entries e.the_map e.key e.value (s.values e.the_map e.key a b ∙ found-only g.entries e (m.one_entry e.the_map e.key) i)
+
+  -- entries of one key have one delegate
+  same_delegate : (e : Entry) → Among e g.entries → (f : Entry) → Among f h.entries → f.key ≡ e.key → f.delegate ≡ e.delegate
+  same_delegate e i f j q = (m.entries f (ArePart-among h.entries g.entries f s.entries j)).delegate ∙ (ap (delegate_in g) q ∙ sym (m.entries e i).delegate)
+
   -- it is reached there
   pub reached-in : (x : Name) → Reached g x → ReachedIn (view h) x
   reached-in _ (held r x e) = derive-root (view h).registers (view h).edges (rules_of (joints h.entries)) x (register-root h g s r x e)
@@ -58,16 +68,19 @@ module _ (h : Heap) (g : Graph) (w : IsWellFormed h) (m : IsWellMade g) (s : Sta
       derive-along (view h).registers (view h).edges (rules_of (joints h.entries)) x y
       (held-edge h w x y k.shape k.there (subst (Among y) (edges_of-made g x k.shape k.made) i)) (reached-in x d)
   reached-in _ (value e i a b) =
-      let f = found-among h.entries e.the_map e.key e.value (s.values e.the_map e.key a b ∙ found-only g.entries e (m.one_entry e.the_map e.key) i) in
+      let f = here e i a b in
       subst (ReachedIn (view h)) f.4
-      (derive-jointly (view h).registers (view h).edges (rules_of (joints h.entries)) (f.0.the_map ∷ f.0.key ∷ []) f.0.value (Among-map joint f.0 h.entries f.1)
-      (λ y j. ⊎_elim
-      (λ p. subst (ReachedIn (view h)) (sym f.2 ∙ p) (reached-in e.the_map a))
-      (λ t. ⊎_elim (λ p. subst (ReachedIn (view h)) (sym f.3 ∙ p) (reached-in e.key b)) (λ n. absurd n) t) j))
+      (derive-joint (view h).registers (view h).edges (joints h.entries) (joint f.0.the_map f.0.key f.0.value) (value-joint h.entries f.0 f.1)
+      (subst (ReachedIn (view h)) (sym f.2) (reached-in e.the_map a)) (subst (ReachedIn (view h)) (sym f.3) (reached-in e.key b)))
+  reached-in _ (key e d i q a b) =
+      let f = here e i a (key e d i q a b) in
+      subst (ReachedIn (view h)) f.3
+      (derive-joint (view h).registers (view h).edges (joints h.entries) (joint f.0.the_map d f.0.key) (delegate-joint h.entries f.0 d f.1 (same_delegate e i f.0 f.1 f.3 ∙ q))
+      (subst (ReachedIn (view h)) (sym f.2) (reached-in e.the_map a)) (reached-in d b))
 
   -- And what is reached there is reached in the graph.
   pub in-reached : (x : Name) → ReachedIn (view h) x → Reached g x
-  in-reached = derived-within (view h).registers (view h).edges (rules_of (joints h.entries)) (Reached g) root along jointly
+  in-reached = derived-by_joints (view h).registers (view h).edges (joints h.entries) (Reached g) root along jointly
     where
       root : (x : Name) → Among x (view h).registers → Reached g x
       root x i = ⊎_elim
@@ -83,12 +96,9 @@ module _ (h : Heap) (g : Graph) (w : IsWellFormed h) (m : IsWellMade g) (s : Sta
           let same : k.shape ≡ f.0 = cc in
           edge x y d (subst (Among y) (sym (edges_of-made g x k.shape k.made)) (subst (λ t. Among y (edges_of_shape x t)) (sym same) f.2))
 
-      jointly : (ps : List Name) (y : Name) → Among (ps, y) (rules_of (joints h.entries)) → ((x : Name) → Among x ps → Reached g x) → Reached g y
-      jointly ps y i f =
-          let k = Among-map_cases joint h.entries (ps, y) i in
-          let e : Entry = k.0 in
-          let premises : (e.the_map ∷ e.key ∷ []) ≡ ps = ap (λ (p : List Name × Name). p.0) k.2 in
-          let target : e.value ≡ y = ap (λ (p : List Name × Name). p.1) k.2 in
-          subst (Reached g) target (value e (ArePart-among h.entries g.entries e s.entries k.1)
-          (f e.the_map (subst (Among e.the_map) premises (inl refl)))
-          (f e.key (subst (Among e.key) premises (inr (inl refl)))))
+      gives : (e : Entry) → Among e g.entries → (j : Joint) → Gives e j → Reached g j.the_map → Reached g j.key → Reached g j.value
+      gives e i _ its_value a b = value e i a b
+      gives e i _ (its_key d q) a b = key e d i q a b
+
+      jointly : (j : Joint) → Among j (joints h.entries) → Reached g j.the_map → Reached g j.key → Reached g j.value
+      jointly j i = let k = joint-cases h.entries j i in gives k.0 (ArePart-among h.entries g.entries k.0 s.entries k.1) j k.2

@@ -75,7 +75,7 @@ module _ (g : Graph) where
       edge (reflector k) (native k) d (subst (Among (native k)) (sym (edges_of-shape g (reflector k)))
       (subst (λ o. Among (native k) (edges_of_some (reflector k) (option_and_then shape_of_reflector o))) (sym n.1) (some n.0.reflector n.2)))
     where
-      some : (r : Option Slots) → is_some r ≡ true → Among (native k) (edges_of_some (reflector k) (option_map (λ slots. script_shape (Some slots)) r))
+      some : (r : Option Slots) → is_some r ≡ true → Among (native k) (edges_of_some (reflector k) (option_map (λ slots. script_shape (Some slots) None) r))
       some None e = absurd (cc)
       some (Some slots) e = Among-right (native k) (contents slots) (native k ∷ []) (inl refl)
 

@@ -1,11 +1,13 @@
 -- HEAPS THAT STAND FOR A GRAPH ANSWER AS IT DOES: what the checks and the replies look at is the same in both.
 use Rattle.std.proofs.Common.{arith, ◌≡◌, ℕ, Option, Some, None, is_none, slice_index_or, refl, sym, ◌∙◌, ap}
+use Rattle.std.specs.Prelude.{IsTrue}
 use Rattle.std.specs.Option.{option_and_then}
 use Rattle.std.specs.List.{list_any}
 use Rattle.std.proofs.Math.Path.{fun_ext}
 use Rattle.cc_names.specs.declared.name.Name.{Name}
 use Rattle.cc_names.specs.declared.register.Reg.{Reg}
 use Rattle.cc_names.specs.declared.register.Reg.TheVariants.{N, S}
+use Rattle.cc_names.specs.Names.{is_script}
 use Rattle.cc_model.specs.declared.command.Command.{Command}
 use Rattle.cc_model.specs.Slots.{Slots}
 use Rattle.cc_model.specs.Checks.{Objects, slots_or_none, slots_at, slot_at, value_at, needed, lacks_object, is_map_in, has_wrong_object, has_no_slot, has_wrong_content, is_full, refusal_of, reply_if_taken}
@@ -15,7 +17,7 @@ use Rattle.cc_model.specs.Reached.{Reached, held}
 use Rattle.cc_model.specs.Heap as heap
 use Rattle.cc_model.specs.Heap.{Heap}
 use Rattle.cc_model.specs.StandsFor.{StandsFor}
-use Rattle.cc_laws_heap.proofs.Shapes.{slots_of_shape, slots_in-graph, slots_in-heap}
+use Rattle.cc_laws_heap.proofs.Shapes.{slots_of_shape, slots_in-graph, slots_in-heap, delegate_of_shape, delegate_in-shape, delegate_at-shape}
 
 -- what the checks and the replies look at is the same
 pub record AreAlike (o p : Objects) : Type 0 where
@@ -75,6 +77,10 @@ module _ (h : Heap) (g : Graph) (s : StandsFor h g) where
   -- a reached object has the same slots
   slots_in-stands : (x : Name) → Reached g x → heap.slots_in h x ≡ graph.slots_in g x
   slots_in-stands x d = let k = s.reached x d in slots_in-heap h x ∙ (ap slots_of_shape (k.there ∙ sym k.made) ∙ sym (slots_in-graph g x))
+
+  -- a reached script object has the same delegate
+  pub delegate-stands : (x : Name) → IsTrue (is_script x) → Reached g x → heap.delegate_at h x ≡ graph.delegate_in g x
+  delegate-stands x i d = let k = s.reached x d in delegate_at-shape h x i ∙ (ap delegate_of_shape (k.there ∙ sym k.made) ∙ sym (delegate_in-shape g x))
 
   -- What the checks and the replies look at is the same for the heaps and for the graph.
   pub objects-stand : AreAlike (heap.objects_of h) (graph.objects_of g)

@@ -1,11 +1,14 @@
 -- WHAT AN OBJECT HOLDS is its shape: slots, edges and kinds of objects are read from it.
-use Rattle.std.proofs.Common.{arith, ◌≡◌, ℕ, true, false, List, [], ◌∷◌, ◌++◌, Option, Some, None, option_map, refl, ap}
+use Rattle.std.proofs.Common.{arith, ◌≡◌, ℕ, true, false, List, [], ◌∷◌, ◌++◌, Option, Some, None, option_map, refl, ◌∙◌, ap}
+use Rattle.std.specs.Prelude.{IsTrue}
 use Rattle.std.specs.Option.{option_and_then, option_to_list}
+use Rattle.std.proofs.lemmas.List.{append_assoc}
 use Rattle.cc_names.specs.declared.name.Name.{Name}
 use Rattle.cc_names.specs.declared.name.Name.TheVariants as name
 use Rattle.cc_names.specs.declared.kind.Kind.{Kind}
 use Rattle.cc_names.specs.declared.kind.Kind.TheVariants.{Plain, Reflector, Map, Proxy}
-use Rattle.cc_names.specs.Names.{native, object, reflector}
+use Rattle.cc_names.specs.Names.{native, object, reflector, is_script}
+use Rattle.cc_names.specs.Places.{script_places, all_script_places}
 use Rattle.cc_model.specs.Slots.{Slots, contents}
 use Rattle.cc_model.specs.Checks.{slots_or_none}
 use Rattle.cc_model.specs.Graph as graph
@@ -43,9 +46,16 @@ abbrev pub edges_of_some : Name → Option Shape → List Name
 edges_of_some x None = []
 edges_of_some x (Some s) = edges_of_shape x s
 
+-- what the places of a script object hold: its slots, its delegate, and its native
+pub contents-script : (slots : Slots) (its_delegate its_native : Option Name) →
+    contents (all_script_places slots its_delegate its_native) ≡ contents slots ++ (option_to_list its_delegate ++ option_to_list its_native)
+contents-script slots its_delegate its_native = contents-last (script_places slots its_delegate) its_native
+    ∙ (ap (λ xs. xs ++ option_to_list its_native) (contents-last slots its_delegate)
+    ∙ append_assoc (contents slots) (option_to_list its_delegate) (option_to_list its_native))
+
 -- the edges of an object of the graph are those of its shape
 pub edges_of-shape : (g : Graph) (x : Name) → edges_of g x ≡ edges_of_some x (shape_in g x)
-edges_of-shape g x = grind (arith, contents-last)
+edges_of-shape g x = grind (arith, contents-last, contents-script)
 
 -- an object without slots is a weak map, and one with a delegate a proxy
 abbrev pub kind_of_slots : Option Slots → Option Name → Kind
@@ -72,6 +82,10 @@ delegate_of_shape o = option_and_then (λ (s : Shape). s.delegate) o
 -- that of an object of the graph is that of its shape
 pub delegate_in-shape : (g : Graph) (x : Name) → delegate_in g x ≡ delegate_of_shape (shape_in g x)
 delegate_in-shape g x = grind arith
+
+-- and that of a script object of the heaps
+pub delegate_at-shape : (h : Heap) (x : Name) → IsTrue (is_script x) → heap.delegate_at h x ≡ delegate_of_shape (shape_at h x)
+delegate_at-shape h x s = grind arith
 
 -- no object of the graph has this delegate
 abbrev pub IsOfNone : Graph → Name → Type 0

@@ -27,6 +27,10 @@ use Rattle.cc_laws_heap.proofs.Writing.{changed_at, with_slot_written, with_pres
 changed_at-moved : (P : Name → Type 0) (x : Name) (f : Shape → Shape) → P x → (z : Name) → ((s : Shape) → changed_at x f z s ≡ s) ⊎ P z
 changed_at-moved P x f p z = ⊎_elim (λ e. inr (subst P (sym (same_name-true z x e)) p)) (λ e. inl (λ s. rw e refl)) (cases_Bool (same_name z x))
 
+-- it keeps its delegate, where the change does
+changed_at-delegate : (x : Name) (f : Shape → Shape) → ((s : Shape) → (f s).delegate ≡ s.delegate) → (z : Name) (s : Shape) → (changed_at x f z s).delegate ≡ s.delegate
+changed_at-delegate x f same z s = grind arith
+
 -- after it, it refers to what `P` holds of
 changed_at-edges : (P : Name → Type 0) (x : Name) (f : Shape → Shape) (h : Heap) (g : Graph) → Follows P h g →
     ((y : Name) (s : Shape) → shape_in g x ≡ Some s → Among y (edges_of_shape x (f s)) → P y) →
@@ -55,7 +59,8 @@ written-edges P x i v s new old y j = ⊎_elim
 
     further : (z : Name) → Among y (further_of z (with_slot_written i v s)) → Among y (further_of z s)
     further (name.Native k) m = m
-    further _ m = m
+    further (name.Script k) m = m
+    further (name.Reflector k) m = m
 
 -- a slot of any object written; that of a reflector, where its native has it preserved
 abbrev pub IsPreserved : Graph → Name → Type 0
@@ -68,6 +73,7 @@ IsChange-written P x i v h g p new kept t = record {
   moved = changed_at-moved P x (with_slot_written i v) p;
   edges = changed_at-edges P x (with_slot_written i v) h g t
       (λ y s e j. written-edges P x i v s new (λ z k. t.closed.edges x z s p e k) y j);
+  delegates = changed_at-delegate x (with_slot_written i v) (λ s. refl);
   blank = λ k s r e q f.
       let before : s.preserved ≡ false = still s (same_name (native k) x) q in
       (before, untouched k s r e before (same_name (reflector k) x) refl);
@@ -110,8 +116,8 @@ Follows-slot P h g (Some (name.Reflector k)) i v p new kept t = Follows-changed 
     (SameGraphBeside-native g k.0 (graph.with_reflector_slot i v))
     (IsChange-written P (reflector k.0) i v h g p new kept t) t
   where
-    made : (r : Option Slots) → option_map (λ slots. script_shape (Some slots)) (option_map (λ slots. set slots i v) r)
-        ≡ option_map (with_slot_written i v) (option_map (λ slots. script_shape (Some slots)) r)
+    made : (r : Option Slots) → option_map (λ slots. script_shape (Some slots) None) (option_map (λ slots. set slots i v) r)
+        ≡ option_map (with_slot_written i v) (option_map (λ slots. script_shape (Some slots) None) r)
     made r = grind arith
 
 -- A reflector preserved
@@ -127,6 +133,7 @@ Follows-preserved P h g k p q t = Follows-changed P (changed_at (native k) with_
     (record {
       moved = changed_at-moved P (native k) with_preserved p;
       edges = changed_at-edges P (native k) with_preserved h g t edges;
+      delegates = changed_at-delegate (native k) with_preserved (λ s. refl);
       blank = λ j s r e b f. (still s (j == k) b, refl);
     }) t
   where

@@ -1,6 +1,6 @@
 -- WELL FORMED HEAPS THAT FOLLOW A GRAPH STAND FOR IT: what is reached is there, since what well formed heaps mention is there.
-use Rattle.std.proofs.Common.{arith, ◌≡◌, Bool, true, false, [], ◌∷◌, Option, Some, None, option_map, refl, sym, ◌∙◌, ap, subst, ⊎_elim}
-use Rattle.std.specs.Option.{option_and_then}
+use Rattle.std.proofs.Common.{arith, ◌≡◌, ℕ, Bool, true, false, [], ◌∷◌, Option, Some, None, is_some, option_map, refl, sym, ◌∙◌, ap, subst, ⊎_elim}
+use Rattle.std.specs.Option.{option_and_then, option_to_list}
 use Rattle.cc_lists.specs.Members.{Among}
 use Rattle.cc_lists.proofs.Members.{Among-left, Among-right, Among-append, Among-map}
 use Rattle.cc_names.specs.declared.name.Name.{Name}
@@ -12,14 +12,14 @@ use Rattle.cc_names.specs.Names.{native, reflector}
 use Rattle.cc_model.specs.Slots.{Slots, contents, empty_slots, reflector_slots}
 use Rattle.cc_model.specs.Checks.{slots_or_none}
 use Rattle.cc_model.specs.Graph.{Graph}
-use Rattle.cc_model.specs.Reached.{Reached, held, edge, value}
+use Rattle.cc_model.specs.Reached.{Reached, held, edge, value, key}
 use Rattle.cc_model.specs.WellMade.{IsWellMade}
 use Rattle.cc_model.specs.Heap.{Heap, HeapNative, HeapScript, slots_of_kind}
-use Rattle.cc_model.specs.WellFormed.{IsWellFormed, FitsName, native_names, script_names, names_there}
+use Rattle.cc_model.specs.WellFormed.{IsWellFormed, FitsName, is_proxy_kind, native_names, script_names, names_there}
 use Rattle.cc_model.specs.StandsFor.{Shape, shape_in, shape_at, shape_of_native, shape_of_held_native, shape_of_held_script, script_shape, shape_of_reflector, NativeStands, ScriptStands, IsKept, StandsFor}
 use Rattle.cc_laws_heap.proofs.Holds.{contents-get}
 use Rattle.cc_laws_heap.proofs.EntryLists.{found-among, found-only}
-use Rattle.cc_laws_heap.proofs.Shapes.{edges_of_shape, edges_of_some, edges_of-shape, further_of, kind_of_shape, kind_in-shape}
+use Rattle.cc_laws_heap.proofs.Shapes.{edges_of_shape, edges_of_some, edges_of-shape, further_of, kind_of_shape, kind_in-shape, no_delegate-from}
 use Rattle.cc_laws_heap.proofs.HeapShapes.{shape_at-found, there-shape_at}
 use Rattle.cc_laws_heap.proofs.ReachedAlike.{edges_of-made}
 use Rattle.cc_laws_heap.proofs.Following.{NativeFollows, Follows, shape_in-native}
@@ -45,23 +45,32 @@ edges-there h w x y s e m = ⊎_elim
         kept false p f = absurd f
 
     of_script : (o : HeapScript) → Among o h.scripts → (z : Name) → o.name ≡ z → FitsName z o.kind o.slots → Among y (edges_of_shape z (shape_of_held_script o)) → Among y (names_there h)
-    of_script o i z e fits j = ⊎_elim (λ f. script (slots o.kind f)) (λ f. behind z e f) (Among-append y (contents (slots_or_none (slots_of_kind o.kind o.slots))) (further_of z (shape_of_held_script o)) j)
+    of_script o i z e fits j = ⊎_elim (λ f. script (slots o.kind f)) (λ f. further z e f) (Among-append y (contents (slots_or_none (slots_of_kind o.kind o.slots))) (further_of z (shape_of_held_script o)) j)
       where
         slots : (kind : Kind) → Among y (contents (slots_or_none (slots_of_kind kind o.slots))) → Among y (script_names h)
         slots Map f = absurd f
         slots _ f = w.script_contents o y i f
 
-        behind : (z : Name) → o.name ≡ z → Among y (further_of z (shape_of_held_script o)) → Among y (names_there h)
-        behind (name.Reflector k) p f = ⊎_elim
-            (λ e. subst (λ z. Among z (names_there h)) e
-            (Among-left (native k.0) (native_names h) (script_names h)
-            (w.reflected k.0 (subst (λ z. Among z (script_names h)) p (Among-map (λ (p : HeapScript). p.name) o h.scripts i)))))
-            (λ b. absurd b) f
-        behind _ p f = absurd f
+        delegate : (d : Option Name) → o.delegate ≡ d → Among y (option_to_list d) → Among y (names_there h)
+        delegate None p f = absurd f
+        delegate (Some d) p f = script (⊎_elim (λ e. subst (λ z. Among z (script_names h)) e (w.delegate_there o d i p)) (λ b. absurd b) f)
 
--- the kind of a script object of well formed heaps is that of its name and its slots
-kind-fits : (x : Name) (kind : Kind) (slots : Slots) → FitsName x kind slots → kind_of_shape x (script_shape (slots_of_kind kind slots)) ≡ Some kind
-kind-fits x kind slots f = grind arith
+        behind : (k : ℕ) → o.name ≡ reflector k → Among y (native k ∷ []) → Among y (names_there h)
+        behind k p f = ⊎_elim
+            (λ e. subst (λ z. Among z (names_there h)) e
+            (Among-left (native k) (native_names h) (script_names h)
+            (w.reflected k (subst (λ z. Among z (script_names h)) p (Among-map (λ (p : HeapScript). p.name) o h.scripts i)))))
+            (λ b. absurd b) f
+
+        further : (z : Name) → o.name ≡ z → Among y (further_of z (shape_of_held_script o)) → Among y (names_there h)
+        further (name.Native k) p f = absurd f
+        further (name.Script k) p f = delegate o.delegate refl f
+        further (name.Reflector k) p f = ⊎_elim (λ l. delegate o.delegate refl l) (λ r. behind k.0 p r) (Among-append y (option_to_list o.delegate) (native k.0 ∷ []) f)
+
+-- the kind of a script object of well formed heaps is that of its name, its slots and its delegate
+kind-fits : (x : Name) (kind : Kind) (slots : Slots) (d : Option Name) → FitsName x kind slots → is_some d ≡ is_proxy_kind kind →
+    kind_of_shape x (script_shape (slots_of_kind kind slots) d) ≡ Some kind
+kind-fits x kind slots d f e = grind arith
 
 module _ (P : Name → Type 0) (h : Heap) (g : Graph) (w : IsWellFormed h) (m : IsWellMade g) (f : Follows P h g) where
   -- `P` holds of what is reached
@@ -74,6 +83,7 @@ module _ (P : Name → Type 0) (h : Heap) (g : Graph) (w : IsWellFormed h) (m : 
       go p None e j = absurd j
       go p (Some s) e j = f.closed.edges x y s p e j
   reached-within _ (value e i a b) = f.closed.entries e i (reached-within e.the_map a) (reached-within e.key b)
+  reached-within _ (key e d i q a b) = f.closed.keys e d i q (reached-within e.the_map a) (reached-within d b)
 
   -- what is there is as it is in the graph, where `P` holds of it
   kept-there : (x : Name) → P x → Among x (names_there h) → IsKept h g x
@@ -96,6 +106,11 @@ module _ (P : Name → Type 0) (h : Heap) (g : Graph) (w : IsWellFormed h) (m : 
       let c = found-among h.entries e.the_map e.key e.value (f.entries.values e.the_map e.key p q ∙ found-only g.entries e (m.one_entry e.the_map e.key) i) in
       kept-there e.value (reached-within e.value (value e i a b))
       (Among-right e.value (native_names h) (script_names h) (subst (λ y. Among y (script_names h)) c.4 (w.entries c.0 c.1).value))
+  reached-kept _ (key e d i r a b) =
+      let p = reached-within e.the_map a in
+      let q = reached-within e.key (key e d i r a b) in
+      let c = found-among h.entries e.the_map e.key e.value (f.entries.values e.the_map e.key p q ∙ found-only g.entries e (m.one_entry e.the_map e.key) i) in
+      kept-there e.key q (Among-right e.key (native_names h) (script_names h) (subst (λ y. Among y (script_names h)) c.3 (w.entries c.0 c.1).key))
 
   -- a native that follows the graph stands in it
   native-stands : (n : HeapNative) → NativeFollows g n → NativeStands g n
@@ -103,7 +118,11 @@ module _ (P : Name → Type 0) (h : Heap) (g : Graph) (w : IsWellFormed h) (m : 
 
   -- and a script object
   script-stands : (o : HeapScript) → Among o h.scripts → ScriptStands g o
-  script-stands o i = grind (arith, kind_in-shape, kind-fits)
+  script-stands o i = record {
+    kind = kind_in-shape g o.name
+        ∙ (ap (option_and_then (kind_of_shape o.name)) (f.objects.scripts o i) ∙ kind-fits o.name o.kind o.slots o.delegate (w.kinds o i) (w.delegates o i));
+    shape = sym (f.objects.scripts o i);
+  }
 
   -- a reflector of a reached native that does not preserve it is blank
   blank-there : (n : HeapNative) (o : HeapScript) → Among n h.natives → n.preserved ≡ false → Reached g (native n.number) →
@@ -131,10 +150,10 @@ module _ (P : Name → Type 0) (h : Heap) (g : Graph) (w : IsWellFormed h) (m : 
     entries = f.entries.part;
     blank = λ k n slots e p r.
         let made : shape_in g (native k) ≡ Some (shape_of_native n) = ap (option_map shape_of_native) e in
-        let kept : shape_in g (reflector k) ≡ Some (script_shape (Some slots)) = ap (option_and_then shape_of_reflector) e ∙ ap (option_map (λ l. script_shape (Some l))) r in
-        let b = f.blank k (shape_of_native n) (script_shape (Some slots)) made p kept in
+        let kept : shape_in g (reflector k) ≡ Some (script_shape (Some slots) None) = ap (option_and_then shape_of_reflector) e ∙ ap (option_map (λ l. script_shape (Some l) None)) r in
+        let b = f.blank k (shape_of_native n) (script_shape (Some slots) None) made p kept in
         let same : slots ≡ empty_slots reflector_slots = some b.0 in
-        (same, b.1);
+        (same, b.1, no_delegate-from g (reflector k) b.2);
     blank_there = blank-there;
   }
     where

@@ -23,7 +23,7 @@ use Rattle.cc_laws_heap.proofs.Holds.{OfSome, contents-set}
 use Rattle.cc_laws_heap.proofs.EntryLists.{with_entry-cases}
 use Rattle.cc_lists.proofs.Members.{Among-filtered}
 use Rattle.cc_laws_heap.proofs.ReachedReads.{HasBehind}
-use Rattle.cc_laws_heap.proofs.Following.{Follows}
+use Rattle.cc_laws_heap.proofs.Following.{AreEntries, Follows}
 use Rattle.cc_laws_heap.proofs.Changing.{Follows-left, Follows-registers, option_map-found}
 use Rattle.cc_laws_heap.proofs.Writing.{changed_at, with_preserved, GraphChanges-native, SameGraphBeside-native}
 use Rattle.cc_laws_heap.proofs.SlotsWritten.{IsPreserved, Follows-slot, Follows-preserved}
@@ -93,7 +93,7 @@ Follows-preserve P h g (Some (name.Reflector k)) p b t = Follows-preserved P h g
 Follows-preserve P h g _ p b t = t
 
 -- it is preserved then
-preserved-after : (g : Graph) (x : Name) → IsPreserved (graph.preserve g (Some x)) x
+pub preserved-after : (g : Graph) (x : Name) → IsPreserved (graph.preserve g (Some x)) x
 preserved-after g (name.Reflector k) = λ j s e i.
     let f = option_map-found (changed_at (native k.0) with_preserved (native j)) (shape_in g (native j)) s
     (sym (GraphChanges-native g k.0 graph.as_preserved with_preserved (λ n. refl) (λ n. refl) (native j)) ∙ i) in
@@ -117,15 +117,16 @@ preserve-entries g x = grind (arith, SameGraphBeside-native)
 
 -- an entry set, its key preserved; or taken out
 pub Follows-set_entry : (P : Name → Type 0) (h : Heap) (g : Graph) (m k v : Option Name) → OfSome P m → OfSome P k → OfSome (HasBehind P) k → OfSome P v →
-    ((a b : Name) → count_by (is_entry_of a b) g.entries ≤ 1) → Follows P h g → Follows P (effects.set_entry h m k v) (graph.set_entry g m k v)
-Follows-set_entry P h g (Some m) (Some k) None p q b r once t = Follows-entries P h g (without_entry h.entries m k) (without_entry g.entries m k)
+    OfSome (λ x. heap.delegate_at h x ≡ graph.delegate_in g x) k → ((a b : Name) → count_by (is_entry_of a b) g.entries ≤ 1) → Follows P h g → Follows P (effects.set_entry h m k v) (graph.set_entry g m k v)
+Follows-set_entry P h g (Some m) (Some k) None p q b r same once t = Follows-entries P h g (without_entry h.entries m k) (without_entry g.entries m k)
     (AreEntries-without P h.entries g.entries m k t.entries) (λ e i. inl (Among-filtered _ e g.entries i)) t
-Follows-set_entry P h g (Some m) (Some k) (Some v) p q b r once t =
-    Follows-entries P (heap.preserve h (Some k)) (graph.preserve g (Some k)) (with_entry h.entries m k v) (with_entry g.entries m k v)
-    (AreEntries-set P h.entries g.entries m k v p q (once m k) t.entries)
+Follows-set_entry P h g (Some m) (Some k) (Some v) p q b r same once t =
+    Follows-entries P (heap.preserve h (Some k)) (graph.preserve g (Some k)) (with_entry h.entries m k (heap.delegate_at h k) v) (with_entry g.entries m k (graph.delegate_in g k) v)
+    (subst (λ d. AreEntries P (with_entry h.entries m k d v) (with_entry g.entries m k (graph.delegate_in g k) v)) (sym same)
+    (AreEntries-set P h.entries g.entries m k (graph.delegate_in g k) v p q (once m k) t.entries))
     (λ e i. ⊎_elim
-    (λ s. inr (subst P (ap (λ (d : Entry). d.value) s) r, subst (IsPreserved (graph.preserve g (Some k))) (ap (λ (d : Entry). d.key) s) (preserved-after g k)))
+    (λ s. inr (subst P (ap (λ (d : Entry). d.value) s) r, subst P (ap (λ (d : Entry). d.key) s) q, subst (IsPreserved (graph.preserve g (Some k))) (ap (λ (d : Entry). d.key) s) (preserved-after g k)))
     (λ old. inl (subst (Among e) (sym (preserve-entries g (Some k))) old))
-    (with_entry-cases g.entries m k v e i))
+    (with_entry-cases g.entries m k (graph.delegate_in g k) v e i))
     (Follows-preserve P h g (Some k) q b t)
-Follows-set_entry P h g _ _ v p q b r once t = t
+Follows-set_entry P h g _ _ v p q b r same once t = t

@@ -1,5 +1,6 @@
 -- A REFLECTOR MADE, OR FOUND AGAIN, in heaps and in the graph that they stand for.
 use Rattle.std.proofs.Common.{arith, ◌≡◌, ◌≢◌, ℕ, Bool, true, false, List, [], ◌∷◌, Option, Some, None, is_some, option_map, refl, sym, ◌∙◌, ap, subst, inl, inr, ◌⊎◌, ⊎_elim}
+use Rattle.std.specs.Prelude.{IsTrue}
 use Rattle.std.specs.Option.{option_and_then}
 use Rattle.std.proofs.lemmas.Bool.{true≢false, false≢true, cases_Bool}
 use Rattle.cc_lists.specs.Members.{Among}
@@ -13,20 +14,20 @@ use Rattle.cc_model.specs.Entries.{Entry}
 use Rattle.cc_model.specs.Graph as graph
 use Rattle.cc_model.specs.Graph.{Graph, GraphNative, native_in, script_in, set_native, as_wrapped, slots_or_blank}
 use Rattle.cc_model.specs.Reached.{Reached}
-use Rattle.cc_model.specs.WellMade.{IsWellMade}
+use Rattle.cc_model.specs.WellMade.{IsWellMade, IsMadeEntry, was_made}
 use Rattle.cc_model.specs.Heap.{Heap, HeapScript, has_reflector}
 use Rattle.cc_model.specs.Exposure.{exposed}
 use Rattle.cc_model.specs.Effects as effects
 use Rattle.cc_model.specs.WellFormed.{IsWellFormed}
 use Rattle.cc_model.specs.StandsFor.{Shape, shape_in, shape_at, shape_of_native, shape_of_held_script, script_shape, IsKept, StandsFor}
 use Rattle.cc_laws_heap.proofs.Numbered.{numbered-change, numbered-change_other}
-use Rattle.cc_laws_heap.proofs.Shapes.{further_of}
+use Rattle.cc_laws_heap.proofs.Shapes.{further_of, delegate_of_shape, delegate_in-shape, IsOfNone, no_delegate-of_none}
 use Rattle.cc_laws_heap.proofs.GraphWrites.{set_native-is}
 use Rattle.cc_laws_heap.proofs.Following.{AgreesBeside, Follows, shape_in-native, shape_in-reflector, stands-follows}
 use Rattle.cc_laws_heap.proofs.Changing.{unchanged, Follows-changed, Follows-left, GraphChanges, IsChange-unchanged, option_map-same}
 use Rattle.cc_laws_heap.proofs.Writing.{numbered-changed, SameGraphBeside-native}
 use Rattle.cc_laws_heap.proofs.MadeAlike.{IsMade, Follows-made}
-use Rattle.cc_laws_heap.proofs.NewObjects.{unmade-no_entry, last-cases}
+use Rattle.cc_laws_heap.proofs.NewObjects.{unmade-no_entry, unmade-no_delegate, last-cases}
 use Rattle.cc_laws_heap.proofs.Unseen.{Leaves-refl, Leaves-add_ref, Leaves-exposed}
 use Rattle.cc_laws_heap.proofs.Making.{contents-empty_none}
 
@@ -39,16 +40,24 @@ wrapped-others : (g : Graph) (k : ℕ) (z : Name) → z ≢ reflector k → shap
 wrapped-others g k z d = grind (arith, set_native-is, numbered-changed, numbered-change_other)
 
 -- and that has slots
-wrapped-made : (g : Graph) (k : ℕ) (n : GraphNative) → native_in g k ≡ Some n → shape_in (with_wrapped g k) (reflector k) ≡ Some (script_shape (Some (slots_or_blank n.reflector)))
+wrapped-made : (g : Graph) (k : ℕ) (n : GraphNative) → native_in g k ≡ Some n → shape_in (with_wrapped g k) (reflector k) ≡ Some (script_shape (Some (slots_or_blank n.reflector)) None)
 wrapped-made g k n i = grind (arith, set_native-is, numbered-change)
 
 -- what has a shape in the heaps is there
 reflector-there : (h : Heap) (k : ℕ) (s : Shape) → shape_at h (reflector k) ≡ Some s → has_reflector h k ≡ true
 reflector-there h k s = grind arith
 
+-- the delegate of an entry is one of an object of the graph
+entry-delegate : (g : Graph) (e : Entry) → IsMadeEntry g e → (x : Name) → IsOfNone g x → ¬ (e.delegate ≡ Some x)
+entry-delegate g e m x none q = go (shape_in g e.key) refl (sym (delegate_in-shape g e.key) ∙ (sym m.delegate ∙ q))
+  where
+    go : (o : Option Shape) → shape_in g e.key ≡ o → delegate_of_shape o ≡ Some x → ⊥
+    go None i r = cc
+    go (Some s) i r = none e.key s i r
+
 -- the shape of a blank reflector
 abbrev blank_shape : Shape
-blank_shape = script_shape (Some (empty_slots reflector_slots))
+blank_shape = script_shape (Some (empty_slots reflector_slots)) None
 
 module _ (h : Heap) (g : Graph) (k : ℕ) (w : IsWellFormed h) (m : IsWellMade g) (s : StandsFor h g) (d : Reached g (native k)) (n : GraphNative) (i : native_in g k ≡ Some n) where
   -- the heaps follow the graph
@@ -67,7 +76,7 @@ module _ (h : Heap) (g : Graph) (k : ℕ) (w : IsWellFormed h) (m : IsWellMade g
       (Among-right (reflector k) (contents n.slots) (further_of (native k) (shape_of_native n)) (subst (λ b. Among (reflector k) (elim b [ true ↦ reflector k ∷ [] | false ↦ [] ])) (sym p) (inl refl)))
 
   -- what it has for slots
-  same-shape : (t : Shape) → shape_in g (reflector k) ≡ Some t → script_shape (Some (slots_or_blank n.reflector)) ≡ t
+  same-shape : (t : Shape) → shape_in g (reflector k) ≡ Some t → script_shape (Some (slots_or_blank n.reflector)) None ≡ t
   same-shape t e = grind (arith, shape_in-reflector)
 
   -- no shape changes in the graph
@@ -96,13 +105,29 @@ module _ (h : Heap) (g : Graph) (k : ℕ) (w : IsWellFormed h) (m : IsWellMade g
   blank-made : n.preserved ≡ false → slots_or_blank n.reflector ≡ empty_slots reflector_slots
   blank-made p = grind arith
 
+  -- it was never made, or stands for a blank one
+  unmade : n.reflector ≡ None → ¬ (IsTrue (was_made g (reflector k)))
+  unmade r t = true≢false (sym t ∙ (ap (λ o. is_some (option_and_then (λ (n : GraphNative). n.reflector) o)) i ∙ ap is_some r))
+
+  -- so it is no delegate
+  no-delegate : n.preserved ≡ false → IsOfNone g (reflector k)
+  no-delegate p = go n.reflector refl
+    where
+      go : (o : Option Slots) → n.reflector ≡ o → IsOfNone g (reflector k)
+      go None r = unmade-no_delegate g m (reflector k) (unmade r)
+      go (Some slots) r = no_delegate-of_none g (reflector k) (s.blank k n slots i p r).2
+
   -- and no entry is of it
-  no-entry : n.preserved ≡ false → (e : Entry) → Among e g.entries → (e.the_map ≢ reflector k) × (e.key ≢ reflector k)
+  no-entry : n.preserved ≡ false → (e : Entry) → Among e g.entries → (e.the_map ≢ reflector k) × (e.key ≢ reflector k) × (e.delegate ≢ Some (reflector k))
   no-entry p = go n.reflector refl
     where
-      go : (o : Option Slots) → n.reflector ≡ o → (e : Entry) → Among e g.entries → (e.the_map ≢ reflector k) × (e.key ≢ reflector k)
-      go None r = unmade-no_entry g m (reflector k) (λ t. true≢false (sym t ∙ (ap (λ o. is_some (option_and_then (λ (n : GraphNative). n.reflector) o)) i ∙ ap is_some r)))
-      go (Some slots) r = λ e j. (λ q. apart (sym (m.entries e j).the_map.1 ∙ q), (s.blank k n slots i p r).1 e j)
+      go : (o : Option Slots) → n.reflector ≡ o → (e : Entry) → Among e g.entries → (e.the_map ≢ reflector k) × (e.key ≢ reflector k) × (e.delegate ≢ Some (reflector k))
+      go None r = unmade-no_entry g m (reflector k) (unmade r)
+      go (Some slots) r = λ e j. (
+          (λ q. apart (sym (m.entries e j).the_map.1 ∙ q)),
+          (s.blank k n slots i p r).1 e j,
+          (λ q. entry-delegate g e (m.entries e j) (reflector k) (no-delegate p) q),
+        )
         where
           apart : {a b : ℕ} → object a ≡ reflector b → ⊥
           apart q = cc
@@ -119,12 +144,14 @@ module _ (h : Heap) (g : Graph) (k : ℕ) (w : IsWellFormed h) (m : IsWellMade g
     natives = λ n l. inl l;
     scripts = λ o l. ⊎_elim (λ a. inl a) (λ q. inr (q.0, q.1, refl)) (scripts o l);
     others = wrapped-others g k;
-    made = wrapped-made g k n i ∙ ap (λ (l : Slots). Some (script_shape (Some l))) (blank-made p);
-    before = λ t e. (sym (same-shape t e) ∙ ap (λ (l : Slots). script_shape (Some l)) (blank-made p), refl);
+    made = wrapped-made g k n i ∙ ap (λ (l : Slots). Some (script_shape (Some l) None)) (blank-made p);
+    before = λ t e. (sym (same-shape t e) ∙ ap (λ (l : Slots). script_shape (Some l) None) (blank-made p), refl);
     targets = λ y l. ⊎_elim (λ a. absurd (contents-empty_none reflector_slots y a)) (λ r. ⊎_elim (λ q. subst (Reached g) q d) (λ q. absurd q) r)
         (Among-append y (contents (empty_slots reflector_slots)) (native k ∷ []) l);
     no_entry = no-entry p;
+    no_delegate = no-delegate p;
     blank = λ j e. refl;
+    delegate = λ j a q. absurd (cc);
     beside = let t = beside j b in record {
       native_registers = t.native_registers;
       script_registers = t.script_registers;
@@ -148,7 +175,7 @@ module _ (h : Heap) (g : Graph) (k : ℕ) (w : IsWellFormed h) (m : IsWellMade g
           Follows-made (Reached g) (exposed h (Some (reflector k))) (exposed h (Some (reflector k))) g (with_wrapped g k) (reflector k) blank_shape
           (is-made p (exposed h (Some (reflector k))) (exposed h (Some (reflector k))).scripts f.beside (λ o l. inl l)) f
       go false =
-          let j : Heap = effects.with_script h (reflector k) Reflector reflector_slots in
+          let j : Heap = effects.with_script h (reflector k) Reflector reflector_slots None in
           Follows-left (λ z. Reached g z ⊎ (reflector k ≡ z)) j (effects.with_reflector h k) (with_wrapped g k) (Leaves-add_ref j k)
           (Follows-made (Reached g) h j g (with_wrapped g k) (reflector k) blank_shape
           (is-made p h j.scripts follows.beside

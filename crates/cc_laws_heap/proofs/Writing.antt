@@ -59,7 +59,7 @@ GraphChanges-native g k a f changes keeps = subst (GraphChanges (changed_at (nat
       where
         go : (b : Bool) (o : Option GraphNative) → option_and_then shape_of_reflector (option_map (λ n. if b then a n else n) o) ≡ option_map (λ s. s) (option_and_then shape_of_reflector o)
         go b None = refl
-        go true (Some n) = ap (λ r. option_map (λ slots. script_shape (Some slots)) r) (keeps n) ∙ option_map-same (shape_of_reflector n)
+        go true (Some n) = ap (λ r. option_map (λ slots. script_shape (Some slots) None) r) (keeps n) ∙ option_map-same (shape_of_reflector n)
         go false (Some n) = option_map-same (shape_of_reflector n)
 
 -- its reflector changed, the native left

@@ -3,12 +3,15 @@ use Rattle.std.proofs.Common.{◌≡◌, ℕ, ◌≤◌, Bool, true, false, List
 use Rattle.std.specs.List.{filter, flat_map, list_all, list_any}
 use Rattle.std.specs.Option.{option_to_list}
 use Rattle.std.proofs.lemmas.Bool.{or_left, or_right, true≢false}
+use Rattle.cc_model.specs.Slots.{contents}
 use Rattle.cc_lists.specs.Members.{Among}
 use Rattle.cc_lists.proofs.Members.{Among-map, Among-map_cases, Among-left, Among-right, Among-append, Among-filter, Among-filtered, Among-flat_map, Among-flat_map_cases}
 use Rattle.cc_names.specs.declared.name.Name.{Name}
 use Rattle.cc_names.specs.Names.{native, same_name, is_script}
 use Rattle.cc_names.proofs.NameTests.{same_name-exact}
-use Rattle.cc_model.specs.Entries.{Entry}
+use Rattle.cc_model.proofs.Places.{targets-native}
+use Rattle.cc_model.specs.Places.{places_of_native}
+use Rattle.cc_model.specs.Entries.{Joint, joints}
 use Rattle.cc_model.specs.Heap.{Heap, HeapNative, Buffered, is_gray_in}
 use Rattle.cc_model.specs.View.{View, view, native_edges, script_edges}
 use Rattle.cc_model.specs.Colours.{HasColourInvariant}
@@ -52,7 +55,7 @@ list_any-some p (y ∷ ys) x m e = ⊎_elim
 
 -- The members of a mapping
 
--- a member of a mapping is the entry's
+-- a member of a mapping is the joint's
 member-is : (h : Heap) (y x : Name) → Among x (option_to_list (if_gray h y)) → y ≡ x
 member-is h y x m = grind arith
 
@@ -94,9 +97,9 @@ module _ (h : Heap) (sound : IsSound [] h) (coloured : HasColourInvariant (view 
   member-there : (x : Name) → Among x (flat_map members_of (mappings_of h)) → IsScriptThere (view h) x
   member-there x i =
       let f = Among-flat_map_cases members_of (mappings_of h) x i in
-      let g = Among-map_cases (mapping_of h) (filter (λ e. is_gray_in h e.value) h.entries) f.0 f.1 in
-      let e : Entry = g.0 in
-      let there : Among e h.entries = Among-filtered (λ (d : Entry). is_gray_in h d.value) e h.entries g.1 in
+      let g = Among-map_cases (mapping_of h) (filter (λ e. is_gray_in h e.value) (joints h.entries)) f.0 f.1 in
+      let e : Joint = g.0 in
+      let there : Among e (joints h.entries) = Among-filtered (λ (d : Joint). is_gray_in h d.value) e (joints h.entries) g.1 in
       let j : Among x (members_of (mapping_of h e)) = subst (λ m. Among x (members_of m)) (sym g.2) f.2 in
       ⊎_elim
       (λ l. subst (IsScriptThere (view h)) (member-is h e.the_map x l) ((IsSound-view h sound).map_there e there))
@@ -133,8 +136,9 @@ module _ (h : Heap) (sound : IsSound [] h) (coloured : HasColourInvariant (view 
   gray-holder i y m g = ⊎_elim
       (λ l.
       let f = Among-flat_map_cases native_edges h.natives (native i, y) l in
-      let test : Name × Name → Bool = λ e. is_gray_in h e.1 in
-      let holds : holds_gray h f.0 ≡ true = list_any-some test (native_edges f.0) (native i, y) f.2 (gray-tested h y g) in
+      let place : Among y (contents (places_of_native f.0)) =
+      subst (Among y) (targets-native f.0) (Among-map (λ (e : Name × Name). e.1) (native i, y) (native_edges f.0) f.2) in
+      let holds : holds_gray h f.0 ≡ true = list_any-some (is_gray_in h) (contents (places_of_native f.0)) y place (gray-tested h y g) in
       let listed : Among (native f.0.number) (holders_of h) =
       Among-map (λ (n : HeapNative). native n.number) f.0 (filter (holds_gray h) h.natives) (Among-filter (holds_gray h) f.0 h.natives f.1 holds) in
       subst (IsNode (begun h)) (native_edges-are f.0 (native i) y f.2).0 (holder-node (native f.0.number) listed))
@@ -145,7 +149,7 @@ module _ (h : Heap) (sound : IsSound [] h) (coloured : HasColourInvariant (view 
       absurd (native-no_script (native i) refl script))
       (Among-append (native i, y) (flat_map native_edges h.natives) (flat_map script_edges h.scripts) m)
 
-  -- a member of the mapping: the entry's where it is gray, else it is black
+  -- a member of the mapping: the joint's where it is gray, else it is black
   member-of : (y : Name) → IsScriptThere (view h) y → MemberOf after (if_gray h y) y
   member-of y there = go (is_gray_in h y) refl
     where
@@ -153,12 +157,12 @@ module _ (h : Heap) (sound : IsSound [] h) (coloured : HasColourInvariant (view 
       go true e = inl refl
       go false e = inr (refl, ⊎_elim (λ b. b) (λ g. absurd (true≢false (sym (gray-tested h y g) ∙ e))) (black-or_gray (view h) coloured y there))
 
-  -- an entry with a gray value has its mapping
-  entry-mapped : (e : Entry) → Among e h.entries → Among e.value (view h).gray → (m : Mapping) × Among m (mappings_of h) × IsMappingOf after e m
-  entry-mapped e i g = (
+  -- a joint that gives a gray object has its mapping
+  joint-mapped : (e : Joint) → Among e (joints h.entries) → Among e.value (view h).gray → (m : Mapping) × Among m (mappings_of h) × IsMappingOf after e m
+  joint-mapped e i g = (
     mapping_of h e,
-    Among-map (mapping_of h) e (filter (λ d. is_gray_in h d.value) h.entries)
-        (Among-filter (λ (d : Entry). is_gray_in h d.value) e h.entries i (gray-tested h e.value g)),
+    Among-map (mapping_of h) e (filter (λ d. is_gray_in h d.value) (joints h.entries))
+        (Among-filter (λ (d : Joint). is_gray_in h d.value) e (joints h.entries) i (gray-tested h e.value g)),
     record {
       value = refl;
       the_map = member-of e.the_map ((IsSound-view h sound).map_there e i);
@@ -195,7 +199,7 @@ module _ (h : Heap) (sound : IsSound [] h) (coloured : HasColourInvariant (view 
     as_held = λ u c w out t. absurd (none-traversed w t.0 t.1);
     gray_noted = λ w y t e g. absurd (none-traversed w t.0 t.1);
     gray_held = gray-holder;
-    gray_value = entry-mapped;
+    gray_value = joint-mapped;
     colours = record { black_to_black = coloured.black_to_black; held_black = coloured.held_black; none_white = coloured.none_white };
     from_node = λ x y i. absurd i;
     to_node = λ x y i. absurd i;

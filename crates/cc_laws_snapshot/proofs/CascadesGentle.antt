@@ -68,7 +68,7 @@ module _ (owned : List ℕ) (h : Heap) (k : ℕ) (s : IsSound (k ∷ owned) h) w
         outside = λ u c m o n. let e = g.outside u c m (outside-seen u o) n in (e.0, λ b. e.1 (Among-left u (view h).buffer (native k ∷ []) b));
         as_often = λ u w c m o n. g.as_often u w c m (outside-seen u o) n;
         gray_edge = g.gray_edge;
-        gray_entry = g.gray_entry;
+        gray_joint = g.gray_joint;
         black_stays = g.black_stays;
         scripts_stay = g.scripts_stay;
         lives = g.lives;

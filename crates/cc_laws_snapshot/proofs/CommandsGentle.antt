@@ -30,7 +30,7 @@ use Rattle.cc_laws_snapshot.proofs.SoundView.{native-name_of}
 use Rattle.cc_laws_snapshot.proofs.GentleKeeps.{fresh-kept}
 use Rattle.cc_laws_snapshot.proofs.GentleBut.{AreGentle, AreGentle-refl, IsGentle-from}
 use Rattle.cc_laws_snapshot.proofs.NativeParts.{IsNotGray, register-gentle, preserve-gentle}
-use Rattle.cc_laws_snapshot.proofs.ScriptParts.{not_gray-held, exposed-gentle, hold_script-gentle, put_in_script-gentle, make_object-gentle, wrapped-gentle, set_entry-gentle}
+use Rattle.cc_laws_snapshot.proofs.ScriptParts.{not_gray-held, exposed-gentle, hold_script-gentle, put_in_script-gentle, make_object-gentle, make_proxy-gentle, wrapped-gentle, set_entry-gentle}
 use Rattle.cc_laws_snapshot.proofs.NativesHeld.{put_in_register-gentle, hold_native-gentle, store_native-gentle, make_native-gentle}
 
 -- What registers hold is not gray
@@ -60,8 +60,9 @@ effects-gentle : {owned : List ℕ} (h : Heap) (c : Command) → IsSound owned h
 unfolding effects
 effects-gentle {owned} h (Native d n) s c r t = make_native-gentle owned h d n (below-first d (is_slots n) r) (few-slots n (is_register d) r)
     (leb-false h.limits.natives h.natives_made t.room) s
-effects-gentle {owned} h (Script d n) s c r t = make_object-gentle h d Plain n s.well_formed
-effects-gentle {owned} h (WeakMap d) s c r t = make_object-gentle h d Map 0 s.well_formed
+effects-gentle {owned} h (Script d n) s c r t = make_object-gentle h d Plain n None s.well_formed (λ y m. absurd m) (λ y m. absurd m)
+effects-gentle {owned} h (WeakMap d) s c r t = make_object-gentle h d Map 0 None s.well_formed (λ y m. absurd m) (λ y m. absurd m)
+effects-gentle {owned} h (Proxy d q) s c r t = make_proxy-gentle owned h d (register h (S q)) (script_register-there h q s.well_formed) (script_register-pale h q c) s
 effects-gentle {owned} h (CopyNative d q) s c r t = hold_native-gentle owned h d (register h (N q)) (below-first d (is_register q) r) (native_register-there h q s.well_formed) s
 effects-gentle {owned} h (CopyScript d q) s c r t = register-gentle h (S d) (register h (S q))
 effects-gentle {owned} h (Drop (N d)) s c r t = put_in_register-gentle owned h d None (ltb-true d bank_length r) (λ y m. absurd m) s

@@ -18,7 +18,7 @@ use Rattle.cc_model.specs.Heap.{Heap, HeapNative, Outcome, native_at, register, 
 use Rattle.cc_model.specs.View.{view, ReachedIn}
 use Rattle.cc_model.specs.Cascade.{take_up, let_go}
 use Rattle.cc_model.specs.Exposure.{exposed}
-use Rattle.cc_model.specs.Effects.{effects, put_in_register, hold_native, store_native, with_native, make_native, hold_script, make_object, wrapped, set_entry, put_in_script}
+use Rattle.cc_model.specs.Effects.{effects, put_in_register, hold_native, store_native, with_native, make_native, hold_script, make_object, make_proxy, wrapped, set_entry, put_in_script}
 use Rattle.cc_model.specs.WellFormed.{native_names, names_there}
 use Rattle.cc_laws_heap.specs.Sound.{IsSound, numbers_of}
 use Rattle.cc_laws_heap.proofs.Natives.{IsWellFormed-distinct}
@@ -35,7 +35,7 @@ use Rattle.cc_laws_snapshot.specs.Losing.{IsLoyal}
 use Rattle.cc_laws_snapshot.proofs.ReachedStays.{written-reached}
 use Rattle.cc_laws_snapshot.proofs.Handing.{register-reached, handed-loyal}
 use Rattle.cc_laws_snapshot.proofs.Handed.{TakesUp-take_up, TakesUp-with_native, made-living, Hands-register, Hands-slot, Still, Hands-still}
-use Rattle.cc_laws_snapshot.proofs.StillNatives.{Still-refl, Still-script_register, Still-exposed, Still-hold_script, Still-preserve, Still-set_entry, Still-put_in_script, Still-make_object, Hands-wrapped}
+use Rattle.cc_laws_snapshot.proofs.StillNatives.{Still-refl, Still-script_register, Still-exposed, Still-hold_script, Still-preserve, Still-set_entry, Still-put_in_script, Still-make_object, Still-make_proxy, Hands-wrapped}
 
 -- a native comes into a native register
 pub hold_native-loyal : {owned : List ℕ} (h : Heap) (d : ℕ) (x : Option Name) → d < bank_length → IsIn (native_names h) x → IsSound owned h → IsLoyal (view h) (view (hold_native h d x).heap)
@@ -102,6 +102,7 @@ effects-loyal {owned} h (Native d n) s r t u = make_native-loyal h d n (below-fi
     (leb-false h.limits.natives h.natives_made t.room) s
 effects-loyal {owned} h (Script d n) s r t u = still-loyal h (make_object h d Plain n None) s u (Still-make_object h d Plain n None)
 effects-loyal {owned} h (WeakMap d) s r t u = still-loyal h (make_object h d Map 0 None) s u (Still-make_object h d Map 0 None)
+effects-loyal {owned} h (Proxy d q) s r t u = still-loyal h (make_proxy h d (register h (S q))) s u (Still-make_proxy h d (register h (S q)))
 effects-loyal {owned} h (CopyNative d q) s r t u = hold_native-loyal h d (register h (N q)) (below-first d (is_register q) r) (native_register-there h q s.well_formed) s
 effects-loyal {owned} h (CopyScript d q) s r t u = still-loyal h (set_register h (S d) (register h (S q))) s u (Still-script_register h d (register h (S q)))
 effects-loyal {owned} h (Drop (N d)) s r t u = drop_native-loyal h d (ltb-true d bank_length r) s

@@ -3,7 +3,7 @@ use Rattle.std.proofs.Common.{◌≡◌, ℕ, ◌<◌, ◌≤◌, ◌⊎◌, ⊎
 use Rattle.cc_lists.specs.Members.{Among}
 use Rattle.cc_names.specs.declared.name.Name.{Name}
 use Rattle.cc_names.specs.Names.{native}
-use Rattle.cc_model.specs.Entries.{Entry}
+use Rattle.cc_model.specs.Entries.{Joint}
 use Rattle.cc_model.specs.Heap.{Heap}
 use Rattle.cc_model.specs.View.{View, view, between, scripts_there}
 use Rattle.cc_model.specs.Colours.{HasColourInvariant}
@@ -16,7 +16,7 @@ pub record IsGentleBut (loose : List Name) (made now_made : ℕ) (h k : View) : 
   pub as_often : (u w : Name) (c : ℕ) → Among (u, c) k.natives → ¬ (Among u k.buffer) → ¬ (Among u loose) →
       count_by (between w u) k.edges ≡ count_by (between w u) h.edges
   pub gray_edge : (x y : Name) → Among (x, y) k.edges → Among y k.gray → Among (x, y) h.edges × Among y h.gray
-  pub gray_entry : (e : Entry) → Among e k.entries → Among e.value k.gray → Among e h.entries × Among e.value h.gray
+  pub gray_joint : (e : Joint) → Among e k.joints → Among e.value k.gray → Among e h.joints × Among e.value h.gray
   pub black_stays : (x : Name) → Among x h.black → Among x k.black
   pub scripts_stay : (x : Name) → Among x (scripts_there h) → Among x (scripts_there k)
   pub lives : (i c : ℕ) → Among (native i, c) k.natives → ((d : ℕ) × Among (native i, d) h.natives) ⊎ (made < i)
@@ -36,7 +36,7 @@ IsGentleBut-registers made h names = record {
   outside = λ u c m o l. (m, o);
   as_often = λ u w c m o l. refl;
   gray_edge = λ x y m g. (m, g);
-  gray_entry = λ e m g. (m, g);
+  gray_joint = λ e m g. (m, g);
   black_stays = λ x m. m;
   scripts_stay = λ x m. m;
   lives = λ i c m. inl (c, m);
@@ -56,7 +56,7 @@ IsGentleBut-then loose made then_made now_made h k l a b caught = record {
   outside = λ u c m o n. let e = b.outside u c m o n in a.outside u c e.0 e.1 (caught u c m o);
   as_often = λ u w c m o n. let e = b.outside u c m o n in b.as_often u w c m o n ∙ a.as_often u w c e.0 e.1 (caught u c m o);
   gray_edge = λ x y m g. let e = b.gray_edge x y m g in a.gray_edge x y e.0 e.1;
-  gray_entry = λ d m g. let e = b.gray_entry d m g in a.gray_entry d e.0 e.1;
+  gray_joint = λ d m g. let e = b.gray_joint d m g in a.gray_joint d e.0 e.1;
   black_stays = λ x m. b.black_stays x (a.black_stays x m);
   scripts_stay = λ x m. b.scripts_stay x (a.scripts_stay x m);
   lives = λ i c m. ⊎_elim (λ e. a.lives i e.0 e.1) (λ new. inr (omega (arith, new, a.made_more))) (b.lives i c m);
@@ -73,7 +73,7 @@ IsGentle-from made now_made h k g c = record {
   outside = λ u c m o. g.outside u c m o (λ n. n);
   as_often = λ u w c m o. g.as_often u w c m o (λ n. n);
   gray_edge = g.gray_edge;
-  gray_entry = g.gray_entry;
+  gray_joint = g.gray_joint;
   black_stays = g.black_stays;
   scripts_stay = g.scripts_stay;
   lives = g.lives;

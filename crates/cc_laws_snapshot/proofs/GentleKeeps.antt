@@ -2,19 +2,19 @@
 use Rattle.std.proofs.Common.{ℕ, ◌≤◌, ⊎_elim, sym, ◌∙◌, subst, inl, inr, arith, Option}
 use Rattle.cc_names.specs.declared.name.Name.{Name}
 use Rattle.cc_names.specs.Names.{native}
-use Rattle.cc_model.specs.Entries.{Entry}
+use Rattle.cc_model.specs.Entries.{Joint}
 use Rattle.cc_model.specs.View.{View}
 use Rattle.cc_model.specs.Snapshot.{Snapshot, Mapping}
 use Rattle.cc_model.specs.Fresh.{IsLiving, MemberOf, IsMappingOf, IsFresh}
 use Rattle.cc_laws_snapshot.specs.Gentle.{IsGentle}
 
 module _ (made now_made : ℕ) (h k : View) (g : IsGentle made now_made h k) where
-  -- a mapping's member stays that of the entry: what is black stays black
+  -- a mapping's member stays that of the joint: what is black stays black
   MemberOf-stays : (member : Option Name) (x : Name) → MemberOf h member x → MemberOf k member x
   MemberOf-stays member x m = ⊎_elim (λ e. inl e) (λ b. inr (b.0, g.black_stays x b.1)) m
 
-  -- so a mapping stays that of the entry
-  IsMappingOf-stays : (e : Entry) (m : Mapping) → IsMappingOf h e m → IsMappingOf k e m
+  -- so a mapping stays that of the joint
+  IsMappingOf-stays : (e : Joint) (m : Mapping) → IsMappingOf h e m → IsMappingOf k e m
   IsMappingOf-stays e m i = record {
     value = i.value;
     the_map = MemberOf-stays m.the_map e.the_map i.the_map;
@@ -32,7 +32,7 @@ module _ (made now_made : ℕ) (h k : View) (g : IsGentle made now_made h k) whe
     as_held = λ u c w out t. f.as_held u c w (g.outside u c out.0 out.1) t ∙ sym (g.as_often u w c out.0 out.1);
     gray_noted = λ w y t e c. let b = g.gray_edge w y e c in f.gray_noted w y t b.0 b.1;
     gray_held = λ i y e c. let b = g.gray_edge (native i) y e c in f.gray_held i y b.0 b.1;
-    gray_value = λ e m c. let b = g.gray_entry e m c in let v = f.gray_value e b.0 b.1 in (v.0, v.1, IsMappingOf-stays e v.0 v.2);
+    gray_value = λ e m c. let b = g.gray_joint e m c in let v = f.gray_value e b.0 b.1 in (v.0, v.1, IsMappingOf-stays e v.0 v.2);
     colours = g.colours;
     from_node = f.from_node;
     to_node = f.to_node;

@@ -35,7 +35,7 @@ IsGentleBut-buffers loose made now_made h k early early_purple late late_purple 
   outside = λ u c m o n. ((g.outside u c m (λ b. o (kept u b)) (λ l. o (caught u c m l))).0, λ i. o (waits u c m i));
   as_often = λ u w c m o n. g.as_often u w c m (λ b. o (kept u b)) (λ l. o (caught u c m l));
   gray_edge = g.gray_edge;
-  gray_entry = g.gray_entry;
+  gray_joint = g.gray_joint;
   black_stays = g.black_stays;
   scripts_stay = g.scripts_stay;
   lives = g.lives;

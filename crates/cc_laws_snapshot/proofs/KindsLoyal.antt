@@ -10,7 +10,8 @@ use Rattle.cc_names.specs.declared.name.Name.{Name}
 use Rattle.cc_names.specs.declared.name.Name.TheVariants as name
 use Rattle.cc_names.specs.Names.{native, object, reflector, same_name, is_native, is_script}
 use Rattle.cc_names.proofs.NameTests.{same_name-exact}
-use Rattle.cc_model.specs.Entries.{Entry, joint, joints, rules_of}
+use Rattle.cc_model.proofs.Joints.{derived-by_joints}
+use Rattle.cc_model.specs.Entries.{Joint, rules_of}
 use Rattle.cc_model.specs.Heap.{Heap}
 use Rattle.cc_model.specs.View.{View, view, counted, ReachedIn, reached_in, view_rules, scripts_there}
 use Rattle.cc_model.specs.WellFormed.{IsWellFormed, script_names}
@@ -19,7 +20,7 @@ use Rattle.cc_model.specs.Suspected.{is_unreached, unreached_scripts, IsCovered,
 use Rattle.cc_laws_snapshot.proofs.NamePairs.{native-no_script}
 use Rattle.cc_laws_snapshot.proofs.Edges.{edge-of}
 use Rattle.cc_laws_snapshot.proofs.KindsFresh.{with_buffer}
-use Rattle.cc_laws_snapshot.proofs.SoundView.{there-script, named-there}
+use Rattle.cc_laws_snapshot.proofs.SoundView.{there-script, named-there, joint-there}
 use Rattle.cc_laws_snapshot.specs.Losing.{PurpleOrGone, IsLoyal}
 use Rattle.cc_laws_heap.proofs.ScriptNames.{script_names-named}
 
@@ -37,9 +38,9 @@ pub record IsNamed (v : View) : Type 0 where
   pub scripts : (x : Name) → IsScriptThere v x → is_script x ≡ true
   pub starts : (x y : Name) → Among (x, y) v.edges → IsLiving v x ⊎ IsScriptThere v x
 
--- the values of entries are script objects
+-- what joints give are script objects
 abbrev pub HasScriptValues : View → Type 0
-HasScriptValues v = (e : Entry) → Among e v.entries → is_script e.value ≡ true
+HasScriptValues v = (j : Joint) → Among j v.joints → is_script j.value ≡ true
 
 -- the script objects of the heaps are named as such
 abbrev pub HasScriptNames : Heap → Type 0
@@ -49,9 +50,9 @@ HasScriptNames h = (x : Name) → Among x (script_names h) → is_script x ≡ t
 pub HasScriptNames-well_formed : (h : Heap) → IsWellFormed h → HasScriptNames h
 HasScriptNames-well_formed h w x m = script_names-named h w x m
 
--- and for values of entries
+-- and for what joints give
 HasScriptValues-well_formed : (h : Heap) → IsWellFormed h → HasScriptValues (view h)
-HasScriptValues-well_formed h w e m = script_names-named h w e.value (w.entries e m).value
+HasScriptValues-well_formed h w j m = script_names-named h w j.value (joint-there h w j m).value
 
 -- the heaps' view is named, whatever stands in the buffer
 IsNamed-buffers : (h : Heap) (buffer purple : List Name) → HasScriptNames h → IsNamed (with_buffer buffer purple (view h))
@@ -125,13 +126,13 @@ module _ (v w : View) (candidates : List ℕ) (before : IsNamed v) (values : Has
   register-fine : (x : Name) → Among x v.registers → Fine x
   register-fine x m = grind (arith, derive-root, lost_or_reached-fine, script-fine)
 
-  -- the values of entries are fine
-  value-fine : (ps : List Name) (y : Name) → Among (ps, y) (rules_of v.joints) → Fine y
-  value-fine ps y m = grind (arith, Among-map_cases, script-fine)
+  -- what joints give is fine
+  value-fine : (j : Joint) → Among j v.joints → Fine j.value
+  value-fine j m = script-fine j.value (values j m)
 
   -- what was reached is fine
   reached-fine : (x : Name) → ReachedIn v x → Fine x
-  reached-fine = derived-within v.registers v.edges (rules_of v.joints) Fine register-fine along-fine (λ ps y m f. value-fine ps y m)
+  reached-fine = derived-by_joints v.registers v.edges v.joints Fine register-fine along-fine (λ j m a b. value-fine j m)
 
   -- what was purple is fine
   purple-fine : (x : Name) → Among x v.purple → Fine x

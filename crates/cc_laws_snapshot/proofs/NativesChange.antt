@@ -65,7 +65,7 @@ AreGentleBut-natives loose h ns bs made g = record {
         (Among-append (x, y) (flat_map native_edges ns) scripts m),
     c,
   );
-  gray_entry = λ e m c. (m, c);
+  gray_joint = λ e m c. (m, c);
   black_stays = λ x m. m;
   scripts_stay = λ x m. m;
   lives = λ i c m.

@@ -4,12 +4,13 @@ use Rattle.std.specs.List.{flat_map}
 use Rattle.std.proofs.lemmas.Bool.{eqb-true, cases_Bool}
 use Rattle.cc_lists.specs.Members.{Among}
 use Rattle.cc_lists.proofs.Members.{Among-map, Among-map_cases, Among-left, Among-right, Among-append, Among-flat_map, Among-flat_map_cases}
-use Rattle.cc_lists.proofs.Least.{derive-root, derive-along, derive-jointly, derived-within}
+use Rattle.cc_lists.proofs.Least.{derive-root, derive-along}
 use Rattle.cc_lists.proofs.ListWrites.{changed_where}
 use Rattle.cc_names.specs.declared.name.Name.{Name}
 use Rattle.cc_names.specs.Names.{native, is_script}
 use Rattle.cc_model.specs.Slots.{contents}
-use Rattle.cc_model.specs.Entries.{Entry, joint, joints, rules_of}
+use Rattle.cc_model.proofs.Joints.{derive-joint, derived-by_joints}
+use Rattle.cc_model.specs.Entries.{Joint, joints, rules_of}
 use Rattle.cc_model.specs.Heap.{Heap, HeapNative, HeapScript, change_native, with_native_slot}
 use Rattle.cc_model.specs.View.{view, native_edges, script_edges, ReachedIn}
 use Rattle.cc_model.specs.Cascade.{cascade, take_up}
@@ -25,7 +26,7 @@ use Rattle.cc_laws_heap.proofs.ViewEdges.{native_edges-are, script_edges-are}
 use Rattle.cc_laws_heap.proofs.ScriptNames.{script-named}
 use Rattle.cc_laws_heap.proofs.References.{native-there}
 use Rattle.cc_laws_snapshot.proofs.NamesAndEdges.{edges-alike}
-use Rattle.cc_laws_snapshot.proofs.SoundView.{one-native, edge-target}
+use Rattle.cc_laws_snapshot.proofs.SoundView.{one-native, edge-target, joint-there}
 
 -- Edges
 
@@ -64,11 +65,11 @@ native-edge_of h i y w m = ⊎_elim
 abbrev pub IsTidy : Heap → Type 0
 IsTidy h = (i : ℕ) (y : Name) → Among (native i, y) (view h).edges → ReachedIn (view h) (native i)
 
--- registers keep what they hold; so do objects that are reached and stay, and entries whose map and key stay
+-- registers keep what they hold; so do objects that are reached and stay, and joints whose map and key stay
 pub record KeepsReached (h k : Heap) : Type 0 where
   pub registers : (x : Name) → Among x (view h).registers → Among x (view k).registers
   pub edges : (x y : Name) → ReachedIn (view h) x → Among x (names_there k) → Among (x, y) (view h).edges → Among (x, y) (view k).edges
-  pub entries : (e : Entry) → Among e h.entries → Among e.the_map (names_there k) → Among e.key (names_there k) → Among e k.entries
+  pub joints : (j : Joint) → Among j (joints h.entries) → Among j.the_map (names_there k) → Among j.key (names_there k) → Among j (joints k.entries)
 
 module _ (h : Heap) (w : IsWellFormed h) where
   -- what a register holds is there
@@ -80,13 +81,10 @@ module _ (h : Heap) (w : IsWellFormed h) where
 
   -- What is reached is there.
   pub reached-there : (x : Name) → ReachedIn (view h) x → Among x (names_there h)
-  reached-there = derived-within (view h).registers (view h).edges (rules_of (joints h.entries)) (λ x. Among x (names_there h))
+  reached-there = derived-by_joints (view h).registers (view h).edges (joints h.entries) (λ x. Among x (names_there h))
       register-there
       (λ x y e d. edge-target h x y w e)
-      (λ ps y e d.
-      let f = Among-map_cases joint h.entries (ps, y) e in
-      subst (λ z. Among z (names_there h)) (ap (λ (p : List Name × Name). p.1) f.2)
-      (Among-right f.0.value (native_names h) (script_names h) (w.entries f.0 f.1).value))
+      (λ j m a b. Among-right j.value (native_names h) (script_names h) (joint-there h w j m).value)
 
 module _ (h k : Heap) (w : IsWellFormed k) (t : KeepsReached h k) where
   -- reached in both
@@ -98,7 +96,7 @@ module _ (h k : Heap) (w : IsWellFormed k) (t : KeepsReached h k) where
   reached-kept x r = (both x r).1
     where
       both : (x : Name) → ReachedIn (view h) x → InBoth x
-      both = derived-within (view h).registers (view h).edges (rules_of (joints h.entries)) InBoth
+      both = derived-by_joints (view h).registers (view h).edges (joints h.entries) InBoth
           (λ x m. (
             derive-root (view h).registers (view h).edges (rules_of (joints h.entries)) x m,
             derive-root (view k).registers (view k).edges (rules_of (joints k.entries)) x (t.registers x m),
@@ -107,15 +105,10 @@ module _ (h k : Heap) (w : IsWellFormed k) (t : KeepsReached h k) where
             derive-along (view h).registers (view h).edges (rules_of (joints h.entries)) x y e d.0,
             derive-along (view k).registers (view k).edges (rules_of (joints k.entries)) x y (t.edges x y d.0 (reached-there k w x d.1) e) d.1,
           ))
-          (λ ps y e d.
-          let f = Among-map_cases joint h.entries (ps, y) e in
-          let premises : f.0.the_map ∷ f.0.key ∷ [] ≡ ps = ap (λ (p : List Name × Name). p.0) f.2 in
-          let map_in : InBoth f.0.the_map = d f.0.the_map (subst (λ zs. Among f.0.the_map zs) premises (inl refl)) in
-          let key_in : InBoth f.0.key = d f.0.key (subst (λ zs. Among f.0.key zs) premises (inr (inl refl))) in
-          let left : Among f.0 k.entries = t.entries f.0 f.1 (reached-there k w f.0.the_map map_in.1) (reached-there k w f.0.key key_in.1) in (
-            derive-jointly (view h).registers (view h).edges (rules_of (joints h.entries)) ps y e (λ z m. (d z m).0),
-            derive-jointly (view k).registers (view k).edges (rules_of (joints k.entries)) ps y
-                (subst (λ p. Among p (rules_of (joints k.entries))) f.2 (Among-map joint f.0 k.entries left)) (λ z m. (d z m).1),
+          (λ j m a b. (
+            derive-joint (view h).registers (view h).edges (joints h.entries) j m a.0 b.0,
+            derive-joint (view k).registers (view k).edges (joints k.entries) j
+                (t.joints j m (reached-there k w j.the_map a.1) (reached-there k w j.key b.1)) a.1 b.1,
           ))
 
 -- Natives that leave
@@ -145,7 +138,7 @@ module _ (h k : Heap) (w : IsWellFormed h) (v : IsWellFormed k) (b : SameBeside 
         (λ l. Among-right (x, y) (flat_map native_edges k.natives) (flat_map script_edges k.scripts)
         (subst (λ os. Among (x, y) (flat_map script_edges os)) (sym b.scripts) l))
         (Among-append (x, y) (flat_map native_edges h.natives) (flat_map script_edges h.scripts) e);
-    entries = λ e m a c. subst (λ es. Among e es) (sym b.entries) m;
+    joints = λ j m a c. subst (λ es. Among j (joints es)) (sym b.entries) m;
   }
     where
       registers : (view k).registers ≡ (view h).registers
@@ -208,7 +201,7 @@ module _ (k : ℕ) (h g : Heap) (t : KeepsBut k h g) where
 
   -- what was reached is so, or that native is
   either : (x : Name) → ReachedIn (view h) x → Either x
-  either = derived-within (view h).registers (view h).edges (rules_of (joints h.entries)) Either
+  either = derived-by_joints (view h).registers (view h).edges (joints h.entries) Either
       (λ x m. inl (derive-root (view g).registers (view g).edges (rules_of (joints g.entries)) x (subst (λ rs. Among x rs) (sym t.registers) m)))
       (λ x y e d. ⊎_elim
       (λ a. ⊎_elim
@@ -216,18 +209,11 @@ module _ (k : ℕ) (h g : Heap) (t : KeepsBut k h g) where
       (λ s. inr (subst (ReachedIn (view g)) (sym s) a))
       (t.edges x y e))
       (λ a. inr a) d)
-      (λ ps y e d.
-      let f = Among-map_cases joint h.entries (ps, y) e in
-      let premises : f.0.the_map ∷ f.0.key ∷ [] ≡ ps = ap (λ (p : List Name × Name). p.0) f.2 in
-      let target : f.0.value ≡ y = ap (λ (p : List Name × Name). p.1) f.2 in
-      let here : Among f.0 g.entries = subst (λ es. Among f.0 es) (sym t.entries) f.1 in
-      ⊎_elim
+      (λ j m p q. ⊎_elim
       (λ a. ⊎_elim
-      (λ b. inl (subst (ReachedIn (view g)) target
-      (derive-jointly (view g).registers (view g).edges (rules_of (joints g.entries)) (f.0.the_map ∷ f.0.key ∷ []) f.0.value (Among-map joint f.0 g.entries here)
-      (λ z m. ⊎_elim (λ q. subst (ReachedIn (view g)) q a) (λ n. ⊎_elim (λ q. subst (ReachedIn (view g)) q b) (λ u. absurd u) n) m))))
-      (λ b. inr b) (d f.0.key (subst (λ zs. Among f.0.key zs) premises (inr (inl refl)))))
-      (λ a. inr a) (d f.0.the_map (subst (λ zs. Among f.0.the_map zs) premises (inl refl))))
+      (λ b. inl (derive-joint (view g).registers (view g).edges (joints g.entries) j (subst (λ es. Among j (joints es)) (sym t.entries) m) a b))
+      (λ b. inr b) q)
+      (λ a. inr a) p)
 
   -- That native stays reached.
   but-reached : ReachedIn (view h) (native k) → ReachedIn (view g) (native k)

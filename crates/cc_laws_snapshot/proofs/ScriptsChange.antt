@@ -1,5 +1,5 @@
 -- WHEN A CHANGE OF SCRIPT OBJECTS IS GENTLE.
-use Rattle.std.proofs.Common.{◌≡◌, ℕ, Bool, true, List, [], ◌∷◌, ◌++◌, map, sym, ◌∙◌, ap, subst, inl, ⊎_elim, arith, count_by, inr}
+use Rattle.std.proofs.Common.{◌≡◌, ℕ, Bool, true, List, [], ◌∷◌, ◌++◌, map, sym, ◌∙◌, ap, subst, inl, ◌⊎◌, ⊎_elim, arith, count_by, inr}
 use Rattle.std.specs.List.{flat_map}
 use Rattle.std.proofs.lemmas.Bool.{false≢true}
 use Rattle.std.proofs.lemmas.Grind.{flat_map-append}
@@ -10,6 +10,8 @@ use Rattle.cc_lists.proofs.Counting.{count_by-append, count_by-map}
 use Rattle.cc_names.specs.declared.name.Name.{Name}
 use Rattle.cc_names.specs.declared.kind.Colour.TheVariants.{Black}
 use Rattle.cc_names.specs.Names.{native, behind}
+use Rattle.cc_model.proofs.Places.{behind_edges, script_edges-split, script_edges-count, slot-place, delegate-place, script_place-cases}
+use Rattle.cc_model.specs.Places.{script_places_of}
 use Rattle.cc_model.specs.Slots.{Slots, contents, from_to}
 use Rattle.cc_model.specs.Heap.{Heap, HeapScript, is_gray_colour}
 use Rattle.cc_model.specs.View.{view, between, names_with, slot_edges, native_edges, script_slot_edges, script_edges}
@@ -25,7 +27,7 @@ use Rattle.cc_laws_snapshot.proofs.Marked.{names_in}
 use Rattle.cc_laws_snapshot.proofs.NativeParts.{none-to}
 use Rattle.cc_laws_snapshot.proofs.GentleBut.{AreGentle}
 use Rattle.cc_laws_heap.proofs.ViewEdges.{script_edges-are}
-use Rattle.cc_laws_snapshot.proofs.Edges.{script_edges-has}
+use Rattle.cc_laws_snapshot.proofs.Edges.{script_edges-has, place-there}
 
 -- the heaps with other script objects, once so many were made
 abbrev pub with_those_scripts : Heap → List HeapScript → ℕ → Heap
@@ -60,7 +62,7 @@ AreGentle-scripts h os made g = record {
         (Among-append (x, y) natives (flat_map script_edges os) m),
     was,
   );
-  gray_entry = λ e m c. (m, gray_before e.value c);
+  gray_joint = λ e m c. (m, gray_before e.value c);
   black_stays = λ x m. let f = names_with-is is_black h.scripts x m in subst (λ y. Among y (names_with is_black os)) f.3 (g.black f.0 f.1 f.2);
   scripts_stay = λ x m. there-named (with_those_scripts h os made) x (g.names x (named-there h x m));
   lives = λ i c m. inl (c, m);
@@ -80,10 +82,6 @@ pub record ScriptsEach (h : Heap) (f : HeapScript → HeapScript) : Type 0 where
   pub slots : (o : HeapScript) (y : Name) → Among y (contents (f o).slots) → Among y (view h).gray → Among y (contents o.slots)
   pub gray : (o : HeapScript) → is_gray (f o) ≡ true → is_gray o ≡ true
   pub black : (o : HeapScript) → is_black o ≡ true → is_black (f o) ≡ true
-
--- the edges of a script object beside its slots
-abbrev edges_behind : Name → List (Name × Name)
-edges_behind x = map (λ k. from_to x (native k)) (behind x)
 
 -- slots of script objects make no edge to a native
 slots-no_native : (h : Heap) (w x : Name) (k : ℕ) (slots : Slots) → IsWellFormed h → ((y : Name) → Among y (contents slots) → Among y (script_names h)) →
@@ -115,34 +113,43 @@ ScriptsGently-each h f v c = record {
     same w k o m =
         omega (
           arith,
-          count_by-append test (script_slot_edges (f o)) (edges_behind (f o).name),
-          count_by-append test (script_slot_edges o) (edges_behind o.name),
-          slots-no_native h w (f o).name k (f o).slots v (λ y i. c.changes.contents o m y i),
-          slots-no_native h w o.name k o.slots v (λ y i. v.script_contents o y m i),
-          ap (λ x. count_by test (edges_behind x)) (c.changes.name o),
+          script_edges-count test (f o),
+          script_edges-count test o,
+          slots-no_native h w (f o).name k (script_places_of (f o)) v changed_there,
+          slots-no_native h w o.name k (script_places_of o) v (place-there h v o m),
+          ap (λ x. count_by test (behind_edges x)) (c.changes.name o),
         )
       where
         test : Name × Name → Bool
         test = between w (native k)
 
+        changed_there : (y : Name) → Among y (contents (script_places_of (f o))) → Among y (script_names h)
+        changed_there y i = ⊎_elim (λ s. c.changes.contents o m y s) (λ e. v.delegate_there o y m (sym (c.changes.delegate o) ∙ e)) (script_place-cases (f o) y i)
+
+    places : (o : HeapScript) (y : Name) → Among y (contents (script_places_of (f o))) → Among y (view h).gray → Among y (contents (script_places_of o))
+    places o y i g = ⊎_elim (λ s. slot-place o y (c.slots o y s g)) (λ e. delegate-place o y (sym (c.changes.delegate o) ∙ e)) (script_place-cases (f o) y i)
+
     held : (o : HeapScript) (e : Name × Name) → Among e (script_edges (f o)) → Among e.1 (view h).gray → Among e (script_edges o)
     held o e m g =
         let p = script_edges-are (f o) e.0 e.1 m in
         script_edges-has o e.0 e.1 (sym (c.changes.name o) ∙ p.0)
-        (⊎_elim (λ y. inl (c.slots o e.1 y g)) (λ q. inr (q.0, sym (c.changes.name o) ∙ q.1, q.2)) p.1)
+        (⊎_elim (λ y. inl (places o e.1 y g)) (λ q. inr (q.0, sym (c.changes.name o) ∙ q.1, q.2)) p.1)
 
 -- A script object made
 
--- a black script object that holds nothing goes last; the native behind it is in the buffer
-pub ScriptsGently-push : (h : Heap) (o : HeapScript) → IsWellFormed h → o.colour ≡ Black → ((x : Name) → ¬ (Among x (contents o.slots))) →
+-- a black script object goes last that holds nothing but what is there and not gray; the native behind it is in the buffer
+pub ScriptsGently-push : (h : Heap) (o : HeapScript) → IsWellFormed h → o.colour ≡ Black →
+    ((x : Name) → Among x (contents (script_places_of o)) → Among x (script_names h) × (¬ (Among x (view h).gray))) →
     ((k : ℕ) → Among k (behind o.name) → Among (native k) (names_in h.buffer)) → ScriptsGently h (h.scripts ++ o ∷ [])
-ScriptsGently-push h o v is_it empty taken = record {
+ScriptsGently-push h o v is_it pale taken = record {
   as_often = λ w k out.
       let test = between w (native k) in
       let none : count_by test last ≡ 0 = count_by-none test last (λ e m. false-left (test e) (λ t.
-      let b = behind-edge e m in
-      let same : native b.0 ≡ native k = b.2 ∙ ap (λ (p : Name × Name). p.1) (between-true w (native k) e t) in
-      out (subst (λ x. Among x (names_in h.buffer)) same (taken b.0 b.1)))) in
+      let target : e.1 ≡ native k = ap (λ (p : Name × Name). p.1) (between-true w (native k) e t) in
+      ⊎_elim
+      (λ p. native-no_script h k v (subst (λ x. Among x (script_names h)) target p.0))
+      (λ b. out (subst (λ x. Among x (names_in h.buffer)) (b.2 ∙ target) (taken b.0 b.1)))
+      (last-edge e m))) in
       omega (
         arith,
         none,
@@ -151,7 +158,10 @@ ScriptsGently-push h o v is_it empty taken = record {
       );
   gray_edge = λ e i g. ⊎_elim
       (λ l. l)
-      (λ r. let b = behind-edge e r in absurd (native-no_script h b.0 v (subst (λ x. Among x (script_names h)) (sym b.2) (gray-named e.1 g))))
+      (λ r. absurd (⊎_elim
+      (λ p. p.1 g)
+      (λ b. native-no_script h b.0 v (subst (λ x. Among x (script_names h)) (sym b.2) (gray-named e.1 g)))
+      (last-edge e r)))
       (Among-append e (flat_map script_edges h.scripts) last (subst (λ es. Among e es) (flat_map-append script_edges h.scripts (o ∷ [])) i));
   gray = each-push (λ p. is_gray p ≡ true → Among p.name (view h).gray) h.scripts o
       (λ p m e. names_with-there is_gray h.scripts p m e) (λ e. absurd (false≢true (sym (ap is_gray_colour is_it) ∙ e)));
@@ -164,12 +174,14 @@ ScriptsGently-push h o v is_it empty taken = record {
     last : List (Name × Name)
     last = flat_map script_edges (o ∷ [])
 
-    behind-edge : (e : Name × Name) → Among e last → (k : ℕ) × Among k (behind o.name) × (native k ≡ e.1)
-    behind-edge e m = ⊎_elim
+    last-edge : (e : Name × Name) → Among e last →
+        (Among e.1 (script_names h) × (¬ (Among e.1 (view h).gray))) ⊎ ((k : ℕ) × Among k (behind o.name) × (native k ≡ e.1))
+    last-edge e m = ⊎_elim
         (λ l. ⊎_elim
-        (λ s. let f = Among-map_cases (from_to o.name) (contents o.slots) e s in absurd (empty f.0 f.1))
-        (λ b. let f = Among-map_cases (λ k. from_to o.name (native k)) (behind o.name) e b in (f.0, f.1, ap (λ (p : Name × Name). p.1) f.2))
-        (Among-append e (script_slot_edges o) (edges_behind o.name) l))
+        (λ s. let f = Among-map_cases (from_to o.name) (contents (script_places_of o)) e s in
+        inl (subst (λ x. Among x (script_names h) × (¬ (Among x (view h).gray))) (ap (λ (p : Name × Name). p.1) f.2) (pale f.0 f.1)))
+        (λ b. let f = Among-map_cases (λ k. from_to o.name (native k)) (behind o.name) e b in inr (f.0, f.1, ap (λ (p : Name × Name). p.1) f.2))
+        (Among-append e (script_slot_edges o) (behind_edges o.name) (subst (Among e) (script_edges-split o) l)))
         (λ t. absurd t)
         (Among-append e (script_edges o) [] m)
 

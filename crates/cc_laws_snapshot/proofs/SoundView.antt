@@ -6,12 +6,13 @@ use Rattle.cc_lists.proofs.Members.{Among-map, Among-map_cases, Among-left, Amon
 use Rattle.cc_lists.proofs.Counting.{count_by-map, count_by-append}
 use Rattle.cc_names.specs.declared.name.Name.{Name}
 use Rattle.cc_names.specs.declared.name.Name.TheVariants as name
-use Rattle.cc_names.specs.declared.kind.Colour.{Colour}
-use Rattle.cc_names.specs.declared.kind.Colour.TheVariants.{White, Gray, Black}
 use Rattle.cc_names.specs.Names.{native, reflector, same_name, number_of, is_native, is_script, behind}
 use Rattle.cc_names.proofs.NameTests.{same_name-true}
+use Rattle.cc_model.proofs.Places.{native_edges-split, script_edges-count}
+use Rattle.cc_model.proofs.Joints.{Gives, its_value, its_key, joint-cases}
+use Rattle.cc_model.specs.Places.{script_places_of}
 use Rattle.cc_model.specs.Slots.{contents, from_to}
-use Rattle.cc_model.specs.Entries.{Entry}
+use Rattle.cc_model.specs.Entries.{Entry, Joint, joints}
 use Rattle.cc_model.specs.Heap.{Heap, HeapNative, HeapScript, native_at, is_white_colour, is_gray_colour, is_black_colour}
 use Rattle.cc_model.specs.View.{View, view, to, counted, names_with, slot_edges, native_edges, script_slot_edges, script_edges}
 use Rattle.cc_model.specs.WellFormed.{IsWellFormed, native_names, script_names, names_there}
@@ -23,9 +24,9 @@ use Rattle.cc_laws_heap.proofs.Natives.{native_at-member, IsWellFormed-distinct}
 use Rattle.cc_laws_heap.proofs.References.{native-there}
 use Rattle.cc_lists.proofs.CountsOf.{false-left, count_by-none, count_by-agree, count_by-flat_map_same, count_by-flat_map_test}
 use Rattle.cc_laws_heap.proofs.NameLists.{same_name-sym}
-use Rattle.cc_laws_heap.proofs.ScriptNames.{script-named, script_names-named}
+use Rattle.cc_laws_heap.proofs.ScriptNames.{script-named, script_names-named, delegate-there}
 use Rattle.cc_laws_snapshot.proofs.NamePairs.{native-no_script}
-use Rattle.cc_laws_snapshot.proofs.Edges.{edge-of}
+use Rattle.cc_laws_snapshot.proofs.Edges.{edge-of, place-there}
 
 -- `made` is how many natives were ever made
 pub record IsSoundView (made : ℕ) (v : View) : Type 0 where
@@ -36,14 +37,14 @@ pub record IsSoundView (made : ℕ) (v : View) : Type 0 where
   pub counts : (u : Name) (c : ℕ) → Among (u, c) v.natives → c ≡ count_by (same_name u) v.registers + count_by (to u) v.edges
   -- script objects are no natives
   pub scripts : (x : Name) → IsScriptThere v x → is_script x ≡ true
-  -- what registers hold, where edges start and where they lead is there, and so are the values of entries
+  -- what registers hold, where edges start and where they lead is there, and so are the members of joints
   pub held_lives : (i : ℕ) → Among (native i) v.registers → IsLiving v (native i)
   pub source_lives : (i : ℕ) (y : Name) → Among (native i, y) v.edges → IsLiving v (native i)
   pub target_lives : (x : Name) (i : ℕ) → Among (x, native i) v.edges → IsLiving v (native i)
   pub target_there : (x y : Name) → Among (x, y) v.edges → is_script y ≡ true → IsScriptThere v y
-  pub map_there : (e : Entry) → Among e v.entries → IsScriptThere v e.the_map
-  pub key_there : (e : Entry) → Among e v.entries → IsScriptThere v e.key
-  pub value_there : (e : Entry) → Among e v.entries → IsScriptThere v e.value
+  pub map_there : (e : Joint) → Among e v.joints → IsScriptThere v e.the_map
+  pub key_there : (e : Joint) → Among e v.joints → IsScriptThere v e.key
+  pub value_there : (e : Joint) → Among e v.joints → IsScriptThere v e.value
 
 -- where the colours keep their invariant, a script object that is there is black or gray
 pub black-or_gray : (v : View) → HasColourInvariant v → (x : Name) → IsScriptThere v x → Among x v.black ⊎ Among x v.gray
@@ -102,7 +103,7 @@ pub edge-target : (h : Heap) (x y : Name) → IsWellFormed h → Among (x, y) (v
 edge-target h x y w m = ⊎_elim
     (λ a. ⊎_elim (w.native_contents a.0 y a.1)
     (λ p. Among-right y (native_names h) (script_names h) (subst (λ z. Among z (script_names h)) p.1 (w.preserved a.0 a.1 p.0))) a.3)
-    (λ a. ⊎_elim (λ i. Among-right y (native_names h) (script_names h) (w.script_contents a.0 y a.1 i))
+    (λ a. ⊎_elim (λ i. Among-right y (native_names h) (script_names h) (place-there h w a.0 a.1 y i))
     (λ p.
     let named : Among (reflector p.0) (script_names h) = subst (λ z. Among z (script_names h)) p.1 (Among-map (λ (o : HeapScript). o.name) a.0 h.scripts a.1) in
     Among-left y (native_names h) (script_names h) (subst (λ z. Among z (native_names h)) p.2 (w.reflected p.0 named))) a.3)
@@ -124,7 +125,7 @@ to-targets x k ys = count_by-map (to (native k)) (from_to x) ys ∙ count_by-agr
 
 -- a native's edges to natives are those of its slots
 native_edges-to : (n : HeapNative) (k : ℕ) → count_by (to (native k)) (native_edges n) ≡ count_by (same_name (native k)) (contents n.slots)
-native_edges-to n k = go n.preserved
+native_edges-to n k = ap (count_by (to (native k))) (native_edges-split n) ∙ go n.preserved
   where
     edge_by : Bool → List (Name × Name)
     edge_by b = elim b [ true ↦ from_to (native n.number) (reflector n.number) ∷ [] | false ↦ [] ]
@@ -138,8 +139,8 @@ script_edges-to : (h : Heap) (o : HeapScript) (k : ℕ) → IsWellFormed h → A
     count_by (to (native k)) (script_edges o) ≡ cond (same_name o.name (reflector k)) 1 0
 script_edges-to h o k w m =
     let slots : count_by (to (native k)) (script_slot_edges o) ≡ 0 =
-    to-targets o.name k (contents o.slots) ∙ none-native h k (contents o.slots) w (λ x i. w.script_contents o x m i) in
-    omega (arith, count_by-append (to (native k)) (script_slot_edges o) (map (λ j. from_to o.name (native j)) (behind o.name)), go o.name o.name)
+    to-targets o.name k (contents (script_places_of o)) ∙ none-native h k (contents (script_places_of o)) w (place-there h w o m) in
+    omega (arith, script_edges-count (to (native k)) o, go o.name o.name)
   where
     go : (x y : Name) → count_by (to (native k)) (map (λ j. from_to y (native j)) (behind x)) ≡ cond (same_name x (reflector k)) 1 0
     go (name.Native i) y = refl
@@ -188,6 +189,23 @@ named-made h i w m =
 pub script-place : (h : Heap) (x : Name) → is_script x ≡ true → Among x (names_there h) → Among x (script_names h)
 script-place h x e m = ⊎_elim (λ l. absurd (native-no_script x (native-name_of h x l) e)) (λ r. r) (Among-append x (native_names h) (script_names h) m)
 
+-- the members of a joint are script objects that are there
+pub record JointThere (h : Heap) (j : Joint) : Type 0 where
+  pub the_map : Among j.the_map (script_names h)
+  pub key : Among j.key (script_names h)
+  pub value : Among j.value (script_names h)
+
+-- so are those of each joint that an entry gives
+pub joint-there : (h : Heap) → IsWellFormed h → (j : Joint) → Among j (joints h.entries) → JointThere h j
+joint-there h w j i = let f = joint-cases h.entries j i in go f.0 f.1 j f.2
+  where
+    of_map : (e : Entry) → Among e h.entries → Among e.the_map (script_names h)
+    of_map e m = let o = (w.entries e m).the_map in subst (λ x. Among x (script_names h)) o.2 (Among-map (λ (p : HeapScript). p.name) o.0 h.scripts o.1)
+
+    go : (e : Entry) → Among e h.entries → (j : Joint) → Gives e j → JointThere h j
+    go e m _ its_value = record { the_map = of_map e m; key = (w.entries e m).key; value = (w.entries e m).value }
+    go e m _ (its_key d q) = record { the_map = of_map e m; key = delegate-there h w e d m q; value = (w.entries e m).key }
+
 -- The view of sound heaps is sound.
 pub IsSound-view : (h : Heap) → IsSound [] h → IsSoundView h.natives_made (view h)
 IsSound-view h s = record {
@@ -207,9 +225,9 @@ IsSound-view h s = record {
   source_lives = λ i y m. living-named h i (edge-source h i y w m);
   target_lives = λ x i m. living-named h i (native-there h i w (edge-target h x (native i) w m));
   target_there = λ x y m e. there-named h y (script-place h y e (edge-target h x y w m));
-  map_there = λ e m. let o = (w.entries e m).the_map in subst (IsScriptThere (view h)) o.2 (there-script h o.0 o.1);
-  key_there = λ e m. there-named h e.key (w.entries e m).key;
-  value_there = λ e m. there-named h e.value (w.entries e m).value;
+  map_there = λ e m. there-named h e.the_map (joint-there h w e m).the_map;
+  key_there = λ e m. there-named h e.key (joint-there h w e m).key;
+  value_there = λ e m. there-named h e.value (joint-there h w e m).value;
 }
   where
     w : IsWellFormed h

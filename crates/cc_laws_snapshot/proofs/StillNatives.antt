@@ -9,16 +9,16 @@ use Rattle.cc_names.specs.declared.name.Name.{Name}
 use Rattle.cc_names.specs.declared.name.Name.TheVariants as name
 use Rattle.cc_names.specs.declared.register.Reg.TheVariants.{S}
 use Rattle.cc_names.specs.declared.kind.Kind.{Kind}
-use Rattle.cc_names.specs.declared.kind.Kind.TheVariants.{Reflector}
+use Rattle.cc_names.specs.declared.kind.Kind.TheVariants.{Reflector, Proxy}
 use Rattle.cc_names.specs.Names.{native, object, reflector, same_name}
 use Rattle.cc_model.specs.Slots.{contents, reflector_slots}
 use Rattle.cc_model.specs.Entries.{Entry, with_entry, without_entry}
 use Rattle.cc_model.specs.Checks.{reflector_of}
-use Rattle.cc_model.specs.Heap.{Heap, HeapNative, HeapScript, set_register, change_script, with_script_slot, set_preserved, preserve, has_reflector}
+use Rattle.cc_model.specs.Heap.{Heap, HeapNative, HeapScript, set_register, change_script, with_script_slot, set_preserved, preserve, delegate_at, has_reflector}
 use Rattle.cc_model.specs.View.{view, buffered, ReachedIn}
 use Rattle.cc_model.specs.Cascade.{add_ref}
 use Rattle.cc_model.specs.Exposure.{exposed, exposed_names, as_black}
-use Rattle.cc_model.specs.Effects.{hold_script, make_object, with_reflector, wrapped, set_entry, put_in_script}
+use Rattle.cc_model.specs.Effects.{hold_script, make_object, make_proxy, with_reflector, wrapped, set_entry, put_in_script}
 use Rattle.cc_model.specs.WellFormed.{native_names, script_names}
 use Rattle.cc_laws_heap.specs.Freeing.{Uncounted}
 use Rattle.cc_laws_heap.proofs.Natives.{changed_at, changed_at-number, native_names-change}
@@ -111,7 +111,7 @@ Still-preserve h _ = Still-refl h
 pub Still-set_entry : (h : Heap) (m k v : Option Name) → Still h (set_entry h m k v)
 Still-set_entry h (Some m) (Some k) None = Still-entries h (without_entry h.entries m k)
 Still-set_entry h (Some m) (Some k) (Some v) = Still-trans h (preserve h (Some k)) (set_entry h (Some m) (Some k) (Some v))
-    (Still-preserve h (Some k)) (Still-entries (preserve h (Some k)) (with_entry h.entries m k v))
+    (Still-preserve h (Some k)) (Still-entries (preserve h (Some k)) (with_entry h.entries m k (delegate_at h k) v))
 Still-set_entry h _ _ v = Still-refl h
 
 -- a slot of what a script register holds, which is no native, written
@@ -127,16 +127,22 @@ Still-put_in_script h (Some (name.Reflector k)) i y none = Still-trans h (set_pr
 pub Still-script_last : (h : Heap) (o : HeapScript) (made : ℕ) → Still h (with_script_last h o made)
 Still-script_last h o made = Still-with h (with_script_last h o made) refl (λ i m. script_names-with_script h o made (reflector i) m) refl refl
 
--- a plain object or a weak map made, and a script register holds it
-pub Still-make_object : (h : Heap) (d : ℕ) (kind : Kind) (n : ℕ) → Still h (make_object h d kind n)
-Still-make_object h d kind n = Still-trans h (with_script_last h o made) (make_object h d kind n)
+-- a script object made, and a script register holds it
+pub Still-make_object : (h : Heap) (d : ℕ) (kind : Kind) (n : ℕ) (its_delegate : Option Name) → Still h (make_object h d kind n its_delegate)
+Still-make_object h d kind n its_delegate = Still-trans h (with_script_last h o made) (make_object h d kind n its_delegate)
     (Still-script_last h o made) (Still-script_register (with_script_last h o made) d (Some (object made)))
   where
     made : ℕ
     made = h.scripts_made + 1
 
     o : HeapScript
-    o = blank (object made) kind n
+    o = blank (object made) kind n its_delegate
+
+-- a proxy made, its delegate preserved first where it is a reflector
+pub Still-make_proxy : (h : Heap) (d : ℕ) (x : Option Name) → Still h (make_proxy h d x)
+Still-make_proxy h d None = Still-refl h
+Still-make_proxy h d (Some x) = Still-trans h (preserve h (Some x)) (make_proxy h d (Some x)) (Still-preserve h (Some x))
+    (Still-make_object (preserve h (Some x)) d Proxy 0 (Some x))
 
 -- Natives wrapped
 
@@ -169,6 +175,6 @@ Hands-wrapped h d (Some (name.Native k)) there = go (has_reflector h k.0)
     go false = Hands-taken h (add_ref h k.0) (set_register (with_reflector h k.0) (S d) (Some (reflector k.0))) (Some (native k.0))
         (TakesUp-add_ref h k.0) (native_names-alike h (add_ref h k.0) (HoldsTheSame-add_ref h k.0))
         (Still-trans (add_ref h k.0) (with_reflector h k.0) (set_register (with_reflector h k.0) (S d) (Some (reflector k.0)))
-        (Still-script_last (add_ref h k.0) (blank (reflector k.0) Reflector reflector_slots) h.scripts_made)
+        (Still-script_last (add_ref h k.0) (blank (reflector k.0) Reflector reflector_slots None) h.scripts_made)
         (Still-script_register (with_reflector h k.0) d (Some (reflector k.0))))
         (λ j m. register-reached (set_register (with_reflector h k.0) (S d) (Some (reflector k.0))) (native j) (there j m))

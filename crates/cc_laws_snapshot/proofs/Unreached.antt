@@ -12,7 +12,8 @@ use Rattle.cc_names.specs.declared.name.Name.{Name}
 use Rattle.cc_names.specs.declared.name.Name.TheVariants as name
 use Rattle.cc_names.specs.Names.{native, object, reflector, same_name, is_script}
 use Rattle.cc_names.proofs.NameTests.{same_name-refl, same_name-exact}
-use Rattle.cc_model.specs.Entries.{Entry, joint, joints, rules_of}
+use Rattle.cc_model.proofs.Joints.{derived-by_joints}
+use Rattle.cc_model.specs.Entries.{Joint}
 use Rattle.cc_model.specs.View.{View, ReachedIn, to, between, is_there}
 use Rattle.cc_model.specs.Snapshot.{NodeState, gone, traversed, Node, Snapshot, mapping_joint, noted_to, is_above, is_seed, seeds, black_in_rules, BlackIn, black_in, is_white, node_names, IsWhite}
 use Rattle.cc_model.specs.Fresh.{node, IsNode, IsTraversedNode, IsOutside, IsLiving, MemberOf, MemberIsNode, IsFresh, IsTraversed}
@@ -156,12 +157,12 @@ module _ (made : ℕ) (v : View) (s : Snapshot) (sound : IsSoundView made v) (fr
   along-kept x (name.Native i) m k = native-kept x i.0 m k
   along-kept x y m k = held-kept x y refl m k
 
-  -- a premise of an entry's mapping is a node, and kept where the entry's member is
+  -- a premise of a joint's mapping is a node, and kept where the joint's member is
   member-black : (m : Option Name) (x : Name) → MemberOf v m x → MemberIsNode s m → Kept x → (p : Name) → Among p (option_to_list m) → BlackIn v s p
   member-black m x o n k p i = grind (arith, kept-black)
 
-  -- the value of an entry is kept where map and key are
-  valued-kept : (e : Entry) → Among e v.entries → Kept e.the_map → Kept e.key → Kept e.value
+  -- what a joint gives is kept where its map and its key are
+  valued-kept : (e : Joint) → Among e v.joints → Kept e.the_map → Kept e.key → Kept e.value
   valued-kept e i first second =
       let there = sound.value_there e i in
       script-kept e.value (sound.scripts e.value there) (⊎_elim (λ b. inl b) (λ g.
@@ -177,12 +178,7 @@ module _ (made : ℕ) (v : View) (s : Snapshot) (sound : IsSoundView made v) (fr
 
   -- what is reached is kept
   reached-kept : (x : Name) → ReachedIn v x → Kept x
-  reached-kept = derived-within v.registers v.edges (rules_of v.joints) Kept root-kept along-kept
-      (λ qs y i f.
-      let k = Among-map_cases joint v.entries (qs, y) i in
-      let first : Among k.0.the_map qs = subst (Among k.0.the_map) (ap (λ (e : List Name × Name). e.0) k.2) (inl refl) in
-      let second : Among k.0.key qs = subst (Among k.0.key) (ap (λ (e : List Name × Name). e.0) k.2) (inr (inl refl)) in
-      subst Kept (ap (λ (e : List Name × Name). e.1) k.2) (valued-kept k.0 k.1 (f k.0.the_map first) (f k.0.key second)))
+  reached-kept = derived-by_joints v.registers v.edges v.joints Kept root-kept along-kept valued-kept
 
   -- A native that is white is unreached.
   pub white-unreached : (i : ℕ) → IsWhite v s (native i) → ¬ (ReachedIn v (native i))

@@ -3,7 +3,7 @@ use Rattle.std.specs.Prelude.{◌≡◌, ℕ, ◌<◌, ◌≤◌, ◌⊎◌, cou
 use Rattle.cc_lists.specs.Members.{Among}
 use Rattle.cc_names.specs.declared.name.Name.{Name}
 use Rattle.cc_names.specs.Names.{native}
-use Rattle.cc_model.specs.Entries.{Entry}
+use Rattle.cc_model.specs.Entries.{Joint}
 use Rattle.cc_model.specs.View.{View, between, scripts_there}
 use Rattle.cc_model.specs.Colours.{HasColourInvariant}
 
@@ -17,7 +17,7 @@ pub record IsGentle (made now_made : ℕ) (h k : View) : Type 0 where
   pub as_often : (u w : Name) (c : ℕ) → Among (u, c) k.natives → ¬ (Among u k.buffer) → count_by (between w u) k.edges ≡ count_by (between w u) h.edges
   -- no gray object gains a holder, a key or a map, and none becomes gray
   pub gray_edge : (x y : Name) → Among (x, y) k.edges → Among y k.gray → Among (x, y) h.edges × Among y h.gray
-  pub gray_entry : (e : Entry) → Among e k.entries → Among e.value k.gray → Among e h.entries × Among e.value h.gray
+  pub gray_joint : (e : Joint) → Among e k.joints → Among e.value k.gray → Among e h.joints × Among e.value h.gray
   -- what is black stays black; script objects stay
   pub black_stays : (x : Name) → Among x h.black → Among x k.black
   pub scripts_stay : (x : Name) → Among x (scripts_there h) → Among x (scripts_there k)

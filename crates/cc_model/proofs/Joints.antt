@@ -36,6 +36,11 @@ joint-cases es j m =
     by_key e None is m = absurd m
     by_key e (Some d) is m = ⊎_elim (λ q. subst (Gives e) q (its_key d is)) (λ n. absurd n) m
 
+-- What an entry gives is one of the joints.
+pub gives-joint : (es : List Entry) (e : Entry) (j : Joint) → Among e es → Gives e j → Among j (joints es)
+gives-joint es e _ m its_value = value-joint es e m
+gives-joint es e _ m (its_key d q) = delegate-joint es e d m q
+
 -- LEAST SETS that are closed under joints
 module _ (roots : List Name) (edges : List (Name × Name)) (js : List Joint) where
   pub derive-joint : (j : Joint) → Among j js → Least (system roots edges (rules_of js)) j.the_map → Least (system roots edges (rules_of js)) j.key →
