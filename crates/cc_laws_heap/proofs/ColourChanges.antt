@@ -15,7 +15,7 @@ use Rattle.cc_model.specs.Heap.{Heap, HeapScript, with_script_slot}
 use Rattle.cc_model.specs.View.{script_slot_edges}
 use Rattle.cc_model.specs.Exposure.{slots_of_scripts, exposure_rules, exposed, exposed_names, as_black}
 use Rattle.cc_model.specs.Places.{script_places_of}
-use Rattle.cc_model.proofs.Places.{slot-place}
+use Rattle.cc_model.proofs.Places.{slot-place, delegate-place, script_place-cases}
 use Rattle.cc_lists.proofs.ListWrites.{Among-flat_map_set, changed_where, changed_where-either, each-map, each-push}
 use Rattle.cc_laws_heap.proofs.ScriptsKept.{has_name, is_one_of}
 use Rattle.cc_laws_heap.proofs.Coloured.{AreColoured, IsColoured}

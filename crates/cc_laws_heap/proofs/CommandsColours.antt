@@ -8,7 +8,7 @@ use Rattle.cc_names.specs.declared.name.Name.{Name}
 use Rattle.cc_names.specs.declared.name.Name.TheVariants as name
 use Rattle.cc_names.specs.declared.register.Reg.TheVariants.{N, S}
 use Rattle.cc_names.specs.declared.kind.Kind.{Kind}
-use Rattle.cc_names.specs.declared.kind.Kind.TheVariants.{Plain, Reflector, Map}
+use Rattle.cc_names.specs.declared.kind.Kind.TheVariants.{Plain, Reflector, Map, Proxy as proxy_kind}
 use Rattle.cc_names.specs.declared.kind.Colour.TheVariants.{Black}
 use Rattle.cc_names.specs.Names.{object, reflector}
 use Rattle.cc_model.specs.declared.command.Command.{Command}
@@ -21,6 +21,7 @@ use Rattle.cc_model.specs.Exposure.{exposed}
 use Rattle.cc_model.specs.Effects.{effects, put_in_register, hold_native, store_native, make_native, make_object, with_reflector, wrapped, put_in_script, set_entry, make_proxy}
 use Rattle.cc_model.specs.WellFormed.{IsWellFormed, script_names}
 use Rattle.cc_model.specs.Places.{script_places_of}
+use Rattle.cc_model.proofs.Places.{script_place-cases}
 use Rattle.cc_laws_heap.specs.Sound.{IsSound}
 use Rattle.cc_lists.proofs.ListWrites.{each-push}
 use Rattle.cc_laws_heap.proofs.Making.{contents-empty_none}
@@ -32,6 +33,7 @@ use Rattle.cc_laws_heap.proofs.Coloured.{AreColoured, IsColoured}
 use Rattle.cc_laws_heap.proofs.ColourChanges.{IsHeldBlack, AreColoured-register, AreColoured-slot, AreColoured-push, exposed-coloured, exposed-black}
 use Rattle.cc_laws_heap.proofs.NativesKeepScripts.{SameScripts-coloured, put_in_register-scripts, hold_native-scripts, store_native-scripts, make_native-scripts}
 use Rattle.cc_laws_heap.proofs.Owning.{IsIn}
+use Rattle.cc_laws_heap.proofs.ScriptsKept.{preserve-sound, preserve-scripts}
 
 -- Script registers
 

@@ -13,7 +13,7 @@ use Rattle.cc_names.specs.declared.kind.Colour.TheVariants.{Black}
 use Rattle.cc_names.specs.Names.{native, object, reflector, same_name, number_of}
 use Rattle.cc_names.proofs.NameTests.{same_name-true, same_name-refl}
 use Rattle.cc_model.specs.Slots.{empty_slots, reflector_slots}
-use Rattle.cc_model.specs.Entries.{entry, with_entry}
+use Rattle.cc_model.specs.Entries.{entry, with_entry, Entry}
 use Rattle.cc_model.specs.Checks.{is_map_in, reflector_of}
 use Rattle.cc_model.specs.Heap.{Heap, HeapScript, script_at, slots_in, slots_of_script, slots_of_kind, set_register, objects_of, has_reflector, preserve, delegate_at}
 use Rattle.cc_model.specs.Cascade.{add_ref}
@@ -29,7 +29,7 @@ use Rattle.cc_laws_heap.proofs.Owning.{IsIn, add_ref-sound}
 use Rattle.cc_laws_heap.proofs.Writes.{script_register-sound, set_preserved-sound}
 use Rattle.cc_laws_heap.proofs.MadeSound.{with_script-sound}
 use Rattle.cc_laws_heap.proofs.EntriesKept.{with_entry-sound, without_entry-sound}
-use Rattle.cc_laws_heap.proofs.ScriptsKept.{native-no_script, script_names-exposed, exposed-sound}
+use Rattle.cc_laws_heap.proofs.ScriptsKept.{native-no_script, script_names-exposed, exposed-sound, script_names-preserve, preserve-room, preserve-sound}
 use Rattle.cc_laws_heap.proofs.Holding.{has_reflector-there, has_reflector-none}
 use Rattle.cc_laws_heap.proofs.ScriptNames.{delegate_at-found}
 

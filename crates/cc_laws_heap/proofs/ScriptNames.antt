@@ -8,6 +8,7 @@ use Rattle.cc_lists.proofs.Searching.{find-only}
 use Rattle.cc_names.specs.declared.name.Name.{Name}
 use Rattle.cc_names.specs.declared.kind.Kind.{Kind}
 use Rattle.cc_names.specs.Names.{native, same_name, is_script}
+use Rattle.cc_names.proofs.NameTests.{same_name-refl}
 use Rattle.cc_model.specs.Slots.{Slots}
 use Rattle.cc_model.specs.Entries.{Entry}
 use Rattle.cc_model.specs.Heap.{Heap, HeapScript, delegate_at, script_at}
