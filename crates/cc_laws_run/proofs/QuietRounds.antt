@@ -106,5 +106,5 @@ collected-reached h s t x m =
       registers = λ x m. derive-root v.registers v.edges (rules_of v.joints) x m;
       holder = collect_scripts-tidy h s t;
       edges = λ x y e r. derive-along v.registers v.edges (rules_of v.joints) x y e r;
-      entries = λ ps y e d. derive-jointly v.registers v.edges (rules_of v.joints) ps y e d;
+      joints = λ j m a b. derive-joint v.registers v.edges v.joints j m a b;
     }) x m

@@ -29,7 +29,7 @@ pub record Spares (ds : List Name) (v w : View) : Type 0 where
   pub buffer : (x : Name) → Among x ds → Among x w.buffer → Among x v.buffer
   pub black : (x : Name) → Among x ds → Among x w.black → Among x v.black
   pub edges : (x y : Name) → Among y ds → Among (x, y) w.edges → Among (x, y) v.edges
-  pub entries : (e : Entry) → Among e.value ds → Among e w.entries → Among e v.entries
+  pub joints : (e : Joint) → Among e.value ds → Among e w.joints → Among e v.joints
   pub within : (x y : Name) → Among x ds → Among y ds → Among (x, y) v.edges → Among (x, y) w.edges
 
 -- What is doomed stays so where it is spared.
@@ -41,7 +41,7 @@ doomed-spared s ds v w p d = record {
   unbuffered = λ x m r. d.unbuffered x m (p.buffer x m r);
   unmarked = λ x m r. d.unmarked x m (p.black x m r);
   holder = λ x y e m. d.holder x y (p.edges x y m e) m;
-  joint = λ e i m. d.joint e (p.entries e m i) m;
+  joint = λ e i m. d.joint e (p.joints e m i) m;
   noter = d.noter;
   mapper = d.mapper;
   covered = λ x m. covered x (d.covered x m) m;
