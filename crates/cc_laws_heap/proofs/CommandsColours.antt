@@ -69,7 +69,7 @@ blank-coloured h d x kind n its_delegate unknown black c = AreColoured-register 
     (λ o m i. black o m (subst (λ y. Among o.name (option_to_list y)) (sym (blank-holds x kind n its_delegate o.name i)) (inl refl))) c)
 
 -- a plain object, a weak map or a proxy is made black
-make_object-coloured : (h : Heap) (d : ℕ) (kind : Kind) (n : ℕ) (its_delegate : Option Name) → IsWellFormed h → IsHeldBlack h.scripts its_delegate → IsColoured h →
+pub make_object-coloured : (h : Heap) (d : ℕ) (kind : Kind) (n : ℕ) (its_delegate : Option Name) → IsWellFormed h → IsHeldBlack h.scripts its_delegate → IsColoured h →
     IsColoured (make_object h d kind n its_delegate)
 make_object-coloured h d kind n its_delegate w black c = blank-coloured h d (object (h.scripts_made + 1)) kind n its_delegate
     (λ m. let made : h.scripts_made + 1 ≤ h.scripts_made = (w.object_numbers (h.scripts_made + 1) m).1 in absurd (omega arith)) black c

@@ -1,30 +1,32 @@
 -- WHAT IS MADE, AND WHAT IS EXPOSED, keeps every snapshot fresh.
-use Rattle.std.proofs.Common.{◌≡◌, ℕ, ◌+◌, ◌<◌, ◌≤◌, Bool, true, false, List, [], ◌∷◌, ◌++◌, Option, Some, None, refl, sym, subst, inl, ⊎_elim}
+use Rattle.std.proofs.Common.{◌≡◌, ℕ, ◌+◌, ◌<◌, ◌≤◌, Bool, true, false, Option, Some, None, is_some, refl, ap, inl}
 use Rattle.cc_lists.specs.Members.{Among}
-use Rattle.cc_lists.proofs.Members.{Among-map}
 use Rattle.cc_names.specs.declared.name.Name.{Name}
 use Rattle.cc_names.specs.declared.name.Name.TheVariants as name
 use Rattle.cc_names.specs.declared.kind.Kind.{Kind}
 use Rattle.cc_names.specs.declared.kind.Kind.TheVariants.{Reflector}
-use Rattle.cc_names.specs.declared.kind.Colour.TheVariants.{Black}
+use Rattle.cc_names.specs.declared.kind.Colour.{Colour}
+use Rattle.cc_names.specs.declared.kind.Colour.TheVariants.{White, Gray, Black}
 use Rattle.cc_names.specs.Names.{native, object, reflector}
 use Rattle.cc_names.specs.Sizes.{bank_length, most_slots}
 use Rattle.cc_model.specs.Slots.{empty_slots, reflector_slots}
-use Rattle.cc_model.specs.Heap.{Heap, HeapScript, has_reflector}
+use Rattle.cc_model.specs.Heap.{Heap, is_gray_colour, has_reflector}
+use Rattle.cc_model.specs.View.{view}
 use Rattle.cc_model.specs.Effects.{make_native, make_object, with_reflector, wrapped}
 use Rattle.cc_model.specs.Exposure.{exposed}
-use Rattle.cc_model.specs.WellFormed.{FitsName, native_names, script_names}
+use Rattle.cc_model.specs.WellFormed.{FitsName, is_proxy_kind, native_names, script_names}
 use Rattle.cc_model.specs.Snapshot.{Snapshot}
 use Rattle.cc_laws_heap.specs.Sound.{IsSound}
-use Rattle.cc_lists.proofs.ListWrites.{each-push}
-use Rattle.cc_laws_heap.proofs.Making.{contents-empty_none}
+use Rattle.cc_laws_heap.proofs.CommandsColours.{blank-holds, make_object-coloured}
+use Rattle.cc_laws_heap.proofs.Owning.{IsIn}
 use Rattle.cc_laws_heap.proofs.ScriptsKept.{exposed-sound}
-use Rattle.cc_laws_heap.proofs.ScriptCommands.{blank, IsNewScript-object, make_object-sound, with_reflector-sound}
+use Rattle.cc_laws_heap.proofs.ScriptCommands.{blank, make_object-sound, with_reflector-sound}
 use Rattle.cc_laws_heap.proofs.NativeCommands.{make_native-sound}
 use Rattle.cc_laws_heap.proofs.NativesKeepScripts.{SameScripts-coloured, make_native-scripts}
-use Rattle.cc_laws_heap.proofs.Coloured.{IsColoured}
-use Rattle.cc_laws_heap.proofs.ColourChanges.{AreColoured-register, AreColoured-push, exposed-coloured}
-use Rattle.cc_laws_snapshot.specs.Kinds.{IsFreshIn, IsNativeThere}
+use Rattle.cc_laws_heap.proofs.Coloured.{IsColoured, is_gray, names_with-there}
+use Rattle.cc_laws_heap.proofs.ColourChanges.{IsHeldBlack, AreColoured-push, exposed-coloured}
+use Rattle.cc_laws_snapshot.specs.Kinds.{IsFreshIn, IsNativeThere, IsNotGrayIn, IsThereIn, IsScriptObject}
+use Rattle.cc_laws_snapshot.proofs.SoundView.{named-there}
 use Rattle.cc_laws_snapshot.proofs.NativesHeld.{make_native-gentle}
 use Rattle.cc_laws_snapshot.proofs.ScriptParts.{exposed-gentle, make_object-gentle, with_reflector-gentle}
 use Rattle.cc_laws_snapshot.proofs.KindsFresh.{fresh-coloured}
@@ -36,6 +38,15 @@ native_made-fresh owned h s d n sound room few allowed =
     fresh-coloured h (make_native h d n).heap sound.well_formed (make_native-sound owned h d n room few allowed sound).well_formed
     (make_native-gentle owned h d n room few allowed sound)
     (SameScripts-coloured h (make_native h d n).heap (make_native-scripts h d n)) s
+
+-- where none is white, what is not gray is black
+not_gray-black : (h : Heap) (x : Option Name) → IsColoured h → IsNotGrayIn (view h) x → IsHeldBlack h.scripts x
+not_gray-black h x c pale o m i = go o.colour refl
+  where
+    go : (k : Colour) → o.colour ≡ k → k ≡ Black
+    go White e = absurd (c.none_white o m e)
+    go Gray e = absurd (pale o.name i (names_with-there is_gray h.scripts o m (ap is_gray_colour e)))
+    go Black e = refl
 
 -- A script object is made, and a register holds it; a delegate that it has is a script object that is there and not gray.
 pub object_made-fresh : (owned : List ℕ) (h : Heap) (s : Snapshot) (d : ℕ) (kind : Kind) (n : ℕ) (its_delegate : Option Name) → IsSound owned h →
