@@ -1,5 +1,5 @@
 -- Names of script objects are none of natives'.
-use Rattle.std.proofs.Common.{arith, ◌≡◌, ℕ, true, false, subst, ◌≤◌, ◌∙◌, ap, count_by, Some, option_and_then}
+use Rattle.std.proofs.Common.{arith, ◌≡◌, ℕ, true, false, subst, ◌≤◌, ◌∙◌, ap, count_by, Some, option_and_then, ⊎_elim}
 use Rattle.std.proofs.Math.Path.{fun_ext}
 use Rattle.cc_lists.specs.Members.{Among}
 use Rattle.cc_lists.proofs.Members.{Among-map_cases}
@@ -9,7 +9,9 @@ use Rattle.cc_names.specs.declared.name.Name.{Name}
 use Rattle.cc_names.specs.declared.kind.Kind.{Kind}
 use Rattle.cc_names.specs.Names.{native, same_name, is_script}
 use Rattle.cc_names.proofs.NameTests.{same_name-refl}
-use Rattle.cc_model.specs.Slots.{Slots}
+use Rattle.cc_model.proofs.Places.{script_place-cases}
+use Rattle.cc_model.specs.Places.{script_places_of}
+use Rattle.cc_model.specs.Slots.{Slots, contents}
 use Rattle.cc_model.specs.Entries.{Entry}
 use Rattle.cc_model.specs.Heap.{Heap, HeapScript, delegate_at, script_at}
 use Rattle.cc_model.specs.WellFormed.{IsWellFormed, FitsName, script_names}
@@ -61,3 +63,7 @@ script_at-member h w o m = find-only (λ (p : HeapScript). same_name p.name o.na
 -- and its delegate with it
 pub delegate_at-found : (h : Heap) → IsWellFormed h → (o : HeapScript) → Among o h.scripts → delegate_at h o.name ≡ o.delegate
 delegate_at-found h w o m = ap (λ p. option_and_then (λ (q : HeapScript). q.delegate) p) (script_at-member h w o m)
+
+-- what a place of a script object holds is there
+pub place-there : (h : Heap) → IsWellFormed h → (o : HeapScript) → Among o h.scripts → (x : Name) → Among x (contents (script_places_of o)) → Among x (script_names h)
+place-there h w o m x i = ⊎_elim (λ s. w.script_contents o x m s) (λ e. w.delegate_there o x m e) (script_place-cases o x i)

@@ -16,7 +16,7 @@ use Rattle.cc_laws_heap.specs.Sound.{IsSound}
 use Rattle.cc_laws_heap.specs.Freeing.{SameBeside}
 use Rattle.cc_laws_heap.specs.Rounds.{FreesNames, is_not_among}
 use Rattle.cc_laws_heap.proofs.Cascades.{IsBalanced-at_rest, IsSound-steady}
-use Rattle.cc_laws_heap.proofs.ScriptNames.{script-named, scripts-once}
+use Rattle.cc_laws_heap.proofs.ScriptNames.{script-named, scripts-once, place-there}
 use Rattle.cc_laws_heap.proofs.TakenOut.{TakesOut, TakesOut-silently}
 use Rattle.cc_laws_heap.specs.Balance.{IsSteady}
 use Rattle.cc_laws_heap.specs.Stages.{stage}
@@ -40,7 +40,7 @@ module _ {owned : List ℕ} (h : Heap) (c : HasColours h) (s : IsSound owned h) 
       record {
         steady = record { distinct = b.distinct; counts = b.counts; queue = b.queue; buffer = b.buffer };
         named = script-named h s.well_formed;
-        bare = λ o i m j. native-no_script h i s.well_formed (s.well_formed.script_contents o (native i) m j);
+        bare = λ o i m j. native-no_script h i s.well_formed (place-there h s.well_formed o m (native i) j);
         distinct = scripts-once h s.well_formed;
         there = λ x m.
             let f = unmarked-white h x m in

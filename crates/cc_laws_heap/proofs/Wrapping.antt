@@ -124,10 +124,10 @@ module _ (h : Heap) (g : Graph) (k : ℕ) (w : IsWellFormed h) (m : IsWellMade g
       go : (o : Option Slots) → n.reflector ≡ o → (e : Entry) → Among e g.entries → (e.the_map ≢ reflector k) × (e.key ≢ reflector k) × (e.delegate ≢ Some (reflector k))
       go None r = unmade-no_entry g m (reflector k) (unmade r)
       go (Some slots) r = λ e j. (
-          (λ q. apart (sym (m.entries e j).the_map.1 ∙ q)),
-          (s.blank k n slots i p r).1 e j,
-          (λ q. entry-delegate g e (m.entries e j) (reflector k) (no-delegate p) q),
-        )
+        (λ q. apart (sym (m.entries e j).the_map.1 ∙ q)),
+        (s.blank k n slots i p r).1 e j,
+        (λ q. entry-delegate g e (m.entries e j) (reflector k) (no-delegate p) q),
+      )
         where
           apart : {a b : ℕ} → object a ≡ reflector b → ⊥
           apart q = cc

@@ -8,6 +8,7 @@ use Rattle.cc_model.specs.declared.item.Event.{Event}
 use Rattle.cc_model.specs.declared.item.Event.TheVariants.{Freed, Unlinked}
 use Rattle.cc_model.specs.Slots.{contents}
 use Rattle.cc_model.specs.Heap.{Heap, HeapNative, HeapScript, native_at, set_slot, set_preserved, suspect, forget}
+use Rattle.cc_model.specs.Places.{script_places_of}
 use Rattle.cc_model.specs.Cascade.{add_ref, lower, removed, natives_of_slots}
 use Rattle.cc_model.specs.Sweep.{without_script}
 use Rattle.cc_model.specs.WellFormed.{native_names}
@@ -54,13 +55,13 @@ pub data Ending (ks : List ℕ) : Stage → List Event → Stage → Type 0 wher
       Ending ks (stage hand [] h) [] (stage (numbers_of x ++ hand) [] (set_slot h (Some (native k)) i None))
   unpreserved : (hand : List ℕ) (h : Heap) (k : ℕ) → Among k ks → Ending ks (stage hand [] h) [] (stage hand [] (set_preserved h k false))
 
--- no script object has a native in a slot
+-- no script object has a native in a slot or as its delegate
 abbrev pub HoldNoNatives : Heap → Type 0
-HoldNoNatives h = (o : HeapScript) (i : ℕ) → Among o h.scripts → ¬ (Among (native i) (contents o.slots))
+HoldNoNatives h = (o : HeapScript) (i : ℕ) → Among o h.scripts → ¬ (Among (native i) (contents (script_places_of o)))
 
 -- WHAT A SWEEP DOES besides
 pub data Sweeping : Stage → List Event → Stage → Type 0 where
-  -- a plain script object or a weak map is told and taken out
+  -- a plain script object, a weak map or a proxy is told and taken out
   swept_object : (h : Heap) (k : ℕ) → HoldNoNatives h → Sweeping (stage [] [] h) (Freed (object k) ∷ []) (stage [] [] (without_script h (object k)))
   -- a reflector is told and taken out: its reference to its native is in hand
   swept_reflector : (h : Heap) (k : ℕ) → HoldNoNatives h →

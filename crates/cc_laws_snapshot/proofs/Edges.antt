@@ -5,10 +5,9 @@ use Rattle.cc_lists.specs.Members.{Among}
 use Rattle.cc_lists.proofs.Members.{Among-append, Among-flat_map_cases, Among-right, Among-left, Among-map}
 use Rattle.cc_names.specs.declared.name.Name.{Name}
 use Rattle.cc_names.specs.Names.{native, reflector, behind}
-use Rattle.cc_model.proofs.Places.{preserved_edge, native_edges-split, behind_edges, script_edges-split, script_place-cases}
+use Rattle.cc_model.proofs.Places.{preserved_edge, native_edges-split, behind_edges, script_edges-split}
 use Rattle.cc_model.specs.Heap.{Heap, HeapNative, HeapScript}
 use Rattle.cc_model.specs.Places.{script_places_of}
-use Rattle.cc_model.specs.WellFormed.{IsWellFormed, script_names}
 use Rattle.cc_model.specs.View.{view, native_edges, script_edges, slot_edges, script_slot_edges}
 use Rattle.cc_laws_heap.proofs.ViewEdges.{NativeHas, ScriptHas, native_edges-are, script_edges-are}
 use Rattle.cc_model.specs.Slots.{from_to, contents}
@@ -34,10 +33,6 @@ native_edges-has n x y start held = subst (λ z. Among (z, y) (native_edges n)) 
     go : (b : Bool) → b ≡ true → reflector n.number ≡ y → Among (native n.number, y) (elim b [ true ↦ from_to (native n.number) (reflector n.number) ∷ [] | false ↦ [] ])
     go true e same = inl (ap (from_to (native n.number)) same)
     go false e same = absurd (false≢true e)
-
--- what a place of a script object holds is there
-pub place-there : (h : Heap) → IsWellFormed h → (o : HeapScript) → Among o h.scripts → (x : Name) → Among x (contents (script_places_of o)) → Among x (script_names h)
-place-there h w o m x i = ⊎_elim (λ s. w.script_contents o x m s) (λ e. w.delegate_there o x m e) (script_place-cases o x i)
 
 -- what a script object has is an edge of it
 pub script_edges-has : (o : HeapScript) (x y : Name) → o.name ≡ x → ScriptHas o y → Among (x, y) (script_edges o)

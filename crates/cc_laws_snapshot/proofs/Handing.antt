@@ -16,6 +16,7 @@ use Rattle.cc_model.specs.WellFormed.{IsWellFormed, native_names, script_names}
 use Rattle.cc_model.specs.Fresh.{IsLiving}
 use Rattle.cc_laws_heap.specs.Sound.{IsSound, numbers_of}
 use Rattle.cc_laws_heap.proofs.ScriptsKept.{native-no_script as script-no_native}
+use Rattle.cc_laws_heap.proofs.ScriptNames.{place-there}
 use Rattle.cc_laws_snapshot.proofs.NamePairs.{native-no_script}
 use Rattle.cc_laws_snapshot.proofs.Edges.{edge-of, script_edges-has, native_edges-has}
 use Rattle.cc_laws_snapshot.specs.Losing.{PurpleOrGone, Loses, IsLoyal}
@@ -36,7 +37,7 @@ edge-to h x i w m = ⊎_elim
     (λ s. inl (a.0, a.1, a.2, s))
     (λ p. absurd (native-no_script (native i) refl (subst (λ z. is_script z ≡ true) p.1 refl))) a.3)
     (λ a. ⊎_elim
-    (λ s. absurd (script-no_native h i w (w.script_contents a.0 (native i) a.1 s)))
+    (λ s. absurd (script-no_native h i w (place-there h w a.0 a.1 (native i) s)))
     (λ p.
     let same : a.0.name ≡ reflector i = p.1 ∙ ap (λ z. reflector (number_of z)) p.2 in
     inr (sym same ∙ a.2, subst (λ z. Among z (script_names h)) same (Among-map (λ (o : HeapScript). o.name) a.0 h.scripts a.1))) a.3)

@@ -27,7 +27,8 @@ use Rattle.cc_laws_snapshot.proofs.Marked.{names_in}
 use Rattle.cc_laws_snapshot.proofs.NativeParts.{none-to}
 use Rattle.cc_laws_snapshot.proofs.GentleBut.{AreGentle}
 use Rattle.cc_laws_heap.proofs.ViewEdges.{script_edges-are}
-use Rattle.cc_laws_snapshot.proofs.Edges.{script_edges-has, place-there}
+use Rattle.cc_laws_snapshot.proofs.Edges.{script_edges-has}
+use Rattle.cc_laws_heap.proofs.ScriptNames.{place-there}
 
 -- the heaps with other script objects, once so many were made
 abbrev pub with_those_scripts : Heap → List HeapScript → ℕ → Heap

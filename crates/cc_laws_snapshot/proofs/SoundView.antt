@@ -24,9 +24,9 @@ use Rattle.cc_laws_heap.proofs.Natives.{native_at-member, IsWellFormed-distinct}
 use Rattle.cc_laws_heap.proofs.References.{native-there}
 use Rattle.cc_lists.proofs.CountsOf.{false-left, count_by-none, count_by-agree, count_by-flat_map_same, count_by-flat_map_test}
 use Rattle.cc_laws_heap.proofs.NameLists.{same_name-sym}
-use Rattle.cc_laws_heap.proofs.ScriptNames.{script-named, script_names-named, delegate-there}
+use Rattle.cc_laws_heap.proofs.ScriptNames.{script-named, script_names-named, delegate-there, place-there}
 use Rattle.cc_laws_snapshot.proofs.NamePairs.{native-no_script}
-use Rattle.cc_laws_snapshot.proofs.Edges.{edge-of, place-there}
+use Rattle.cc_laws_snapshot.proofs.Edges.{edge-of}
 
 -- `made` is how many natives were ever made
 pub record IsSoundView (made : ℕ) (v : View) : Type 0 where

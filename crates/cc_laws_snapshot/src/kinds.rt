@@ -22,9 +22,9 @@ ghost use Rattle.cc_laws_snapshot.specs.KindsSuspected.{IsSuspectedIn, IsSuspect
 /// overwritten reference is not given up yet, count as purple in the buffer.
 ///
 /// The kinds: a native is made, and a register holds it; a script object is made; a native gets a reference, or a
-/// reflector; a register, a slot, a flag or an entry is written, where no script object that is named then is gray, and
-/// a native that is put into a slot stands in the buffer; something is exposed; a reference is given up; the front of
-/// the queue leaves.
+/// reflector; a register, a slot, a flag or an entry is written, where no script object that is named then, or is the
+/// delegate of the one that is made, is gray, and a native that is put into a slot stands in the buffer; something is
+/// exposed; a reference is given up; the front of the queue leaves.
 pub fn kinds_of_change_keep_fresh()
     ensures native_made { (owned : List ℕ) (h : Heap) (s : Snapshot) (d n : ℕ) → IsSound owned h → d < bank_length → n ≤ most_slots →
         h.natives_made < h.limits.natives → IsFreshIn h s → IsFreshIn (make_native h d n).heap s }

@@ -27,10 +27,13 @@ pub data Gives (e : Entry) : Joint → Type 0 where
 -- and there is nothing else.
 pub joint-cases : (es : List Entry) (j : Joint) → Among j (joints es) → (e : Entry) × Among e es × Gives e j
 joint-cases es j m =
-    let f = Among-flat_map_cases joints_of es j m in
-    (f.0, f.1, ⊎_elim (by_key f.0 f.0.delegate refl)
-    (λ r. ⊎_elim (λ is. subst (Gives f.0) is its_value) (λ n. absurd n) r)
-    (Among-append j (key_joint f.0.the_map f.0.delegate f.0.key) (joint f.0.the_map f.0.key f.0.value ∷ []) f.2))
+    let f = Among-flat_map_cases joints_of es j m in (
+      f.0,
+      f.1,
+      ⊎_elim (by_key f.0 f.0.delegate refl)
+          (λ r. ⊎_elim (λ is. subst (Gives f.0) is its_value) (λ n. absurd n) r)
+          (Among-append j (key_joint f.0.the_map f.0.delegate f.0.key) (joint f.0.the_map f.0.key f.0.value ∷ []) f.2),
+    )
   where
     by_key : (e : Entry) (d : Option Name) → e.delegate ≡ d → Among j (key_joint e.the_map d e.key) → Gives e j
     by_key e None is m = absurd m
