@@ -2,7 +2,7 @@
 use Rattle.std.proofs.Common.{arith, ◌≡◌, Bool, true, false, not, List, [], ◌∷◌, ◌++◌, map, Some, None, sym, ◌∙◌, ap, subst, inl, inr, ◌⊎◌, ⊎_elim}
 use Rattle.std.specs.List.{filter, flat_map}
 use Rattle.std.proofs.lemmas.Bool.{false≢true}
-use Rattle.cc_model.specs.Places.{places_of_native}
+use Rattle.cc_model.specs.Places.{places_of_native, script_places_of}
 use Rattle.cc_model.proofs.Places.{behind_edges, script_edges-split}
 use Rattle.cc_lists.specs.Members.{Among, has}
 use Rattle.cc_lists.specs.Least.{Least, system}
@@ -14,7 +14,7 @@ use Rattle.cc_names.specs.declared.kind.Colour.TheVariants.{Black}
 use Rattle.cc_names.specs.Names.{native, same_name, is_script}
 use Rattle.cc_names.proofs.NameTests.{same_name-exact}
 use Rattle.cc_model.specs.Slots.{contents, from_to}
-use Rattle.cc_model.specs.Entries.{Entry, joint, joints, rules_of}
+use Rattle.cc_model.specs.Entries.{Entry, joint, joints, rules_of, Joint}
 use Rattle.cc_model.specs.Heap.{Heap, HeapNative, HeapScript, Buffered, is_black_colour, is_gray_in}
 use Rattle.cc_model.specs.View.{view, buffered, native_edges, script_edges, script_slot_edges, view_rules, ReachedIn, reached_in, scripts_there}
 use Rattle.cc_model.specs.WellFormed.{HasMembers, native_names, script_names, names_there}
@@ -25,6 +25,7 @@ use Rattle.cc_model.specs.Units.{candidates_of, if_gray, mapping_of, mappings_of
 use Rattle.cc_model.specs.Sweep.{unmarked, collect_scripts}
 use Rattle.cc_model.specs.Fresh.{IsNode, IsScriptThere, IsFresh}
 use Rattle.cc_model.specs.Suspected.{is_unreached, unreached_scripts, IsCovered, IsSuspected}
+use Rattle.cc_model.proofs.Joints.{derived-by_joints, derive-joint}
 use Rattle.cc_laws_heap.specs.Sound.{IsSound}
 use Rattle.cc_laws_heap.proofs.Marking.{colour_of-black, black-decided}
 use Rattle.cc_laws_heap.proofs.MarkedKept.{marked-other}
@@ -33,7 +34,7 @@ use Rattle.cc_laws_heap.proofs.ViewEdges.{native_edges-are}
 use Rattle.cc_laws_heap.proofs.Coloured.{is_black-true}
 use Rattle.cc_laws_heap.proofs.References.{native-there}
 use Rattle.cc_laws_snapshot.proofs.Edges.{edge-of}
-use Rattle.cc_laws_snapshot.proofs.SoundView.{living-named, there-named, named-there, black-or_gray, script-place}
+use Rattle.cc_laws_snapshot.proofs.SoundView.{living-named, there-named, named-there, black-or_gray, script-place, JointThere, joint-there}
 use Rattle.cc_laws_snapshot.proofs.NodeUnit.{gray-tested}
 use Rattle.cc_laws_snapshot.proofs.Beginning.{begun-fresh}
 use Rattle.cc_laws_run.specs.Doomed.{IsMember, IsDoomed, garbage}

@@ -12,13 +12,14 @@ use Rattle.cc_names.specs.declared.name.Name.TheVariants as name
 use Rattle.cc_names.specs.Names.{native, same_name, is_script}
 use Rattle.cc_names.proofs.NameTests.{same_name-true, same_name-exact}
 use Rattle.cc_model.specs.Slots.{contents, from_to}
-use Rattle.cc_model.specs.Entries.{joints, rules_of}
+use Rattle.cc_model.specs.Entries.{joints, rules_of, Joint}
 use Rattle.cc_model.specs.Heap.{Heap, HeapNative}
 use Rattle.cc_model.specs.View.{view, counted, to, native_edges}
 use Rattle.cc_model.specs.WellFormed.{native_names, script_names, names_there}
 use Rattle.cc_model.specs.Exposure.{slots_of_scripts}
 use Rattle.cc_model.specs.Colours.{HasColours, IsBlack, IsMarked, black_rules, black_names, scripts_held_by, scripts_held}
 use Rattle.cc_model.specs.Sweep.{unmarked, collect_scripts}
+use Rattle.cc_model.proofs.Joints.{derived-by_joints}
 use Rattle.cc_laws_heap.specs.Sound.{IsSound}
 use Rattle.cc_laws_heap.proofs.MarkedKept.{marked-other}
 use Rattle.cc_laws_heap.proofs.CollectedColours.{collect_scripts-sound, collect_scripts-colours, collect_scripts-unmarked}

@@ -21,6 +21,7 @@ use Rattle.cc_laws_run.proofs.LeftThere.{collected-has}
 use Rattle.cc_laws_run.proofs.SpentViews.{IsLess, IsLess-refl, IsLess-trans, spent-less}
 use Rattle.cc_laws_snapshot.proofs.ReachedStays.{native-edge, script-edge, native_edges-alike}
 use Rattle.cc_laws_run.proofs.TouchedViews.{edge-cases}
+use Rattle.cc_laws_run.proofs.JointLists.{joints-within}
 
 -- A round only takes away.
 round-less : (h : Heap) → IsSound [] h → IsLess h (sweep (marked h)).heap
