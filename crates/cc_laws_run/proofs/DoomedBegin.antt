@@ -76,10 +76,10 @@ module _ (h : Heap) where
 
   -- what is black by the rules is reached
   pub black-reached : (x : Name) → IsBlack h x → ReachedIn (view h) x
-  black-reached = derived-within (contents h.script_registers) (slots_of_scripts h) (rules_of (joints h.entries)) (ReachedIn (view h))
+  black-reached = derived-by_joints (contents h.script_registers) (slots_of_scripts h) (joints h.entries) (ReachedIn (view h))
       (λ x m. derive-root (view h).registers (view h).edges (rules_of (joints h.entries)) x (Among-right x (contents h.native_registers) (contents h.script_registers) m))
       (λ x y e d. derive-along (view h).registers (view h).edges (rules_of (joints h.entries)) x y (slot-edge x y e) d)
-      (λ ps y e d. derive-jointly (view h).registers (view h).edges (rules_of (joints h.entries)) ps y e d)
+      (derive-joint (view h).registers (view h).edges (joints h.entries))
 
   -- where the colours are those of marking, a black script object is reached
   pub coloured_black-reached : HasColours h → (x : Name) → Among x (view h).black → ReachedIn (view h) x
@@ -125,9 +125,9 @@ module _ (h : Heap) (sound : IsSound [] h) (c : HasColours h) (none : unmarked h
   out-back : (x y : Name) → Among (x, y) (view h).edges → ¬ (ReachedIn (view h) y) → ¬ (ReachedIn (view h) x)
   out-back x y e out r = out (derive-along (view h).registers (view h).edges (rules_of (joints h.entries)) x y e r)
 
-  -- the value of an entry is there
-  value-there : (e : Entry) → Among e h.entries → Among e.value (script_names h)
-  value-there e m = (sound.well_formed.entries e m).value
+  -- the members of a joint, and what it gives, are there
+  members-there : (j : Joint) → Among j (joints h.entries) → JointThere h j
+  members-there = joint-there h sound.well_formed
 
   -- an unreached script object that a native holds is reached from a node
   held-from : (y : Name) → Among y (scripts_held h) → Among y (script_names h) → ¬ (ReachedIn (view h) y) → FromNode y
@@ -141,15 +141,15 @@ module _ (h : Heap) (sound : IsSound [] h) (c : HasColours h) (none : unmarked h
       from-along (native f.0.number) y edge
       (from-node (native f.0.number) (fresh.gray_held f.0.number y edge (unreached-gray h sound c none invariant y there out)))
 
-  -- the value of an entry that is unreached is a node
-  value-from : (e : Entry) → Among e h.entries → ¬ (ReachedIn (view h) e.value) → FromNode e.value
+  -- what a joint gives that is unreached is a node
+  value-from : (e : Joint) → Among e (joints h.entries) → ¬ (ReachedIn (view h) e.value) → FromNode e.value
   value-from e m out =
-      let g = fresh.gray_value e m (unreached-gray h sound c none invariant e.value (value-there e m) out) in
+      let g = fresh.gray_value e m (unreached-gray h sound c none invariant e.value (members-there e m).value out) in
       subst FromNode g.2.value (from-node g.0.value (fresh.members g.0 g.1).value)
 
   -- so is one that is marked
   marked-from : (x : Name) → IsMarked h x → Among x (script_names h) → ¬ (ReachedIn (view h) x) → FromNode x
-  marked-from = derived-within (black_names h ++ scripts_held h) (slots_of_scripts h) (rules_of (joints h.entries))
+  marked-from = derived-by_joints (black_names h ++ scripts_held h) (slots_of_scripts h) (joints h.entries)
       (λ x. Among x (script_names h) → ¬ (ReachedIn (view h) x) → FromNode x)
       (λ x m there out. ⊎_elim
       (λ b. absurd (out (black-reached h x (closure-derived same_name same_name-exact (black_rules h) x b))))
@@ -158,15 +158,12 @@ module _ (h : Heap) (sound : IsSound [] h) (c : HasColours h) (none : unmarked h
       (λ x y e d there out.
       let edge : Among (x, y) (view h).edges = slot-edge h x y e in
       let f = Among-flat_map_cases script_slot_edges h.scripts (x, y) e in
-      let g = Among-map_cases (from_to f.0.name) (contents f.0.slots) (x, y) f.2 in
+      let g = Among-map_cases (from_to f.0.name) (contents (script_places_of f.0)) (x, y) f.2 in
       let named : f.0.name ≡ x = ap (λ (p : Name × Name). p.0) g.2 in
       let source : Among x (script_names h) =
       subst (λ z. Among z (script_names h)) named (Among-map (λ (o : HeapScript). o.name) f.0 h.scripts f.1) in
       from-along x y edge (d source (out-back x y edge out)))
-      (λ ps y e d there out.
-      let f = Among-map_cases joint h.entries (ps, y) e in
-      let value : f.0.value ≡ y = ap (λ (p : List Name × Name). p.1) f.2 in
-      subst FromNode value (value-from f.0 f.1 (subst (λ z. ¬ (ReachedIn (view h) z)) (sym value) out)))
+      (λ j m a b there out. value-from j m out)
 
   -- an unreached script object is reached from a node
   script-from : (x : Name) → Among x (script_names h) → ¬ (ReachedIn (view h) x) → FromNode x
@@ -210,23 +207,15 @@ module _ (h : Heap) (sound : IsSound [] h) (c : HasColours h) (none : unmarked h
       (λ r. script-from x r (garbage-out h x m))
       (Among-append x (native_names h) (script_names h) (garbage-is_there h x m))
 
-  -- an entry with an unreached value has an unreached map or key
-  garbage-joint : (e : Entry) → Among e h.entries → Among e.value (garbage h) → Among e.the_map (garbage h) ⊎ Among e.key (garbage h)
+  -- a joint that gives what is unreached has an unreached member
+  garbage-joint : (e : Joint) → Among e (joints h.entries) → Among e.value (garbage h) → Among e.the_map (garbage h) ⊎ Among e.key (garbage h)
   garbage-joint e m b = ⊎_elim
       (λ r. ⊎_elim
-      (λ t. absurd (garbage-out h e.value b (derive-jointly (view h).registers (view h).edges (rules_of (joints h.entries)) (e.the_map ∷ e.key ∷ []) e.value
-      (Among-map joint e h.entries m)
-      (λ y i. ⊎_elim (λ s. subst (ReachedIn (view h)) s r) (λ l. ⊎_elim (λ s. subst (ReachedIn (view h)) s t) (λ n. absurd n) l) i))))
-      (λ out. inr (garbage-there h e.key (Among-right e.key (native_names h) (script_names h) members.key) out))
+      (λ t. absurd (garbage-out h e.value b (derive-joint (view h).registers (view h).edges (joints h.entries) e m r t)))
+      (λ out. inr (garbage-there h e.key (Among-right e.key (native_names h) (script_names h) (members-there e m).key) out))
       (reached_cases (view h) e.key))
-      (λ out. inl (garbage-there h e.the_map (Among-right e.the_map (native_names h) (script_names h) map_there) out))
+      (λ out. inl (garbage-there h e.the_map (Among-right e.the_map (native_names h) (script_names h) (members-there e m).the_map) out))
       (reached_cases (view h) e.the_map)
-    where
-      members : HasMembers h e
-      members = sound.well_formed.entries e m
-
-      map_there : Among e.the_map (script_names h)
-      map_there = let o = members.the_map in subst (λ z. Among z (script_names h)) o.2 (Among-map (λ (p : HeapScript). p.name) o.0 h.scripts o.1)
 
   -- what is gray is a member of the mapping
   if_gray-some : (x : Name) → Among x (view h).gray → if_gray h x ≡ Some x
@@ -239,17 +228,15 @@ module _ (h : Heap) (sound : IsSound [] h) (c : HasColours h) (none : unmarked h
   -- a mapping with a garbage value has a garbage member
   garbage-mapper : (m : Mapping) → Among m (mappings_of h) → Among m.value (garbage h) → (p : Name) × IsMember p m × Among p (garbage h)
   garbage-mapper m i b =
-      let f = Among-map_cases (mapping_of h) (filter (λ (e : Entry). is_gray_in h e.value) h.entries) m i in
-      let e : Entry = f.0 in
-      let there : Among e h.entries = Among-filtered (λ (d : Entry). is_gray_in h d.value) e h.entries f.1 in
-      let members = sound.well_formed.entries e there in
-      let o = members.the_map in
-      let map_there : Among e.the_map (script_names h) = subst (λ z. Among z (script_names h)) o.2 (Among-map (λ (p : HeapScript). p.name) o.0 h.scripts o.1) in
+      let f = Among-map_cases (mapping_of h) (filter (λ (e : Joint). is_gray_in h e.value) (joints h.entries)) m i in
+      let e : Joint = f.0 in
+      let there : Among e (joints h.entries) = Among-filtered (λ (d : Joint). is_gray_in h d.value) e (joints h.entries) f.1 in
+      let members = members-there e there in
       let value : e.value ≡ m.value = ap (λ (n : Mapping). n.value) f.2 in
       let the_map : if_gray h e.the_map ≡ m.the_map = ap (λ (n : Mapping). n.the_map) f.2 in
       let key : if_gray h e.key ≡ m.key = ap (λ (n : Mapping). n.key) f.2 in
       ⊎_elim
-      (λ l. (e.the_map, inl (sym the_map ∙ if_gray-some e.the_map (garbage-gray e.the_map map_there l)), l))
+      (λ l. (e.the_map, inl (sym the_map ∙ if_gray-some e.the_map (garbage-gray e.the_map members.the_map l)), l))
       (λ r. (e.key, inr (sym key ∙ if_gray-some e.key (garbage-gray e.key members.key r)), r))
       (garbage-joint e there (subst (λ z. Among z (garbage h)) (sym value) b))
 

@@ -32,15 +32,15 @@ pub record PassesOn (h : Heap) (P : Name → Type 0) : Type 0 where
   pub registers : (x : Name) → Among x (view h).registers → P x
   pub holder : (k : ℕ) (y : Name) → Among (native k, y) (view h).edges → P (native k)
   pub edges : (x y : Name) → Among (x, y) (view h).edges → P x → P y
-  pub entries : (ps : List Name) (y : Name) → Among (ps, y) (rules_of (joints h.entries)) → ((p : Name) → Among p ps → P p) → P y
+  pub joints : (j : Joint) → Among j (joints h.entries) → P j.the_map → P j.key → P j.value
 
 module _ (h : Heap) (s : IsSound [] h) (c : HasColours h) (none : unmarked h ≡ []) (P : Name → Type 0) (p : PassesOn h P) where
   -- what is black has it
   black-has : (x : Name) → IsBlack h x → P x
-  black-has = derived-within (contents h.script_registers) (slots_of_scripts h) (rules_of (joints h.entries)) P
+  black-has = derived-by_joints (contents h.script_registers) (slots_of_scripts h) (joints h.entries) P
       (λ x m. p.registers x (Among-right x (contents h.native_registers) (contents h.script_registers) m))
       (λ x y e k. p.edges x y (slot-edge h x y e) k)
-      p.entries
+      p.joints
 
   -- what a native holds has it
   held-has : (y : Name) → Among y (scripts_held h) → P y
@@ -53,13 +53,13 @@ module _ (h : Heap) (s : IsSound [] h) (c : HasColours h) (none : unmarked h ≡
 
   -- what is marked has it
   marked-has : (x : Name) → IsMarked h x → P x
-  marked-has = derived-within (black_names h ++ scripts_held h) (slots_of_scripts h) (rules_of (joints h.entries)) P
+  marked-has = derived-by_joints (black_names h ++ scripts_held h) (slots_of_scripts h) (joints h.entries) P
       (λ x m. ⊎_elim
       (λ b. black-has x (closure-derived same_name same_name-exact (black_rules h) x b))
       (λ l. held-has x l)
       (Among-append x (black_names h) (scripts_held h) m))
       (λ x y e k. p.edges x y (slot-edge h x y e) k)
-      p.entries
+      p.joints
 
   -- a script object has it
   script-has : (x : Name) → Among x (script_names h) → P x

@@ -50,3 +50,4 @@ pub mod FollowedAsks
 pub mod WholeRuns
 pub mod Witnesses
 pub mod Face
+mod JointLists

@@ -140,8 +140,8 @@ module _ (h : Heap) (g : Graph) (sound : IsSound [] h) (well : IsWellMade g) (st
           ⊎_elim (λ i. garbage-out h y b (subst (ReachedIn (view h)) (ap native i ∙ target) s.reached)) (λ n. n) own
 
   -- the graph has the native as it is there, with a reflector
-  spare-no_key : (x : Name) → Among x (garbage h) → (s : IsSpare x) → IsNoKey g (reflector s.own.number)
-  spare-no_key x b s = (stands.blank n.number m has.0 made.1 (ap (λ (t : Shape). t.preserved) same ∙ s.blank) has.1).1
+  spare-blank : (x : Name) → Among x (garbage h) → (s : IsSpare x) → IsNoKey g (reflector s.own.number) × IsNoDelegate g (reflector s.own.number)
+  spare-blank x b s = (stands.blank n.number m has.0 made.1 (ap (λ (t : Shape). t.preserved) same ∙ s.blank) has.1).1
     where
       n : HeapNative
       n = s.own
@@ -178,16 +178,29 @@ module _ (h : Heap) (g : Graph) (sound : IsSound [] h) (well : IsWellMade g) (st
           go None e f = absurd (cc)
           go (Some slots) e f = (slots, e)
 
-  -- a map or key of an entry that is garbage is lost
-  member-lost : (e : Entry) → Among e h.entries → (x : Name) → (e.the_map ≡ x) ⊎ (e.key ≡ x) → Among x (garbage h) → Among x (lost h)
-  member-lost e there x i b = ⊎_elim (λ l. l)
-      (λ s. absurd (⊎_elim
-      (λ a.
+  -- a spare reflector is no map, no key and no delegate of an entry
+  spare-no_map : (e : Entry) → Among e h.entries → (x : Name) → Among x (garbage h) → IsSpare x → ¬ (e.the_map ≡ x)
+  spare-no_map e there x b s a =
       let o = (sound.well_formed.entries e there).the_map in
       subst (λ k. FitsName (reflector s.own.number) k o.0.slots) o.3
-      (subst (λ z. FitsName z o.0.kind o.0.slots) (o.2 ∙ (a ∙ s.named)) (sound.well_formed.kinds o.0 o.1)))
-      (λ a. spare-no_key x b s e (ArePart-among h.entries g.entries e stands.entries there) (a ∙ s.named)) i))
-      (lost-or_spare x b)
+      (subst (λ z. FitsName z o.0.kind o.0.slots) (o.2 ∙ (a ∙ s.named)) (sound.well_formed.kinds o.0 o.1))
+
+  spare-not_joined : (e : Entry) → Among e h.entries → (j : Joint) → Gives e j → (x : Name) → Among x (garbage h) → IsSpare x → ¬ (j.key ≡ x)
+  spare-not_joined e there _ its_value x b s a =
+      (spare-blank x b s).1 e (ArePart-among h.entries g.entries e stands.entries there) (a ∙ s.named)
+  spare-not_joined e there _ (its_key d is) x b s a =
+      let made = (well.entries e (ArePart-among h.entries g.entries e stands.entries there)).delegate in
+      let p = delegate_in-proxy g e.key d (sym made ∙ is) in
+      (spare-blank x b s).2 p.0 d p.1 (a ∙ s.named)
+
+  -- a member of a joint that is garbage is lost
+  member-lost : (j : Joint) → Among j (joints h.entries) → (x : Name) → (j.the_map ≡ x) ⊎ (j.key ≡ x) → Among x (garbage h) → Among x (lost h)
+  member-lost j there x i b = let f = joint-cases h.entries j there in
+      ⊎_elim (λ l. l) (λ s. absurd (⊎_elim (λ a. spare-no_map f.0 f.1 x b s (map-of f.0 j f.2 ∙ a)) (λ a. spare-not_joined f.0 f.1 j f.2 x b s a) i)) (lost-or_spare x b)
+    where
+      map-of : (e : Entry) (j : Joint) → Gives e j → e.the_map ≡ j.the_map
+      map-of e _ its_value = refl
+      map-of e _ (its_key d is) = refl
 
   -- so is one that a mapping names
   mapping-lost : (m : Mapping) → Among m (mappings_of h) → (p : Name) → IsMember p m → Among p (garbage h) → Among p (lost h)

@@ -59,6 +59,38 @@ module _ {owned : List ℕ} (h : Heap) (s : IsSound owned h) where
       let edges : script_edges o ≡ script_edges k.0 = ap script_edges (sym same) ∙ ap script_edges p.2 in
       script-edge next k.0 x y k.1 (subst (λ es. Among (x, y) es) edges e)
 
+  -- an entry whose map and key were marked stays
+  entry-kept : (e : Entry) → Among e h.entries → ¬ (Among e.the_map (unmarked (marked h))) → ¬ (Among e.key (unmarked (marked h))) → Among e next.entries
+  entry-kept e m a b = subst (λ es. Among e es) (sym (round-entries h s))
+      (Among-filter (is_spared_entry (unmarked (marked h))) e h.entries m (spared-from (unmarked (marked h)) e a b))
+
+  -- where map and delegate of a proxy are left, the proxy was marked
+  key-marked : (e : Entry) (d : Name) → Among e h.entries → e.delegate ≡ Some d → Among e.the_map (script_names next) → Among d (script_names next) →
+      ¬ (Among e.key (unmarked (marked h)))
+  unfolding marked
+  key-marked e d m is a b =
+      let sound : IsSound owned (marked h) = IsSound-marked owned h s in
+      let marks : (x : Name) → Among x (script_names (marked h)) → Among x (script_names next) → IsMarked (marked h) x =
+      λ x there left. marked-other (marked h) (HasColours-marked h) x there (left-not_dead x left) in
+      let k = (sound.well_formed.entries e m).the_map in
+      marked-not_unmarked (marked h) (HasColours-marked h) e.key
+      (marked-key (marked h) e d m is
+      (marks e.the_map (subst (λ x. Among x (script_names (marked h))) k.2 (Among-map (λ (o : HeapScript). o.name) k.0 (marked h).scripts k.1)) a)
+      (marks d (delegate-there (marked h) sound.well_formed e d m is) b))
+
+  -- so what an entry gives stays, where its members do
+  joint-kept : (e : Entry) → Among e h.entries → (j : Joint) → Gives e j → Among j.the_map (names_there next) → Among j.key (names_there next) →
+      Among j (joints next.entries)
+  joint-kept e m _ its_value a b =
+      let named = entry-named h s.well_formed e m in
+      gives-joint next.entries e (joint e.the_map e.key e.value)
+      (entry-kept e m (left-not_dead e.the_map (script-place next e.the_map named.0 a)) (left-not_dead e.key (script-place next e.key named.1 b))) its_value
+  joint-kept e m _ (its_key d is) a b =
+      let map_left = script-place next e.the_map (entry-named h s.well_formed e m).0 a in
+      gives-joint next.entries e (joint e.the_map d e.key)
+      (entry-kept e m (left-not_dead e.the_map map_left)
+      (key-marked e d m is map_left (script-place next d (delegate-named h s.well_formed e d m is) b))) (its_key d is)
+
   -- what a register holds stays
   registers-kept : (view next).registers ≡ (view h).registers
   registers-kept =
@@ -73,13 +105,7 @@ module _ {owned : List ℕ} (h : Heap) (s : IsSound owned h) where
         (λ l. let f = Among-flat_map_cases native_edges h.natives (x, y) l in native-kept f.0 x y f.1 f.2 there)
         (λ l. let f = Among-flat_map_cases script_edges h.scripts (x, y) l in script-kept f.0 x y f.1 f.2 there)
         (Among-append (x, y) (flat_map native_edges h.natives) (flat_map script_edges h.scripts) e);
-    entries = λ e m a b.
-        let named = entry-named h s.well_formed e m in
-        subst (λ es. Among e es) (sym (round-entries h s))
-        (Among-filter (is_spared_entry (unmarked (marked h))) e h.entries m
-        (spared-from (unmarked (marked h)) e
-        (left-not_dead e.the_map (script-place next e.the_map named.0 a))
-        (left-not_dead e.key (script-place next e.key named.1 b))));
+    joints = λ j m a b. let f = joint-cases h.entries j m in joint-kept f.0 f.1 j f.2 a b;
   }
 
   -- A round leaves natives that hold something reached.
@@ -106,5 +132,5 @@ collected-reached h s t x m =
       registers = λ x m. derive-root v.registers v.edges (rules_of v.joints) x m;
       holder = collect_scripts-tidy h s t;
       edges = λ x y e r. derive-along v.registers v.edges (rules_of v.joints) x y e r;
-      entries = λ ps y e d. derive-jointly v.registers v.edges (rules_of v.joints) ps y e d;
+      joints = λ j m a b. derive-joint v.registers v.edges v.joints j m a b;
     }) x m

@@ -32,7 +32,8 @@ round-less h s = record {
       (λ f. let p = round-natives h s f.0 f.1 in native-edge h p.0 x y p.1 (subst (λ es. Among (x, y) es) (sym (native_edges-alike p.0 f.0 p.2)) f.2))
       (λ f. let p = round-scripts h f.0 f.1 in script-edge h p.0 x y p.1 (subst (λ es. Among (x, y) es) (sym (ap script_edges p.2)) f.2))
       (edge-cases (sweep (marked h)).heap x y e);
-  entries = λ e m. Among-filtered (is_spared_entry (unmarked (marked h))) e h.entries (subst (λ es. Among e es) (round-entries h s) m);
+  joints = joints-within (sweep (marked h)).heap.entries h.entries
+      (λ e m. Among-filtered (is_spared_entry (unmarked (marked h))) e h.entries (subst (λ es. Among e es) (round-entries h s) m));
 }
   where
     f : FreesNames h (round-frees h s).0 (sweep (marked h))
@@ -47,11 +48,6 @@ collect_scripts-less h s = collecting-keeps (λ o. IsLess h o.heap) (λ o c l. I
 
 -- What is left
 
--- what is no member leads to none over an entry
-jointly-out : (ds : List Name) (h : Heap) → IsSpent h ds → (ps : List Name) (y : Name) → Among (ps, y) (rules_of (joints h.entries)) →
-    ((p : Name) → Among p ps → ¬ (Among p ds)) → ¬ (Among y ds)
-jointly-out ds h d ps y e out m = grind (arith, Among-map_cases)
-
 -- A SCRIPT COLLECTION LEAVES NOTHING THAT IS SPENT.
 pub collected-gone : (ds : List Name) (h : Heap) → IsSound [] h → IsSpent h ds → (x : Name) → Among x ds → ¬ (Among x (names_there (collect_scripts h).heap))
 collected-gone ds h s d x i m =
@@ -61,5 +57,5 @@ collected-gone ds h s d x i m =
       registers = λ x m i. spent.unregistered x i m;
       holder = λ j y e i. spent.empty j y i e;
       edges = λ x y e out i. out (spent.holder x y e i);
-      entries = jointly-out ds k spent;
+      joints = λ j m a b i. ⊎_elim a b (spent.joint j m i);
     }) x m i

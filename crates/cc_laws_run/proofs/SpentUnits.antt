@@ -86,7 +86,7 @@ module _ (h : Heap) (ks : List ℕ) (s : IsSound [] h) (there : (k : ℕ) → Am
     registers = λ x m. subst (λ xs. Among x xs) (ap (λ xs. contents xs ++ contents end.script_registers) taken.native_registers
         ∙ ap (λ xs. contents h.native_registers ++ contents xs) taken.script_registers) m;
     edges = λ x y e. ⊎_elim (λ f. of_native f.0 x y f.1 f.2) (λ f. script-edge h f.0 x y (subst (λ os. Among f.0 os) taken.scripts f.1) f.2) (edge-cases end x y e);
-    entries = λ e m. subst (λ es. Among e es) taken.entries m;
+    joints = joints-within end.entries h.entries (λ e m. subst (λ es. Among e es) taken.entries m);
   }
 
   -- and these natives hold nothing
@@ -106,7 +106,7 @@ end-spends h s ds sound fresh all d =
       scripts_made = λ i m. omega (arith, l.scripts_made, (sound.well_formed.object_numbers i (named-there h (object i) (d.scripts (object i) m refl))).1);
       unregistered = λ x m r. d.unregistered x m (l.registers x r);
       holder = λ x y e m. d.holder x y (l.edges x y e) m;
-      joint = λ e i m. d.joint e (l.entries e i) m;
+      joint = λ e i m. d.joint e (l.joints e i) m;
       empty = λ i y m. taken-empty h (white_natives h s) sound there i y (doomed-white_native h s ds i sound fresh all d m);
     }
 

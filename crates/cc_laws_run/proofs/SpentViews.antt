@@ -33,7 +33,7 @@ pub record IsLess (h k : Heap) : Type 0 where
   pub scripts_made : h.scripts_made ≤ k.scripts_made
   pub registers : (x : Name) → Among x (view k).registers → Among x (view h).registers
   pub edges : (x y : Name) → Among (x, y) (view k).edges → Among (x, y) (view h).edges
-  pub entries : (e : Entry) → Among e k.entries → Among e h.entries
+  pub joints : (j : Joint) → Among j (joints k.entries) → Among j (joints h.entries)
 
 -- less than less is less
 pub IsLess-trans : (h g k : Heap) → IsLess h g → IsLess g k → IsLess h k
@@ -42,7 +42,7 @@ IsLess-trans h g k a b = record {
   scripts_made = omega (arith, a.scripts_made, b.scripts_made);
   registers = λ x m. a.registers x (b.registers x m);
   edges = λ x y m. a.edges x y (b.edges x y m);
-  entries = λ e m. a.entries e (b.entries e m);
+  joints = λ j m. a.joints j (b.joints j m);
 }
 
 -- WHAT IS SPENT STAYS SO WHERE SOMETHING IS TAKEN AWAY.
@@ -52,7 +52,7 @@ spent-less ds h k l d = record {
   scripts_made = λ i m. omega (arith, l.scripts_made, d.scripts_made i m);
   unregistered = λ x m r. d.unregistered x m (l.registers x r);
   holder = λ x y e m. d.holder x y (l.edges x y e) m;
-  joint = λ e i m. d.joint e (l.entries e i) m;
+  joint = λ e i m. d.joint e (l.joints e i) m;
   empty = λ i y m e. d.empty i y m (l.edges (native i) y e);
 }
 

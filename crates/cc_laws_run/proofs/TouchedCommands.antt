@@ -49,11 +49,15 @@ one-untouched ds x out y m i = ⊎_elim (λ e. out (subst (λ z. Among z ds) (sy
 new_native-no_edge : (h : Heap) (n : ℕ) (x y : Name) → ¬ (Among (x, y) (native_edges (new_native h n)))
 new_native-no_edge h n x y m = ⊎_elim (λ c. contents-empty_none n y c) (λ p. absurd (false≢true p.0)) (native_edges-are (new_native h n) x y m).1
 
--- nor has a script object that is made, but a reflector has one to its native
-blank-edge : (z : Name) (kind : Kind) (n : ℕ) (x y : Name) → Among (x, y) (script_edges (blank z kind n)) → (k : ℕ) × (z ≡ reflector k) × (native k ≡ y)
-blank-edge z kind n x y m = ⊎_elim (λ c. absurd (contents-empty_none n y c)) (λ p. p) (script_edges-are (blank z kind n) x y m).1
+-- a script object that is made has one to its delegate, where it is a proxy, and a reflector one to its native
+blank-edge : (z : Name) (kind : Kind) (n : ℕ) (d : Option Name) (x y : Name) → Among (x, y) (script_edges (blank z kind n d)) →
+    (d ≡ Some y) ⊎ ((k : ℕ) × (z ≡ reflector k) × (native k ≡ y))
+blank-edge z kind n d x y m = ⊎_elim (λ c. inl (blank-holds z kind n d y c)) (λ p. inr p) (script_edges-are (blank z kind n d) x y m).1
 
--- a reflector preserved leaves entries
+-- a reflector preserved leaves numbers made and entries
+scripts_made-preserve : (h : Heap) (x : Option Name) → (preserve h x).scripts_made ≡ h.scripts_made
+scripts_made-preserve h x = grind arith
+
 entries-preserve : (h : Heap) (x : Option Name) → (preserve h x).entries ≡ h.entries
 entries-preserve h x = grind arith
 
@@ -76,20 +80,30 @@ Spares-exposed ds h x holder out = Spares-blackened ds h (λ o. has same_name (e
     (exposed-untouched ds h x holder out)
 
 -- a script object made spares members, where it is none
-Spares-new_object : (ds : List Name) (h : Heap) (kind : Kind) (n : ℕ) → ¬ (Among (object (h.scripts_made + 1)) ds) →
-    Spares ds (view h) (view (with_object h kind n))
-Spares-new_object ds h kind n out = Spares-new_script ds h (blank (object (h.scripts_made + 1)) kind n) out
-    (λ x y i m. let f = blank-edge (object (h.scripts_made + 1)) kind n x y m in absurd (cc))
+Spares-new_object : (ds : List Name) (h : Heap) (kind : Kind) (n : ℕ) (d : Option Name) → ¬ (Among (object (h.scripts_made + 1)) ds) → IsUntouched ds d →
+    Spares ds (view h) (view (with_object h kind n d))
+Spares-new_object ds h kind n d out none = Spares-new_script ds h (blank (object (h.scripts_made + 1)) kind n d) out
+    (λ x y i m. ⊎_elim
+    (λ e. none y (subst (λ z. Among y (option_to_list z)) (sym e) (inl refl)) i)
+    (λ f. absurd (cc))
+    (blank-edge (object (h.scripts_made + 1)) kind n d x y m))
 
 -- a reflector made, where neither it nor its native is one
 Spares-new_reflector : (ds : List Name) (h : Heap) (k : ℕ) → ¬ (Among (native k) ds) → ¬ (Among (reflector k) ds) →
-    Spares ds (view h) (view (with_script h (reflector k) Reflector reflector_slots))
+    Spares ds (view h) (view (with_script h (reflector k) Reflector reflector_slots None))
 Spares-new_reflector ds h k out none = grind (arith, Spares-new_script, blank-edge)
 
--- with an entry set to what is no member, each with a member for its value was there
-entry-old : (ds : List Name) (h : Heap) (m k v : Name) → ¬ (Among v ds) →
-    (e : Entry) → Among e.value ds → Among e (with_entry h.entries m k v) → Among e (preserve h (Some k)).entries
-entry-old ds h m k v out e i j = grind (arith, entries-preserve, with_entry-cases)
+-- with an entry set whose key and value are no members, each joint that gives a member was there
+entry-old : (ds : List Name) (h : Heap) (m k : Name) (d : Option Name) (v : Name) → ¬ (Among k ds) → ¬ (Among v ds) →
+    (j : Joint) → Among j.value ds → Among j (joints (with_entry h.entries m k d v)) → Among j (joints (preserve h (Some k)).entries)
+entry-old ds h m k d v no_key out j i at = subst (λ es. Among j (joints es)) (sym (entries-preserve h (Some k))) (was (joint-cases (with_entry h.entries m k d v) j at))
+  where
+    new : (e : Entry) (j : Joint) → entry m k d v ≡ e → Gives e j → ¬ (Among j.value ds)
+    new e _ same its_value n = out (subst (λ (f : Entry). Among f.value ds) (sym same) n)
+    new e _ same (its_key x q) n = no_key (subst (λ (f : Entry). Among f.key ds) (sym same) n)
+
+    was : (e : Entry) × Among e (with_entry h.entries m k d v) × Gives e j → Among j (joints h.entries)
+    was f = ⊎_elim (λ same. absurd (new f.0 j same f.2 i)) (λ old. gives-joint h.entries f.0 j old f.2) (with_entry-cases h.entries m k d v f.0 f.1)
 
 module _ (ds : List Name) (g : Heap) where
   -- heaps that leave these names alone
@@ -169,15 +183,16 @@ module _ (ds : List Name) (g : Heap) where
       Left h → Left (put_in_script h z i x)
   leaves-put_in_script h z i x out own none d = leaves-slot (preserve h z) z i x out none (leaves-preserve h z out own d)
 
-  -- entries changed, with no new member as a value
-  leaves-entries : (h : Heap) (es : List Entry) → ((e : Entry) → Among e.value ds → Among e es → Among e h.entries) → Left h → Left (record h { entries = es })
+  -- entries changed, with no new joint that gives a member
+  leaves-entries : (h : Heap) (es : List Entry) → ((j : Joint) → Among j.value ds → Among j (joints es) → Among j (joints h.entries)) → Left h → Left (record h { entries = es })
   leaves-entries h es old = leaves-still ds g h (record h { entries = es }) (omega arith) (omega arith) refl (Spares-entries ds h es old)
 
   -- an entry set or taken out
   leaves-set_entry : (h : Heap) (m k v : Option Name) → IsUntouched ds k → IsUntouched ds (native_of k) → IsUntouched ds v → Left h → Left (set_entry h m k v)
-  leaves-set_entry h (Some m) (Some k) None a o b d = leaves-entries h (without_entry h.entries m k) (λ e i j. Among-filtered (λ f. not (is_entry_of m k f)) e h.entries j) d
-  leaves-set_entry h (Some m) (Some k) (Some v) a o b d = leaves-entries (preserve h (Some k)) (with_entry h.entries m k v)
-      (entry-old ds h m k v (b v (inl refl)))
+  leaves-set_entry h (Some m) (Some k) None a o b d = leaves-entries h (without_entry h.entries m k)
+      (λ j i at. joints-within (without_entry h.entries m k) h.entries (λ e n. Among-filtered (λ f. not (is_entry_of m k f)) e h.entries n) j at) d
+  leaves-set_entry h (Some m) (Some k) (Some v) a o b d = leaves-entries (preserve h (Some k)) (with_entry h.entries m k (delegate_at h k) v)
+      (entry-old ds h m k (delegate_at h k) v (a k (inl refl)) (b v (inl refl)))
       (leaves-preserve h (Some k) a o d)
   leaves-set_entry h _ _ v a o b d = d
 
@@ -201,15 +216,23 @@ module _ (ds : List Name) (g : Heap) where
           (Among-append o h.natives (new_native h n ∷ []) there)
 
   -- a script object made, and a script register holds it
-  leaves-make_object : (h : Heap) (r : ℕ) (kind : Kind) (n : ℕ) → ¬ (Among (object (h.scripts_made + 1)) ds) → Left h → Left (make_object h r kind n)
-  leaves-make_object h r kind n out d = leaves-register (with_object h kind n) (S r) (Some (object (h.scripts_made + 1)))
+  leaves-make_object : (h : Heap) (r : ℕ) (kind : Kind) (n : ℕ) (x : Option Name) → ¬ (Among (object (h.scripts_made + 1)) ds) → IsUntouched ds x → Left h →
+      Left (make_object h r kind n x)
+  leaves-make_object h r kind n x out none d = leaves-register (with_object h kind n x) (S r) (Some (object (h.scripts_made + 1)))
       (one-untouched ds (object (h.scripts_made + 1)) out)
-      (leaves-still ds g h (with_object h kind n) (omega arith) (omega arith) refl (Spares-new_object ds h kind n out) d)
+      (leaves-still ds g h (with_object h kind n x) (omega arith) (omega arith) refl (Spares-new_object ds h kind n x out none) d)
+
+  -- a proxy made
+  leaves-make_proxy : (h : Heap) (r : ℕ) (x : Option Name) → ¬ (Among (object (h.scripts_made + 1)) ds) → IsUntouched ds x → IsUntouched ds (native_of x) → Left h →
+      Left (make_proxy h r x)
+  leaves-make_proxy h r None out none own d = d
+  leaves-make_proxy h r (Some x) out none own d = leaves-make_object (preserve h (Some x)) r proxy_kind 0 (Some x)
+      (subst (λ n. ¬ (Among (object (n + 1)) ds)) (sym (scripts_made-preserve h (Some x))) out) none (leaves-preserve h (Some x) none own d)
 
   -- a reflector made
   leaves-with_reflector : (h : Heap) (k : ℕ) → ¬ (Among (native k) ds) → ¬ (Among (reflector k) ds) → Left h → Left (with_reflector h k)
   leaves-with_reflector h k out none d =
-      let larger : Heap = with_script h (reflector k) Reflector reflector_slots in
+      let larger : Heap = with_script h (reflector k) Reflector reflector_slots None in
       leaves-add_ref ds g larger k out (leaves-still ds g h larger (omega arith) (omega arith) refl (Spares-new_reflector ds h k out none) d)
 
   -- a native wrapped
@@ -232,8 +255,9 @@ module _ (ds : List Name) (g : Heap) where
       ¬ (Among (object (h.scripts_made + 1)) ds) → Left h → Left (effects h c).heap
   unfolding effects
   leaves-effects h (Native r n) w keeps a b d = leaves-make_native h r n a d
-  leaves-effects h (Script r n) w keeps a b d = leaves-make_object h r Plain n None b d
-  leaves-effects h (WeakMap r) w keeps a b d = leaves-make_object h r Map 0 None b d
+  leaves-effects h (Script r n) w keeps a b d = leaves-make_object h r Plain n None b (λ y m i. m) d
+  leaves-effects h (WeakMap r) w keeps a b d = leaves-make_object h r Map 0 None b (λ y m i. m) d
+  leaves-effects h (Proxy r q) w keeps a b d = leaves-make_proxy h r (register h (S q)) b (register-untouched ds h d.apart (S q)) (native_of-untouched ds h d.apart q w) d
   leaves-effects h (CopyNative r q) w keeps a b d = leaves-hold_native h r (register h (N q)) (register-untouched ds h d.apart (N q)) d
   leaves-effects h (CopyScript r q) w keeps a b d = leaves-register h (S r) (register h (S q)) (register-untouched ds h d.apart (S q)) d
   leaves-effects h (Drop (N r)) w keeps a b d = leaves-put_in_register h r None (λ y m i. m) d

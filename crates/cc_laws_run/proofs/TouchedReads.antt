@@ -46,7 +46,7 @@ value_in-entry (e ∷ es) m k y i = go (value_in-entry es m k y) (is_entry_of m 
 pub record IsApart (ds : List Name) (h : Heap) : Type 0 where
   pub unregistered : (x : Name) → Among x ds → ¬ (Among x (view h).registers)
   pub holder : (x y : Name) → Among (x, y) (view h).edges → Among y ds → Among x ds
-  pub joint : (e : Entry) → Among e h.entries → Among e.value ds → Among e.the_map ds ⊎ Among e.key ds
+  pub joint : (e : Joint) → Among e (joints h.entries) → Among e.value ds → Among e.the_map ds ⊎ Among e.key ds
 
 module _ (ds : List Name) (h : Heap) (d : IsApart ds h) where
   -- what a register holds is no member

@@ -19,7 +19,7 @@ Spares-trans ds u v w a b = record {
   buffer = λ x m r. a.buffer x m (b.buffer x m r);
   black = λ x m r. a.black x m (b.black x m r);
   edges = λ x y m e. a.edges x y m (b.edges x y m e);
-  entries = λ e m i. a.entries e m (b.entries e m i);
+  joints = λ e m i. a.joints e m (b.joints e m i);
   within = λ x y m n e. b.within x y m n (a.within x y m n e);
 }
 
@@ -50,7 +50,7 @@ module _ (ds : List Name) (g : Heap) where
     apart = record {
       unregistered = λ x m r. l.apart.unregistered x m (p.registers x m r);
       holder = λ x y e m. l.apart.holder x y (p.edges x y m e) m;
-      joint = λ e i m. l.apart.joint e (p.entries e m i) m;
+      joint = λ e i m. l.apart.joint e (p.joints e m i) m;
     };
     spares = Spares-trans ds (view g) (view h) (view k) l.spares p;
     natives_made = omega (arith, l.natives_made, a);

@@ -29,7 +29,7 @@ pub record Spares (ds : List Name) (v w : View) : Type 0 where
   pub buffer : (x : Name) → Among x ds → Among x w.buffer → Among x v.buffer
   pub black : (x : Name) → Among x ds → Among x w.black → Among x v.black
   pub edges : (x y : Name) → Among y ds → Among (x, y) w.edges → Among (x, y) v.edges
-  pub entries : (e : Entry) → Among e.value ds → Among e w.entries → Among e v.entries
+  pub joints : (e : Joint) → Among e.value ds → Among e w.joints → Among e v.joints
   pub within : (x y : Name) → Among x ds → Among y ds → Among (x, y) v.edges → Among (x, y) w.edges
 
 -- What is doomed stays so where it is spared.
@@ -41,7 +41,7 @@ doomed-spared s ds v w p d = record {
   unbuffered = λ x m r. d.unbuffered x m (p.buffer x m r);
   unmarked = λ x m r. d.unmarked x m (p.black x m r);
   holder = λ x y e m. d.holder x y (p.edges x y m e) m;
-  joint = λ e i m. d.joint e (p.entries e m i) m;
+  joint = λ e i m. d.joint e (p.joints e m i) m;
   noter = d.noter;
   mapper = d.mapper;
   covered = λ x m. covered x (d.covered x m) m;
@@ -77,8 +77,8 @@ module _ (ds : List Name) (h : Heap) where
       Spares ds (view h) (view (record h { buffer = bs }))
   Spares-buffer bs old = grind arith
 
-  -- entries changed; each with a member for its value was there
-  pub Spares-entries : (es : List Entry) → ((e : Entry) → Among e.value ds → Among e es → Among e h.entries) →
+  -- entries changed; each joint that gives a member was there
+  pub Spares-entries : (es : List Entry) → ((e : Joint) → Among e.value ds → Among e (joints es) → Among e (joints h.entries)) →
       Spares ds (view h) (view (record h { entries = es }))
   Spares-entries es old = grind arith
 
@@ -98,7 +98,7 @@ module _ (ds : List Name) (h : Heap) where
     buffer = λ x m r. r;
     black = λ x m r. r;
     edges = λ x y m e. ⊎_elim (λ f. old f.0 x y f.1 m f.2) (λ f. script-edge h f.0 x y f.1 f.2) (edge-cases g x y e);
-    entries = λ e m i. i;
+    joints = λ e m i. i;
     within = λ x y a b e. ⊎_elim
         (λ f.
         let start = (native_edges-are f.0 x y f.2).0 in
@@ -130,7 +130,7 @@ module _ (ds : List Name) (h : Heap) where
         let f = names_with-is (λ o. is_black_colour o.colour) ss x r in
         subst (λ z. Among z (view h).black) f.3 (dark f.0 f.1 (subst (λ z. Among z ds) (sym f.3) m) f.2);
     edges = λ x y m e. ⊎_elim (λ f. native-edge h f.0 x y f.1 f.2) (λ f. old f.0 x y f.1 m f.2) (edge-cases g x y e);
-    entries = λ e m i. i;
+    joints = λ e m i. i;
     within = λ x y a b e. ⊎_elim
         (λ f. native-edge g f.0 x y f.1 f.2)
         (λ f.

@@ -6,7 +6,7 @@ use Rattle.cc_names.specs.declared.name.Name.{Name}
 use Rattle.cc_names.specs.Names.{native, reflector, is_script}
 use Rattle.cc_model.specs.declared.item.Event.{Event}
 use Rattle.cc_model.specs.declared.item.Event.TheVariants.{Unlinked}
-use Rattle.cc_model.specs.Entries.{Entry}
+use Rattle.cc_model.specs.Entries.{Joint}
 use Rattle.cc_model.specs.Heap.{Heap}
 use Rattle.cc_model.specs.View.{View, view}
 use Rattle.cc_model.specs.WellFormed.{names_there}
@@ -40,9 +40,10 @@ pub record IsDoomed (v : View) (s : Snapshot) (ds : List Name) : Type 0 where
   pub unregistered : (x : Name) → Among x ds → ¬ (Among x v.registers)
   pub unbuffered : (x : Name) → Among x ds → ¬ (Among x v.buffer)
   pub unmarked : (x : Name) → Among x ds → ¬ (Among x v.black)
-  -- who holds one is one; so is the map or the key of an entry whose value is one
+  -- who holds one is one; so is a member of a joint that gives one: the map or the key of an entry whose value is one, the map
+  -- or the delegate of one whose key is a proxy and is one
   pub holder : (x y : Name) → Among (x, y) v.edges → Among y ds → Among x ds
-  pub joint : (e : Entry) → Among e v.entries → Among e.value ds → Among e.the_map ds ⊎ Among e.key ds
+  pub joint : (e : Joint) → Among e v.joints → Among e.value ds → Among e.the_map ds ⊎ Among e.key ds
   -- and what the snapshot has noted says the same
   pub noter : (x y : Name) → Among (x, y) s.references → Among y ds → Among x ds
   pub mapper : (m : Mapping) → Among m s.mappings → Among m.value ds → (p : Name) × IsMember p m × Among p ds

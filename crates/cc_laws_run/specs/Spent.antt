@@ -3,7 +3,7 @@ use Rattle.std.specs.Prelude.{ℕ, ◌≤◌, ◌⊎◌, List}
 use Rattle.cc_lists.specs.Members.{Among}
 use Rattle.cc_names.specs.declared.name.Name.{Name}
 use Rattle.cc_names.specs.Names.{native, object}
-use Rattle.cc_model.specs.Entries.{Entry}
+use Rattle.cc_model.specs.Entries.{Joint, joints}
 use Rattle.cc_model.specs.Heap.{Heap}
 use Rattle.cc_model.specs.View.{view}
 
@@ -13,8 +13,8 @@ pub record IsSpent (h : Heap) (ds : List Name) : Type 0 where
   pub natives_made : (i : ℕ) → Among (native i) ds → i ≤ h.natives_made
   pub scripts_made : (i : ℕ) → Among (object i) ds → i ≤ h.scripts_made
   pub unregistered : (x : Name) → Among x ds → ¬ (Among x (view h).registers)
-  -- who holds one is one; so is the map or the key of an entry whose value is one
+  -- who holds one is one; so is a member of a joint that gives one
   pub holder : (x y : Name) → Among (x, y) (view h).edges → Among y ds → Among x ds
-  pub joint : (e : Entry) → Among e h.entries → Among e.value ds → Among e.the_map ds ⊎ Among e.key ds
+  pub joint : (e : Joint) → Among e (joints h.entries) → Among e.value ds → Among e.the_map ds ⊎ Among e.key ds
   -- a native of them has no slot that holds something, and preserves nothing
   pub empty : (i : ℕ) (y : Name) → Among (native i) ds → ¬ (Among (native i, y) (view h).edges)
