@@ -3,7 +3,7 @@ use Rattle.std.proofs.Common.{arith, ◌≡◌, ℕ, true, List, [], ◌++◌, s
 use Rattle.std.specs.List.{flat_map}
 use Rattle.cc_lists.specs.Members.{Among}
 use Rattle.cc_lists.proofs.Members.{Among-map_cases, Among-append, Among-filter, Among-passes, Among-flat_map_cases, Among-map}
-use Rattle.cc_lists.proofs.Least.{derive-root, derive-along, derive-jointly}
+use Rattle.cc_lists.proofs.Least.{derive-root, derive-along}
 use Rattle.cc_names.specs.declared.name.Name.{Name}
 use Rattle.cc_names.specs.Names.{native, is_script}
 use Rattle.cc_model.specs.Slots.{contents}
