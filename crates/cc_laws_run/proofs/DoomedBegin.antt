@@ -29,7 +29,6 @@ use Rattle.cc_laws_heap.specs.Sound.{IsSound}
 use Rattle.cc_laws_heap.proofs.Marking.{colour_of-black, black-decided}
 use Rattle.cc_laws_heap.proofs.MarkedKept.{marked-other}
 use Rattle.cc_laws_heap.proofs.CollectedColours.{collect_scripts-sound, collect_scripts-colours, collect_scripts-unmarked, collect_scripts-invariant}
-use Rattle.cc_laws_heap.proofs.ViewEdges.{native_edges-are}
 use Rattle.cc_laws_heap.proofs.Coloured.{is_black-true}
 use Rattle.cc_laws_heap.proofs.References.{native-there}
 use Rattle.cc_laws_snapshot.proofs.Edges.{edge-of}

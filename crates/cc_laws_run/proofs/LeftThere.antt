@@ -1,5 +1,5 @@
 -- WHAT A SCRIPT COLLECTION LEAVES has all that registers and holding natives have, and that edges and entries pass on.
-use Rattle.std.proofs.Common.{◌≡◌, ◌≤◌, ℕ, List, [], ◌++◌, map, refl, sym, subst, arith, ⊎_elim, count_by}
+use Rattle.std.proofs.Common.{◌≡◌, ◌≤◌, ℕ, List, [], ◌++◌, refl, sym, subst, arith, ⊎_elim, count_by}
 use Rattle.std.proofs.lemmas.Bool.{cases_lt}
 use Rattle.cc_model.specs.Places.{places_of_native}
 use Rattle.cc_lists.specs.Members.{Among}
@@ -14,7 +14,7 @@ use Rattle.cc_names.proofs.NameTests.{same_name-true, same_name-exact}
 use Rattle.cc_model.specs.Slots.{contents, from_to}
 use Rattle.cc_model.specs.Entries.{joints}
 use Rattle.cc_model.specs.Heap.{Heap, HeapNative}
-use Rattle.cc_model.specs.View.{view, counted, to, native_edges}
+use Rattle.cc_model.specs.View.{view, counted, to}
 use Rattle.cc_model.specs.WellFormed.{native_names, script_names, names_there}
 use Rattle.cc_model.specs.Exposure.{slots_of_scripts}
 use Rattle.cc_model.specs.Colours.{HasColours, IsBlack, IsMarked, black_rules, black_names, scripts_held_by, scripts_held}
@@ -22,7 +22,6 @@ use Rattle.cc_model.specs.Sweep.{unmarked, collect_scripts}
 use Rattle.cc_laws_heap.specs.Sound.{IsSound}
 use Rattle.cc_laws_heap.proofs.MarkedKept.{marked-other}
 use Rattle.cc_laws_heap.proofs.CollectedColours.{collect_scripts-sound, collect_scripts-colours, collect_scripts-unmarked}
-use Rattle.cc_laws_heap.proofs.ViewEdges.{native_edges-are}
 use Rattle.cc_laws_snapshot.proofs.SoundView.{IsSound-view, script-place}
 use Rattle.cc_laws_snapshot.proofs.ReachedStays.{native-edge}
 use Rattle.cc_laws_run.proofs.DoomedBegin.{edge-there, slot-edge}
