@@ -19,6 +19,7 @@ use Rattle.cc_names.specs.Names.{native, object, is_native, same_name}
 use Rattle.cc_names.proofs.NameTests.{same_name-refl}
 use Rattle.cc_model.specs.Checks.{slots_or_none}
 use Rattle.cc_model.specs.Heap.{Heap, HeapNative, HeapScript, native_at, script_at, is_gray_colour, is_gray_in}
+use Rattle.cc_model.specs.Places.{places_of_native, places_of_script, places_in}
 use Rattle.cc_model.specs.WellFormed.{IsWellFormed}
 use Rattle.cc_model.specs.Units.{is_noted}
 use Rattle.cc_laws_heap.proofs.Face.{named-found, native_at-there, script-named, scripts-once}
@@ -29,7 +30,7 @@ use Rattle.cc_counted.specs.Counts as counts
 use Rattle.cc_script.specs.Objects.{Object, object_at, colour_at}
 use Rattle.cc_heaps.specs.Keyed.{Keyed, IsInOrder, counts_of, keyed_native, named_object, number_at, the_name_at}
 use Rattle.cc_heaps.specs.Changes.{IsThere, IsNativeThere, IsScriptThere}
-use Rattle.cc_heaps.specs.Places.{places_of_native, places_of_script, places_in, places_at}
+use Rattle.cc_heaps.specs.Places.{places_at}
 use Rattle.cc_heaps.proofs.Calls.{number-named}
 use Rattle.cc_builder.specs.BuildSteps.{the_name}
 

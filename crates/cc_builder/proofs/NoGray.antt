@@ -14,7 +14,8 @@ use Rattle.cc_names.specs.Names.{native, same_name}
 use Rattle.cc_model.specs.Heap.{HeapNative, HeapScript, is_gray_colour, is_gray_in}
 use Rattle.cc_model.specs.Entries.{Entry}
 use Rattle.cc_model.specs.Snapshot.{Mapping}
-use Rattle.cc_model.specs.View.{native_edges}
+use Rattle.cc_model.specs.Slots.{contents}
+use Rattle.cc_model.specs.Places.{places_of_native}
 use Rattle.cc_model.specs.Units.{holds_gray, holders_of, mapping_of, mappings_of, members_of}
 use Rattle.cc_script.specs.Objects.{Object}
 use Rattle.cc_heaps.specs.Keyed.{Keyed, IsInOrder, named_object}
@@ -59,7 +60,7 @@ module _ (v : Keyed) (scripts : List Object) (found : Bool) (order : IsInOrder [
   -- so there are no holders
   holders-none : holders_of v.heap ≡ []
   holders-none = ap (map (λ (n : HeapNative). native n.number))
-      (filter-nothing (holds_gray v.heap) v.heap.natives (λ n m. any-nothing (λ (e : Name × Name). is_gray_in v.heap e.1) (native_edges n) (λ e. names-none e.1)))
+      (filter-nothing (holds_gray v.heap) v.heap.natives (λ n m. any-nothing (is_gray_in v.heap) (contents (places_of_native n)) names-none))
 
   -- and none becomes a node
   pub holders-passed : (xs : List Name) → xs ≡ with_all_last same_name xs (holders_of v.heap)

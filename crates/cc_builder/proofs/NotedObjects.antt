@@ -11,18 +11,16 @@ use Rattle.cc_names.specs.declared.number.SKey.{SKey}
 use Rattle.cc_names.specs.Names.{native, is_native}
 use Rattle.cc_model.specs.Slots.{Slots, contents}
 use Rattle.cc_model.specs.Heap.{Heap, HeapNative, HeapScript, native_at, script_at}
-use Rattle.cc_model.specs.View.{native_edges, script_edges}
+use Rattle.cc_model.specs.Places.{places_of_native, places_of_script}
 use Rattle.cc_model.specs.WellFormed.{native_names}
-use Rattle.cc_model.specs.Units.{is_noted, to_note, targets, sample}
+use Rattle.cc_model.specs.Units.{is_noted, to_note, sample}
 use Rattle.cc_laws_heap.proofs.Face.{native_at-named}
 use Rattle.cc_counted.specs.declared.held.Held.{Held}
 use Rattle.cc_counted.specs.declared.held.Held.TheVariants as held
 use Rattle.cc_script.specs.Objects.{Object, object_at}
 use Rattle.cc_heaps.specs.Keyed.{Keyed, IsInOrder, named_object}
 use Rattle.cc_heaps.specs.Changes.{IsThere}
-use Rattle.cc_heaps.specs.Places.{places_of_native, places_of_script}
 use Rattle.cc_heaps.specs.HasKey.{HasKey}
-use Rattle.cc_heaps.proofs.PlaceEdges.{contents-places, contents-places_of_script}
 use Rattle.cc_builder.specs.BuildSteps.{contents_at, noted_content, sample_of, the_name}
 use Rattle.cc_builder.proofs.BuildStates.{IsSampleOf}
 use Rattle.cc_builder.proofs.HeldObjects.{StandsAt, stands-at, native-name, native-places, shown-count, IsObjectAt, object-at, object-name, object-places}
@@ -38,13 +36,12 @@ noted-contents h (y ∷ places) =
 note-native : (v : Keyed) (key : NKey) → (s : StandsAt v key.0) → to_note v.heap (the_name v (held.Native key)) ≡ Some (contents_at v (held.Native key))
 note-native v key s =
     ap (to_note v.heap) (native-name v key s)
-    ∙ ap (λ (o : Option HeapNative). option_map (filter (is_noted v.heap)) (option_map (λ (n : HeapNative). targets (native_edges n)) o)) s.found
-    ∙ ap (λ ys. Some (filter (is_noted v.heap) ys)) (sym (contents-places s.body))
+    ∙ ap (λ (o : Option HeapNative). option_map (filter (is_noted v.heap)) (option_map contents (option_map places_of_native o))) s.found
     ∙ ap Some (noted-contents v.heap (places_of_native s.body))
     ∙ ap (λ places. Some (flat_map (noted_content v.heap) places)) (sym (native-places v key s))
 
 -- where a name is none of a native, what is noted is that of a script object
-note-script : (h : Heap) (x : Name) → is_native x ≡ false → to_note h x ≡ option_map (filter (is_noted h)) (option_map (λ o. targets (script_edges o)) (script_at h x))
+note-script : (h : Heap) (x : Name) → is_native x ≡ false → to_note h x ≡ option_map (filter (is_noted h)) (option_map contents (option_map places_of_script (script_at h x)))
 note-script h (name.Native k) e = absurd (true≢false e)
 note-script h (name.Script k) e = refl
 note-script h (name.Reflector k) e = refl
@@ -54,8 +51,7 @@ note-object v key s =
     let o = named_object v.scripts s.body in
     ap (to_note v.heap) (object-name v key s)
     ∙ note-script v.heap s.body.name s.kind
-    ∙ ap (λ (p : Option HeapScript). option_map (filter (is_noted v.heap)) (option_map (λ (p : HeapScript). targets (script_edges p)) p)) s.found
-    ∙ ap (λ ys. Some (filter (is_noted v.heap) ys)) (sym (contents-places_of_script o))
+    ∙ ap (λ (p : Option HeapScript). option_map (filter (is_noted v.heap)) (option_map contents (option_map places_of_script p))) s.found
     ∙ ap Some (noted-contents v.heap (places_of_script o))
     ∙ ap (λ places. Some (flat_map (noted_content v.heap) places)) (sym (object-places v key s))
 
@@ -95,7 +91,7 @@ native-named (name.Reflector k) e = absurd (cc)
 pub note-gone : (h : Heap) (x : Name) → is_native x ≡ true → ¬ (Among x (native_names h)) → to_note h x ≡ None
 note-gone h x kind gone =
     let k = native-named x kind in
-    ap (to_note h) k.1 ∙ ap (λ (o : Option HeapNative). option_map (filter (is_noted h)) (option_map (λ (n : HeapNative). targets (native_edges n)) o)) (none k.0 k.1 (native_at h k.0) refl)
+    ap (to_note h) k.1 ∙ ap (λ (o : Option HeapNative). option_map (filter (is_noted h)) (option_map contents (option_map places_of_native o))) (none k.0 k.1 (native_at h k.0) refl)
   where
     none : (k : ℕ) → x ≡ native k → (o : Option HeapNative) → native_at h k ≡ o → native_at h k ≡ None
     none k same None e = e

@@ -5,6 +5,7 @@ use Rattle.cc_names.specs.Allowance.{Allowance}
 use Rattle.cc_names.specs.declared.name.Name.{Name}
 use Rattle.cc_names.specs.declared.number.NKey.{NKey}
 use Rattle.cc_names.specs.Names.{native, object}
+use Rattle.cc_names.specs.Places.{where_set, native_places}
 use Rattle.cc_model.specs.Slots.{Slots}
 use Rattle.cc_model.specs.Heap.{Heap, HeapNative, Buffered, Outcome, empty_heap, native_at}
 use Rattle.cc_model.specs.Cascade.{cascade}
@@ -130,12 +131,11 @@ preserved_of c key = preserved_at (native_at (heap_of c) (the_number c key))
 
 -- a reflector where it is preserved; as in slots, its key stands in the place of a number
 abbrev pub preserved_reflector : Bool → Option ℕ → Option Name
-preserved_reflector false reflector = None
-preserved_reflector true reflector = option_map object reflector
+preserved_reflector preserved reflector = where_set preserved (option_map object reflector)
 
--- THE REFERENCES OF THE NATIVE at a key as one list: its slots, then its reflector, where that is preserved
+-- THE REFERENCES OF THE NATIVE at a key: its places
 abbrev pub references_of : Counts → ℕ → Slots
-references_of c key = slots_of c key ++ preserved_reflector (preserved_of c key) (reflector_at c key) ∷ []
+references_of c key = native_places (slots_of c key) (preserved_of c key) (option_map object (reflector_at c key))
 
 abbrev pub count_at : Option HeapNative → ℕ
 count_at None = 0

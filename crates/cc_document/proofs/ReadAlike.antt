@@ -13,7 +13,9 @@ use Rattle.cc_model.specs.Entries.{Entry, value_in}
 use Rattle.cc_model.specs.Checks.{slots_or_none, slot_at, value_at, native_of, reflector_of}
 use Rattle.cc_model.specs.Graph as graph
 use Rattle.cc_model.specs.Graph.{Graph, GraphNative, native_in}
-use Rattle.cc_model.specs.Reached.{Reached, held, edge, value, kept_reflector}
+use Rattle.cc_model.specs.Reached.{Reached, held, edge, value}
+use Rattle.cc_model.specs.Places.{places_of_made_native}
+use Rattle.cc_model.proofs.Places.{preserved-held}
 use Rattle.cc_model.specs.WellMade.{was_made}
 use Rattle.cc_model.specs.StandsFor.{IsNoKey}
 use Rattle.cc_model.specs.Heap as heap
@@ -80,9 +82,7 @@ module _ (v : Keyed) (c : Option Built) (g : Graph) (s : Shows (parts v c) g) wh
 
       kept : n.preserved ≡ true → Reached g (reflector k)
       kept p = edge (native k) (reflector k) dk
-          (Among-right (reflector k) (contents (slots_or_none (graph.slots_in g (native k)))) (kept_reflector k (native_in g k))
-          (subst (λ o. Among (reflector k) (kept_reflector k o)) (sym is)
-          (subst (λ b. Among (reflector k) (elim b as (λ _. List Name) [ true ↦ reflector k ∷ [] | false ↦ [] ])) (sym p) (inl refl))))
+          (subst (λ o. Among (reflector k) (contents (slots_or_none (option_map (places_of_made_native k) o)))) (sym is) (preserved-held k n.slots n.preserved p))
 
       go : (b : Bool) → n.preserved ≡ b → IsValueAlike m (reflector k)
       go false p = without (unwrapped n.reflector refl p)

@@ -16,7 +16,6 @@ use Rattle.cc_names.specs.Names.{native, same_name, is_native}
 use Rattle.cc_names.proofs.NameTests.{same_name-true, same_name-refl}
 use Rattle.cc_model.specs.Slots.{Slots, contents}
 use Rattle.cc_model.specs.Heap.{Heap, HeapNative, HeapScript, native_at, is_gray_colour, is_gray_in}
-use Rattle.cc_model.specs.View.{native_edges}
 use Rattle.cc_model.specs.WellFormed.{IsWellFormed}
 use Rattle.cc_model.specs.Units.{holds_gray}
 use Rattle.cc_laws_heap.proofs.Face.{IsRising-distinct, native_at-member}
@@ -52,11 +51,6 @@ any-some p (x ∷ xs) d (suc k) l e = go (any-some p xs d k (omega (arith, l)) e
 pub any-none : {X : Type 0} (p : X → Bool) (xs : List X) (d : X) → ((k : ℕ) → k < length xs → p (get_or xs k d) ≡ false) → list_any p xs ≡ false
 any-none p [] d h = refl
 any-none p (x ∷ xs) d h = ap (λ b. b || list_any p xs) (h 0 (omega arith)) ∙ any-none p xs d (λ k l. h (suc k) (omega (arith, l)))
-
--- of some values
-list_any-map : {X Y : Type 0} (p : Y → Bool) (f : X → Y) (xs : List X) → list_any p (map f xs) ≡ list_any (λ x. p (f x)) xs
-list_any-map p f [] = refl
-list_any-map p f (x ∷ xs) = ap (λ b. p (f x) || b) (list_any-map p f xs)
 
 -- whether native k of a counted heap holds a gray script object
 abbrev pub holds_found : List Object → Counts → Option HeapNative → Bool
@@ -167,10 +161,9 @@ module _ (p : Inside) (l : IsLinked p) where
       -- and by names
       holder-alike : (n : HeapNative) → Among n p.counted.natives → holds_gray h (named_native p.scripts n) ≡ holds p.scripts p.counted n.number
       holder-alike n m =
-          sym (list_any-map (is_gray_in h) (λ (e : Name × Name). e.1) (native_edges (named_native p.scripts n)))
-          ∙ (ap (list_any (is_gray_in h)) (sym (contents-named p l k w n m))
+          ap (list_any (is_gray_in h)) (sym (contents-named p l k w n m))
           ∙ (references-alike (references_in p.counted n) (λ x i. references-there p l k n x m i)
-          ∙ ap (holds_found p.scripts p.counted) (sym (native_at-own n m))))
+          ∙ ap (holds_found p.scripts p.counted) (sym (native_at-own n m)))
 
       -- THE HOLDERS are the same.
       pub holder_numbers-is : holder_numbers h ≡ filter (holds p.scripts p.counted) (numbers_in p.counted)

@@ -32,7 +32,6 @@ pub mod HolderWalk
 pub mod Agreeing
 pub mod References
 pub mod RootWalks
-pub mod PlaceEdges
 pub mod ReferenceNames
 pub mod HasReflector
 pub mod ObjectsKept

@@ -28,7 +28,8 @@ use Rattle.cc_names.specs.Names.{native, object, reflector, same_name, is_native
 use Rattle.cc_names.proofs.NameTests.{same_name-refl}
 use Rattle.cc_names.specs.Sizes.{most_slots}
 use Rattle.cc_model.specs.Slots.{Slots}
-use Rattle.cc_model.specs.Checks.{slots_or_none}
+use Rattle.cc_model.specs.Checks.{slots_or_none, native_of}
+use Rattle.cc_model.specs.Places.{places_in, places_of_native, places_of_script}
 use Rattle.cc_model.specs.Heap.{Heap, HeapNative, HeapScript, script_at}
 use Rattle.cc_model.specs.WellFormed.{FitsName, IsWellFormed}
 use Rattle.cc_counted.specs.declared.held.Held.{Held}
@@ -43,7 +44,7 @@ use Rattle.cc_heaps.specs.Keyed.{Keyed, IsInOrder, name_held, named_object, numb
 use Rattle.cc_heaps.specs.Changes.{IsThere, held_name}
 use Rattle.cc_heaps.specs.Named.{named_native}
 use Rattle.cc_heaps.specs.Fields.{keyed_of, IsLinked}
-use Rattle.cc_heaps.specs.Places.{native_of, places_at, places_in, places_of_native, places_of_script}
+use Rattle.cc_heaps.specs.Places.{places_at}
 use Rattle.cc_heaps.proofs.Content.{held-named}
 use Rattle.cc_heaps.proofs.Naming.{name_in}
 
@@ -154,13 +155,13 @@ module _ (p : Inside) (owned : List ℕ) (l : IsLinked p) (o : IsInOrder owned (
     slots-are = ap objects.slots_or_none object-found.1
 
     -- its places: its slots by names, and what stands behind the last
-    script_places : places_at v (held.Script key) ≡ map (name_held p.scripts) own_slots ++ native_of q.name ∷ []
-    script_places = script_places-are ∙ ap (λ ss. map (name_held p.scripts) ss ++ native_of q.name ∷ []) (sym slots-are)
+    script_places : places_at v (held.Script key) ≡ map (name_held p.scripts) own_slots ++ native_of (Some q.name) ∷ []
+    script_places = script_places-are ∙ ap (λ ss. map (name_held p.scripts) ss ++ native_of (Some q.name) ∷ []) (sym slots-are)
 
     pub script_places-length : length (places_at v (held.Script key)) ≡ length own_slots + 1
     script_places-length =
         ap length script_places
-        ∙ (length-append (map (name_held p.scripts) own_slots) (native_of q.name ∷ [])
+        ∙ (length-append (map (name_held p.scripts) own_slots) (native_of (Some q.name) ∷ [])
         ∙ ap (λ i. i + 1) (length-map own_slots (name_held p.scripts)))
 
     pub script_slots-few : length own_slots ≤ most_slots
@@ -186,7 +187,7 @@ module _ (p : Inside) (owned : List ℕ) (l : IsLinked p) (o : IsInOrder owned (
     slot-named i x within e =
         ap (name_held p.scripts) e
         ∙ (sym (get_or-map (name_held p.scripts) own_slots i None)
-        ∙ (sym (get_or_append_left (map (name_held p.scripts) own_slots) (native_of q.name ∷ []) None i (subst (λ j. i < j) (sym (length-map own_slots (name_held p.scripts))) within))
+        ∙ (sym (get_or_append_left (map (name_held p.scripts) own_slots) (native_of (Some q.name) ∷ []) None i (subst (λ j. i < j) (sym (length-map own_slots (name_held p.scripts))) within))
         ∙ ap (λ ss. get_or ss i None) (sym script_places)))
 
     -- and is there.
@@ -199,13 +200,13 @@ module _ (p : Inside) (owned : List ℕ) (l : IsLinked p) (o : IsInOrder owned (
     native-named r e =
         let f = Reflects-cases v Read plain own q.name q.native (o.reflecting q q-there) r (e ∙ ap (option_and_then (λ (s : Object). s.native)) object-found.1) in (
           f.0
-              ∙ (sym (get_or_push (map (name_held p.scripts) own_slots) (native_of q.name) None (length own_slots) (length-map own_slots (name_held p.scripts)))
+              ∙ (sym (get_or_push (map (name_held p.scripts) own_slots) (native_of (Some q.name)) None (length own_slots) (length-map own_slots (name_held p.scripts)))
               ∙ ap (λ ss. get_or ss (length own_slots) None) (sym script_places)),
           f.1,
         )
       where
         Read : Name → Option ℕ → Type 0
-        Read x m = (r : Option NKey) → option_map (λ (j : NKey). j.0) r ≡ m → (held_name v (held_of_native r) ≡ native_of x) × IsThere v (held_of_native r)
+        Read x m = (r : Option NKey) → option_map (λ (j : NKey). j.0) r ≡ m → (held_name v (held_of_native r) ≡ native_of (Some x)) × IsThere v (held_of_native r)
 
         plain : (k : ℕ) → Read (object k) None
         plain k None e = (refl, tt)

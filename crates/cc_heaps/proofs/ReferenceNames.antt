@@ -18,7 +18,7 @@ use Rattle.cc_names.specs.Names.{native, object, reflector, same_name, is_script
 use Rattle.cc_names.specs.Sizes.{most_slots}
 use Rattle.cc_model.specs.Slots.{contents}
 use Rattle.cc_model.specs.Heap.{HeapNative}
-use Rattle.cc_model.specs.View.{native_edges}
+use Rattle.cc_model.specs.Places.{places_of_native}
 use Rattle.cc_model.specs.WellFormed.{IsWellFormed}
 use Rattle.cc_counted.specs.Counts.{preserved_reflector}
 use Rattle.cc_counted.specs.Owning.{HasKeys}
@@ -27,16 +27,12 @@ use Rattle.cc_script.proofs.Reaching.{held-among, among-held}
 use Rattle.cc_heaps.specs.Keyed.{key_of, reflector_key}
 use Rattle.cc_heaps.specs.Named.{named_native, IsHeldThere}
 use Rattle.cc_heaps.specs.Fields.{heap_of, IsLinked}
-use Rattle.cc_heaps.specs.Places.{places_of_native}
 use Rattle.cc_heaps.specs.Roots.{reflector_by, references_in, HaveFewSlots}
 use Rattle.cc_heaps.specs.declared.heaps.Heaps.TheInside.{Inside}
 use Rattle.cc_heaps.proofs.Keying.{key_of-name}
 use Rattle.cc_heaps.proofs.Naming.{name_in}
-use Rattle.cc_heaps.proofs.PlaceEdges.{contents-last, contents-places}
+use Rattle.cc_model.proofs.Places.{contents-last}
 use Rattle.cc_heaps.proofs.Reaching.{object_at-own, name_at-own}
-
-abbrev target : Name × Name → Name
-target e = e.1
 
 -- natives have few slots by keys as by names
 pub few_slots-counted : (p : Inside) → IsWellFormed (heap_of p) → HaveFewSlots p.counted.natives
@@ -88,20 +84,20 @@ module _ (p : Inside) (l : IsLinked p) (k : HasKeys p.counted) where
         go false e = refl
         go true e = reflector-named n m e
 
-    -- and hold what its edges lead to
-    pub contents-named : (n : HeapNative) → Among n p.counted.natives → contents (map (name_in p.scripts) (references_in p.counted n)) ≡ map target (native_edges (named_native p.scripts n))
-    contents-named n m = ap contents (references-named n m) ∙ contents-places (named_native p.scripts n)
+    -- and so are what they hold
+    pub contents-named : (n : HeapNative) → Among n p.counted.natives → contents (map (name_in p.scripts) (references_in p.counted n)) ≡ contents (places_of_native (named_native p.scripts n))
+    contents-named n m = ap contents (references-named n m)
 
     -- what a native refers to under its key, it refers to under its name
     pub named-reference : (n : HeapNative) (key : ℕ) (x : Name) → Among n p.counted.natives → Among (object key) (contents (references_in p.counted n)) → name_at p.scripts key ≡ Some x →
-        Among x (map target (native_edges (named_native p.scripts n)))
+        Among x (contents (places_of_native (named_native p.scripts n)))
     named-reference n key x m i e = subst (Among x) (contents-named n m)
         (among-held (map (name_in p.scripts) (references_in p.counted n)) x
         (subst (λ y. Among y (map (name_in p.scripts) (references_in p.counted n))) e
         (Among-map (name_in p.scripts) (Some (object key)) (references_in p.counted n) (held-among (references_in p.counted n) (object key) i))))
 
     -- and a script object that it refers to under its name, under its key
-    pub reference-named : (n : HeapNative) (x : Name) → Among n p.counted.natives → Among x (map target (native_edges (named_native p.scripts n))) → is_script x ≡ true →
+    pub reference-named : (n : HeapNative) (x : Name) → Among n p.counted.natives → Among x (contents (places_of_native (named_native p.scripts n))) → is_script x ≡ true →
         (key : ℕ) × Among (object key) (contents (references_in p.counted n)) × (name_at p.scripts key ≡ Some x)
     reference-named n x m i s =
         let j : Among x (contents (map (name_in p.scripts) (references_in p.counted n))) = subst (Among x) (sym (contents-named n m)) i in

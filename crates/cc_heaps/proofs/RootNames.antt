@@ -1,6 +1,6 @@
 -- THE ROOTS OF SCRIPT MARKING BY KEYS AND BY NAMES: what registers hold, and what natives hold.
 use Rattle.cc_heaps.proofs.Keys.{named-object}
-use Rattle.std.proofs.Common.{arith, ◌≡◌, ℕ, ◌==◌, Bool, true, false, List, ◌++◌, map, Option, Some, None, refl, sym, ◌∙◌, ap, subst, inl, ⊎_elim}
+use Rattle.std.proofs.Common.{arith, ◌≡◌, ℕ, ◌==◌, true, List, ◌++◌, map, Option, Some, None, refl, sym, ◌∙◌, ap, subst, inl, ⊎_elim}
 use Rattle.std.specs.Prelude.{IsTrue}
 use Rattle.std.specs.List.{flat_map}
 use Rattle.std.specs.Option.{option_to_list}
@@ -9,14 +9,14 @@ use Rattle.cc_lists.proofs.Members.{Among-map, Among-map_cases, Among-left, Amon
 use Rattle.cc_lists.proofs.Least.{derived-within}
 use Rattle.cc_lists.proofs.Closure.{closure-derived}
 use Rattle.cc_names.specs.declared.name.Name.{Name}
-use Rattle.cc_names.specs.declared.name.Name.TheVariants as name
 use Rattle.cc_names.specs.declared.number.SKey.{SKey}
 use Rattle.cc_names.specs.Names.{object, same_name, is_script}
 use Rattle.cc_names.proofs.NameTests.{same_name-exact}
 use Rattle.cc_model.specs.Slots.{contents, from_to}
 use Rattle.cc_model.specs.Entries.{joint, joints}
 use Rattle.cc_model.specs.Heap.{HeapNative}
-use Rattle.cc_model.specs.View.{native_edges, script_slot_edges}
+use Rattle.cc_model.specs.Places.{places_of_native}
+use Rattle.cc_model.specs.View.{script_slot_edges}
 use Rattle.cc_model.specs.Exposure.{slots_of_scripts}
 use Rattle.cc_model.specs.Colours.{black_rules, black_names, scripts_held_by, scripts_held, marked_names}
 use Rattle.cc_model.specs.WellFormed.{IsWellFormed, script_names}
@@ -130,7 +130,7 @@ module _ {owned : List ℕ} (p : Inside) (l : IsLinked p) (o : IsInOrder owned (
       w = o.sound.well_formed
 
       targets_of : HeapNative → List Name
-      targets_of n = map (λ (e : Name × Name). e.1) (native_edges n)
+      targets_of n = contents (places_of_native n)
 
   -- what is black has a name of a script object that is there
   black-there : (x : Name) → Among x (black_names (heap_of p)) → (q : Object) × Among q p.scripts × (q.name ≡ x)

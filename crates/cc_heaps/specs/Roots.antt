@@ -1,15 +1,17 @@
 -- WHERE A MARKING BEGINS: the keys that script registers hold, and those that natives hold, in slots or as preserved
 -- reflectors.
-use Rattle.std.specs.Prelude.{ℕ, ◌≤◌, ◌==◌, true, false, ◌∷◌, ◌++◌, List, [], drop, filter, flat_map, length, map, option_to_list, nat_lt, Option, Some, None, IfSome, IsSome}
+use Rattle.std.specs.Prelude.{ℕ, ◌≤◌, ◌==◌, true, false, ◌∷◌, ◌++◌, List, [], drop, filter, flat_map, length, map, option_map, option_to_list, nat_lt, Option, Some, None, IfSome, IsSome}
 use Rattle.cc_lists.specs.Members.{Among}
 use Rattle.cc_names.specs.declared.name.Name.{Name}
 use Rattle.cc_names.specs.declared.name.Name.TheVariants as name
 use Rattle.cc_names.specs.declared.number.NKey.{NKey}
 use Rattle.cc_names.specs.declared.number.SKey.{SKey}
 use Rattle.cc_names.specs.Sizes.{most_slots}
+use Rattle.cc_names.specs.Names.{object}
+use Rattle.cc_names.specs.Places.{native_places}
 use Rattle.cc_model.specs.Slots.{Slots, contents}
 use Rattle.cc_model.specs.Heap.{HeapNative}
-use Rattle.cc_counted.specs.Counts.{Counts, number_at, the_number, preserved_reflector, references_of}
+use Rattle.cc_counted.specs.Counts.{Counts, number_at, the_number, references_of}
 use Rattle.cc_counted.specs.Owning.{HasKeys}
 
 -- the keys that registers hold
@@ -33,9 +35,9 @@ reflector_by (o ∷ os) [] k = None
 reflector_by (None ∷ os) (r ∷ rs) k = reflector_by os rs k
 reflector_by (Some j ∷ os) (r ∷ rs) k = elim (j == k) [ true ↦ r | false ↦ reflector_by os rs k ]
 
--- the references of a native: its slots, then its reflector, where that is preserved
+-- the references of a native: its places
 abbrev pub references_in : Counts → HeapNative → Slots
-references_in c n = n.slots ++ preserved_reflector n.preserved (reflector_by c.keys c.reflectors n.number) ∷ []
+references_in c n = native_places n.slots n.preserved (option_map object (reflector_by c.keys c.reflectors n.number))
 
 -- the keys that natives of a counted heap hold
 abbrev pub keys_held : Counts → List HeapNative → List ℕ

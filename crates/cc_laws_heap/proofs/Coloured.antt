@@ -9,13 +9,14 @@ use Rattle.cc_lists.proofs.Counting.{count_by-map}
 use Rattle.cc_names.specs.declared.name.Name.{Name}
 use Rattle.cc_names.specs.declared.kind.Colour.{Colour}
 use Rattle.cc_names.specs.declared.kind.Colour.TheVariants.{White, Gray, Black}
-use Rattle.cc_names.specs.Names.{native, same_name, is_script, behind}
+use Rattle.cc_names.specs.Names.{native, same_name, is_script}
 use Rattle.cc_names.proofs.NameTests.{same_name-refl}
 use Rattle.cc_model.specs.Slots.{Slots, contents, from_to}
 use Rattle.cc_model.specs.Heap.{Heap, HeapNative, HeapScript, is_white_colour, is_gray_colour, is_black_colour}
 use Rattle.cc_model.specs.View.{view, names_with, native_edges, script_slot_edges, script_edges}
 use Rattle.cc_model.specs.Colours.{HasColourInvariant}
 use Rattle.cc_model.specs.WellFormed.{IsWellFormed}
+use Rattle.cc_model.proofs.Places.{behind_edges, script_edges-split}
 use Rattle.cc_lists.proofs.ListWrites.{only-member}
 use Rattle.cc_laws_heap.proofs.ViewEdges.{native_edges-are, script_edges-are}
 use Rattle.cc_laws_heap.proofs.ScriptNames.{script-named}
@@ -84,8 +85,8 @@ one-script h o p w m n e = only-member (λ (q : HeapScript). same_name o.name q.
 pub edge-from_script_slot : (h : Heap) (o : HeapScript) (x : Name) → Among o h.scripts → Among x (contents o.slots) → Among (o.name, x) (view h).edges
 edge-from_script_slot h o x m i = Among-right (from_to o.name x) (flat_map native_edges h.natives) (flat_map script_edges h.scripts)
     (Among-flat_map script_edges o (from_to o.name x) h.scripts m
-    (Among-left (from_to o.name x) (script_slot_edges o) (map (λ k. from_to o.name (native k)) (behind o.name))
-    (Among-map (from_to o.name) x (contents o.slots) i)))
+    (subst (Among (from_to o.name x)) (sym (script_edges-split o)) (Among-left (from_to o.name x) (script_slot_edges o) (behind_edges o.name)
+    (Among-map (from_to o.name) x (contents o.slots) i))))
 
 module _ (h : Heap) (w : IsWellFormed h) (c : HasColourInvariant (view h)) where
   -- no script object is white

@@ -1,7 +1,6 @@
 -- THE SHAPES OF WHAT IS IN THE HEAPS: each object is found under its name, and its edges are those of the flat view.
 use Rattle.std.proofs.Common.{arith, ◌≡◌, map, Some, option_map, refl, sym, ◌∙◌, ap, subst, ◌⊎◌, ⊎_elim}
 use Rattle.std.specs.List.{flat_map}
-use Rattle.std.proofs.lemmas.List.{map-append}
 use Rattle.cc_lists.specs.Members.{Among}
 use Rattle.cc_lists.proofs.Members.{Among-map, Among-map_cases, Among-left, Among-right, Among-append, Among-flat_map, Among-flat_map_cases}
 use Rattle.cc_names.specs.declared.name.Name.{Name}
@@ -10,6 +9,7 @@ use Rattle.cc_names.proofs.NameTests.{same_name-true, same_name-refl}
 use Rattle.cc_model.specs.Slots.{from_to}
 use Rattle.cc_model.specs.Heap.{Heap, HeapNative, HeapScript, script_at}
 use Rattle.cc_model.specs.View.{view, native_edges, script_edges}
+use Rattle.cc_model.proofs.Places.{contents-last}
 use Rattle.cc_model.specs.WellFormed.{IsWellFormed, FitsName, native_names, script_names, names_there}
 use Rattle.cc_model.specs.StandsFor.{Shape, shape_at, shape_of_held_native, shape_of_held_script}
 use Rattle.cc_lists.proofs.Filtering.{find-among, find-passes}
@@ -63,11 +63,11 @@ there-shape_at h w x m = ⊎_elim
 
 -- the edges of a native in the flat view are those of its shape
 native_edges-shape : (n : HeapNative) → native_edges n ≡ map (from_to (native n.number)) (edges_of_shape (native n.number) (shape_of_held_native n))
-native_edges-shape n = grind (arith, map-append)
+native_edges-shape n = grind (arith, contents-last)
 
 -- and so are those of a script object
 script_edges-shape : (o : HeapScript) → FitsName o.name o.kind o.slots → script_edges o ≡ map (from_to o.name) (edges_of_shape o.name (shape_of_held_script o))
-script_edges-shape o fits = grind (arith, map-append)
+script_edges-shape o fits = grind (arith, contents-last)
 
 -- AN EDGE OF THE FLAT VIEW is one of an object that is there.
 pub edge-held : (h : Heap) → IsWellFormed h → (x y : Name) → Among (x, y) (view h).edges → (s : Shape) × (shape_at h x ≡ Some s) × Among y (edges_of_shape x s)

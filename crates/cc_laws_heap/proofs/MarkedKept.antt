@@ -1,6 +1,6 @@
 -- WHAT IS MARKED AND WHAT IS NOT, once the colours are those of marking: what registers and natives hold is marked, and
 -- what is marked holds only what is marked.
-use Rattle.std.proofs.Common.{arith, ◌≡◌, Bool, true, false, [], ◌∷◌, ◌++◌, map, refl}
+use Rattle.std.proofs.Common.{arith, ◌≡◌, Bool, true, false, [], ◌∷◌, ◌++◌, refl, sym, subst}
 use Rattle.cc_lists.specs.Members.{Among, has}
 use Rattle.cc_lists.proofs.Members.{Among-map, Among-map_cases, Among-left, Among-right, Among-filter, Among-filtered, Among-passes, Among-flat_map}
 use Rattle.cc_lists.proofs.Least.{derive-root, derive-along, derive-jointly}
@@ -13,7 +13,9 @@ use Rattle.cc_names.proofs.NameTests.{same_name-exact}
 use Rattle.cc_model.specs.Slots.{contents, from_to}
 use Rattle.cc_model.specs.Entries.{Entry, joints}
 use Rattle.cc_model.specs.Heap.{Heap, HeapNative, HeapScript, is_white_colour}
-use Rattle.cc_model.specs.View.{slot_edges, preserved_edge, native_edges, script_slot_edges}
+use Rattle.cc_model.specs.Places.{places_of_native}
+use Rattle.cc_model.specs.View.{slot_edges, native_edges, script_slot_edges}
+use Rattle.cc_model.proofs.Places.{preserved_edge, native_edges-split, targets-native}
 use Rattle.cc_model.specs.Exposure.{slots_of_scripts}
 use Rattle.cc_model.specs.Colours.{IsBlack, black_names, scripts_held_by, scripts_held, IsMarked, marked_names, HasColours}
 use Rattle.cc_model.specs.Sweep.{unmarked}
@@ -52,17 +54,19 @@ module _ (h : Heap) where
   marked-held n x m i s = derive-root (black_names h ++ scripts_held h) (slots_of_scripts h) (joints h.entries) x
       (Among-right x (black_names h) (scripts_held h)
       (Among-flat_map scripts_held_by n x h.natives m
-      (Among-filter is_script x (map (λ e. e.1) (native_edges n)) (Among-map (λ (e : Name × Name). e.1) (native n.number, x) (native_edges n) i) s)))
+      (Among-filter is_script x (contents (places_of_native n))
+      (subst (Among x) (targets-native n) (Among-map (λ (e : Name × Name). e.1) (native n.number, x) (native_edges n) i)) s)))
 
   -- a script object in a native's slot is marked
   pub marked-native_slot : (n : HeapNative) (x : Name) → Among n h.natives → Among x (contents n.slots) → is_script x ≡ true → IsMarked h x
   marked-native_slot n x m i s = marked-held n x m
-      (Among-left (native n.number, x) (slot_edges (native n.number) n.slots) (preserved_edge n) (Among-map (from_to (native n.number)) x (contents n.slots) i)) s
+      (subst (Among (native n.number, x)) (sym (native_edges-split n))
+      (Among-left (native n.number, x) (slot_edges (native n.number) n.slots) (preserved_edge n) (Among-map (from_to (native n.number)) x (contents n.slots) i))) s
 
   -- a preserved reflector is marked
   pub marked-preserved : (n : HeapNative) → Among n h.natives → n.preserved ≡ true → IsMarked h (reflector n.number)
   marked-preserved n m e = marked-held n (reflector n.number) m
-      (Among-right edge (slot_edges (native n.number) n.slots) (preserved_edge n) (by_flag n.preserved e)) refl
+      (subst (Among edge) (sym (native_edges-split n)) (Among-right edge (slot_edges (native n.number) n.slots) (preserved_edge n) (by_flag n.preserved e))) refl
     where
       edge : Name × Name
       edge = from_to (native n.number) (reflector n.number)

@@ -13,6 +13,7 @@ use Rattle.cc_model.specs.Graph.{Graph, GraphNative, GraphScript, plain_object, 
 use Rattle.cc_model.specs.Reached.{edges_of}
 use Rattle.cc_model.specs.Heap as heap
 use Rattle.cc_model.specs.Heap.{Heap, HeapNative, HeapScript, native_at, script_at}
+use Rattle.cc_model.proofs.Places.{contents-last}
 use Rattle.cc_model.specs.StandsFor.{Shape, shape_in, shape_at, kind_in}
 
 -- the slots of what may have a shape
@@ -44,7 +45,7 @@ edges_of_some x (Some s) = edges_of_shape x s
 
 -- the edges of an object of the graph are those of its shape
 pub edges_of-shape : (g : Graph) (x : Name) → edges_of g x ≡ edges_of_some x (shape_in g x)
-edges_of-shape g x = grind arith
+edges_of-shape g x = grind (arith, contents-last)
 
 -- an object without slots is a weak map
 abbrev pub kind_of_slots : Option Slots → Kind

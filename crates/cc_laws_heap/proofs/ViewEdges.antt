@@ -1,12 +1,13 @@
 -- THE EDGES OF ONE OBJECT in the flat view: they start at its name, and lead to what it has.
-use Rattle.std.proofs.Common.{arith, ◌≡◌, ℕ, Bool, true, false, [], ◌∷◌, map, refl, ap, subst, inl, inr, ◌⊎◌, ⊎_elim}
+use Rattle.std.proofs.Common.{arith, ◌≡◌, ℕ, Bool, true, false, [], ◌∷◌, refl, ap, subst, inl, inr, ◌⊎◌, ⊎_elim}
 use Rattle.cc_lists.specs.Members.{Among}
 use Rattle.cc_lists.proofs.Members.{Among-map_cases, Among-append}
 use Rattle.cc_names.specs.declared.name.Name.{Name}
 use Rattle.cc_names.specs.Names.{native, reflector, behind}
 use Rattle.cc_model.specs.Slots.{contents, from_to}
 use Rattle.cc_model.specs.Heap.{HeapNative, HeapScript}
-use Rattle.cc_model.specs.View.{slot_edges, preserved_edge, native_edges, script_slot_edges, script_edges}
+use Rattle.cc_model.specs.View.{slot_edges, native_edges, script_slot_edges, script_edges}
+use Rattle.cc_model.proofs.Places.{preserved_edge, native_edges-split, behind_edges, script_edges-split}
 
 -- what a native has in a slot, or as its preserved reflector
 abbrev pub NativeHas : HeapNative → Name → Type 0
@@ -22,7 +23,7 @@ native_edges-are n x y m = ⊎_elim
     (λ l. let f = Among-map_cases (from_to (native n.number)) (contents n.slots) (x, y) l in
     (ap (λ (e : Name × Name). e.0) f.2, inl (subst (λ z. Among z (contents n.slots)) (ap (λ (e : Name × Name). e.1) f.2) f.1)))
     (λ r. go n.preserved refl r)
-    (Among-append (x, y) (slot_edges (native n.number) n.slots) (preserved_edge n) m)
+    (Among-append (x, y) (slot_edges (native n.number) n.slots) (preserved_edge n) (subst (Among (x, y)) (native_edges-split n) m))
   where
     go : (b : Bool) → n.preserved ≡ b → Among (x, y) (elim b [ true ↦ from_to (native n.number) (reflector n.number) ∷ [] | false ↦ [] ]) →
         (native n.number ≡ x) × NativeHas n y
@@ -39,4 +40,4 @@ script_edges-are o x y m = ⊎_elim
     (ap (λ (e : Name × Name). e.0) f.2, inl (subst (λ z. Among z (contents o.slots)) (ap (λ (e : Name × Name). e.1) f.2) f.1)))
     (λ r. let f = Among-map_cases (λ k. from_to o.name (native k)) (behind o.name) (x, y) r in
     (ap (λ (e : Name × Name). e.0) f.2, inr (f.0, behind-is o.name f.0 f.1, ap (λ (e : Name × Name). e.1) f.2)))
-    (Among-append (x, y) (script_slot_edges o) (map (λ k. from_to o.name (native k)) (behind o.name)) m)
+    (Among-append (x, y) (script_slot_edges o) (behind_edges o.name) (subst (Among (x, y)) (script_edges-split o) m))

@@ -8,6 +8,7 @@ use Rattle.cc_model.specs.declared.item.Event.{Event}
 use Rattle.cc_model.specs.declared.item.Event.TheVariants.{Freed, Unlinked}
 use Rattle.cc_model.specs.Slots.{contents}
 use Rattle.cc_model.specs.Heap.{Heap, HeapNative, HeapScript, native_at, set_slot, set_preserved, suspect, forget}
+use Rattle.cc_model.specs.Places.{script_places_of}
 use Rattle.cc_model.specs.Cascade.{add_ref, lower, removed, natives_of_slots}
 use Rattle.cc_model.specs.Sweep.{without_script}
 use Rattle.cc_model.specs.WellFormed.{native_names}
@@ -56,7 +57,7 @@ pub data Ending (ks : List ℕ) : Stage → List Event → Stage → Type 0 wher
 
 -- no script object has a native in a slot
 abbrev pub HoldNoNatives : Heap → Type 0
-HoldNoNatives h = (o : HeapScript) (i : ℕ) → Among o h.scripts → ¬ (Among (native i) (contents o.slots))
+HoldNoNatives h = (o : HeapScript) (i : ℕ) → Among o h.scripts → ¬ (Among (native i) (contents (script_places_of o)))
 
 -- WHAT A SWEEP DOES besides
 pub data Sweeping : Stage → List Event → Stage → Type 0 where

@@ -2,6 +2,8 @@
 use Rattle.std.proofs.Common.{arith, ◌≡◌, Bool, true, false, not, List, [], ◌∷◌, ◌++◌, map, Some, None, sym, ◌∙◌, ap, subst, inl, inr, ◌⊎◌, ⊎_elim}
 use Rattle.std.specs.List.{filter, flat_map}
 use Rattle.std.proofs.lemmas.Bool.{false≢true}
+use Rattle.cc_model.specs.Places.{places_of_native}
+use Rattle.cc_model.proofs.Places.{behind_edges, script_edges-split}
 use Rattle.cc_lists.specs.Members.{Among, has}
 use Rattle.cc_lists.specs.Least.{Least, system}
 use Rattle.cc_lists.proofs.Members.{Among-map, Among-map_cases, Among-left, Among-right, Among-append, Among-filter, Among-filtered, Among-passes, Among-flat_map, Among-flat_map_cases}
@@ -27,7 +29,6 @@ use Rattle.cc_laws_heap.specs.Sound.{IsSound}
 use Rattle.cc_laws_heap.proofs.Marking.{colour_of-black, black-decided}
 use Rattle.cc_laws_heap.proofs.MarkedKept.{marked-other}
 use Rattle.cc_laws_heap.proofs.CollectedColours.{collect_scripts-sound, collect_scripts-colours, collect_scripts-unmarked, collect_scripts-invariant}
-use Rattle.cc_laws_heap.proofs.ViewEdges.{native_edges-are}
 use Rattle.cc_laws_heap.proofs.Coloured.{is_black-true}
 use Rattle.cc_laws_heap.proofs.References.{native-there}
 use Rattle.cc_laws_snapshot.proofs.Edges.{edge-of}
@@ -70,7 +71,7 @@ module _ (h : Heap) where
   pub slot-edge : (x y : Name) → Among (x, y) (slots_of_scripts h) → Among (x, y) (view h).edges
   slot-edge x y m =
       let f = Among-flat_map_cases script_slot_edges h.scripts (x, y) m in
-      script-edge h f.0 x y f.1 (Among-left (x, y) (script_slot_edges f.0) _ f.2)
+      script-edge h f.0 x y f.1 (subst (Among (x, y)) (sym (script_edges-split f.0)) (Among-left (x, y) (script_slot_edges f.0) (behind_edges f.0.name) f.2))
 
   -- what is black by the rules is reached
   pub black-reached : (x : Name) → IsBlack h x → ReachedIn (view h) x
@@ -131,14 +132,11 @@ module _ (h : Heap) (sound : IsSound [] h) (c : HasColours h) (none : unmarked h
   held-from : (y : Name) → Among y (scripts_held h) → Among y (script_names h) → ¬ (ReachedIn (view h) y) → FromNode y
   held-from y m there out =
       let f = Among-flat_map_cases scripts_held_by h.natives y m in
-      let targets : List Name = map (λ (e : Name × Name). e.1) (native_edges f.0) in
-      let t = Among-map_cases (λ (e : Name × Name). e.1) (native_edges f.0) y (Among-filtered is_script y targets f.2) in
-      let starts = (native_edges-are f.0 t.0.0 t.0.1 t.1).0 in
+      let places : List Name = contents (places_of_native f.0) in
       let edge : Among (native f.0.number, y) (view h).edges =
       Among-left (native f.0.number, y) (flat_map native_edges h.natives) (flat_map script_edges h.scripts)
       (Among-flat_map native_edges f.0 (native f.0.number, y) h.natives f.1
-      (subst (λ z. Among (native f.0.number, z) (native_edges f.0)) t.2
-      (subst (λ z. Among (z, t.0.1) (native_edges f.0)) (sym starts) t.1))) in
+      (Among-map (from_to (native f.0.number)) y places (Among-filtered is_script y places f.2))) in
       from-along (native f.0.number) y edge
       (from-node (native f.0.number) (fresh.gray_held f.0.number y edge (unreached-gray h sound c none invariant y there out)))
 

@@ -1,6 +1,7 @@
 -- WHAT A SCRIPT COLLECTION LEAVES has all that registers and holding natives have, and that edges and entries pass on.
-use Rattle.std.proofs.Common.{◌≡◌, ◌≤◌, ℕ, List, [], ◌++◌, map, refl, sym, subst, arith, ⊎_elim, count_by}
+use Rattle.std.proofs.Common.{◌≡◌, ◌≤◌, ℕ, List, [], ◌++◌, refl, sym, subst, arith, ⊎_elim, count_by}
 use Rattle.std.proofs.lemmas.Bool.{cases_lt}
+use Rattle.cc_model.specs.Places.{places_of_native}
 use Rattle.cc_lists.specs.Members.{Among}
 use Rattle.cc_lists.proofs.Members.{Among-map, Among-map_cases, Among-right, Among-append, Among-filtered, Among-flat_map_cases}
 use Rattle.cc_lists.proofs.Counting.{counted_is}
@@ -10,10 +11,10 @@ use Rattle.cc_names.specs.declared.name.Name.{Name}
 use Rattle.cc_names.specs.declared.name.Name.TheVariants as name
 use Rattle.cc_names.specs.Names.{native, same_name, is_script}
 use Rattle.cc_names.proofs.NameTests.{same_name-true, same_name-exact}
-use Rattle.cc_model.specs.Slots.{contents}
+use Rattle.cc_model.specs.Slots.{contents, from_to}
 use Rattle.cc_model.specs.Entries.{joints}
 use Rattle.cc_model.specs.Heap.{Heap, HeapNative}
-use Rattle.cc_model.specs.View.{view, counted, to, native_edges}
+use Rattle.cc_model.specs.View.{view, counted, to}
 use Rattle.cc_model.specs.WellFormed.{native_names, script_names, names_there}
 use Rattle.cc_model.specs.Exposure.{slots_of_scripts}
 use Rattle.cc_model.specs.Colours.{HasColours, IsBlack, IsMarked, black_rules, black_names, scripts_held_by, scripts_held}
@@ -21,7 +22,6 @@ use Rattle.cc_model.specs.Sweep.{unmarked, collect_scripts}
 use Rattle.cc_laws_heap.specs.Sound.{IsSound}
 use Rattle.cc_laws_heap.proofs.MarkedKept.{marked-other}
 use Rattle.cc_laws_heap.proofs.CollectedColours.{collect_scripts-sound, collect_scripts-colours, collect_scripts-unmarked}
-use Rattle.cc_laws_heap.proofs.ViewEdges.{native_edges-are}
 use Rattle.cc_laws_snapshot.proofs.SoundView.{IsSound-view, script-place}
 use Rattle.cc_laws_snapshot.proofs.ReachedStays.{native-edge}
 use Rattle.cc_laws_run.proofs.DoomedBegin.{edge-there, slot-edge}
@@ -45,12 +45,10 @@ module _ (h : Heap) (s : IsSound [] h) (c : HasColours h) (none : unmarked h ≡
   held-has : (y : Name) → Among y (scripts_held h) → P y
   held-has y m =
       let f = Among-flat_map_cases scripts_held_by h.natives y m in
-      let targets : List Name = map (λ (e : Name × Name). e.1) (native_edges f.0) in
-      let g = Among-map_cases (λ (e : Name × Name). e.1) (native_edges f.0) y (Among-filtered is_script y targets f.2) in
-      let start : native f.0.number ≡ g.0.0 = (native_edges-are f.0 g.0.0 g.0.1 g.1).0 in
-      let edge : Among (native f.0.number, g.0.1) (view h).edges =
-      native-edge h f.0 (native f.0.number) g.0.1 f.1 (subst (λ z. Among (z, g.0.1) (native_edges f.0)) (sym start) g.1) in
-      subst P g.2 (p.edges (native f.0.number) g.0.1 edge (p.holder f.0.number g.0.1 edge))
+      let places : List Name = contents (places_of_native f.0) in
+      let edge : Among (native f.0.number, y) (view h).edges =
+      native-edge h f.0 (native f.0.number) y f.1 (Among-map (from_to (native f.0.number)) y places (Among-filtered is_script y places f.2)) in
+      p.edges (native f.0.number) y edge (p.holder f.0.number y edge)
 
   -- what is marked has it
   marked-has : (x : Name) → IsMarked h x → P x

@@ -3,6 +3,7 @@ use Rattle.std.proofs.Common.{arith, ◌≡◌, ℕ, Bool, true, false, ◌&&◌
 use Rattle.std.specs.Prelude.{option_and_then}
 use Rattle.std.specs.List.{list_all}
 use Rattle.std.proofs.lemmas.Bool.{true≢false, and_parts, and_from}
+use Rattle.cc_model.proofs.Places.{behind_edges, script_edges-split}
 use Rattle.cc_lists.specs.Members.{Among}
 use Rattle.cc_lists.proofs.Members.{Among-map_cases, Among-left, Among-append, Among-filter, Among-filtered, Among-passes}
 use Rattle.cc_lists.proofs.Least.{derive-along}
@@ -117,7 +118,7 @@ module _ (h : Heap) (g : Graph) (sound : IsSound [] h) (well : IsWellMade g) (st
   spare-holds_none x y e b s = ⊎_elim
       (λ f. true≢false (ap is_native ((native_edges-are f.0 x y f.2).0 ∙ s.named)))
       (λ f. ⊎_elim (slot f.0 f.1) (behind_it f.0)
-      (Among-append (x, y) (script_slot_edges f.0) (map (λ k. from_to f.0.name (native k)) (behind f.0.name)) f.2))
+      (Among-append (x, y) (script_slot_edges f.0) (behind_edges f.0.name) (subst (Among (x, y)) (script_edges-split f.0) f.2)))
       (edge-cases h x y e)
     where
       -- its slots are empty

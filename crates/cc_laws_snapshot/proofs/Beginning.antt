@@ -3,11 +3,14 @@ use Rattle.std.proofs.Common.{◌≡◌, ℕ, ◌≤◌, Bool, true, false, List
 use Rattle.std.specs.List.{filter, flat_map, list_all, list_any}
 use Rattle.std.specs.Option.{option_to_list}
 use Rattle.std.proofs.lemmas.Bool.{or_left, or_right, true≢false}
+use Rattle.cc_model.specs.Slots.{contents}
 use Rattle.cc_lists.specs.Members.{Among}
 use Rattle.cc_lists.proofs.Members.{Among-map, Among-map_cases, Among-left, Among-right, Among-append, Among-filter, Among-filtered, Among-flat_map, Among-flat_map_cases}
 use Rattle.cc_names.specs.declared.name.Name.{Name}
 use Rattle.cc_names.specs.Names.{native, same_name, is_script}
 use Rattle.cc_names.proofs.NameTests.{same_name-exact}
+use Rattle.cc_model.proofs.Places.{targets-native}
+use Rattle.cc_model.specs.Places.{places_of_native}
 use Rattle.cc_model.specs.Entries.{Entry}
 use Rattle.cc_model.specs.Heap.{Heap, HeapNative, Buffered, is_gray_in}
 use Rattle.cc_model.specs.View.{View, view, native_edges, script_edges}
@@ -133,8 +136,9 @@ module _ (h : Heap) (sound : IsSound [] h) (coloured : HasColourInvariant (view 
   gray-holder i y m g = ⊎_elim
       (λ l.
       let f = Among-flat_map_cases native_edges h.natives (native i, y) l in
-      let test : Name × Name → Bool = λ e. is_gray_in h e.1 in
-      let holds : holds_gray h f.0 ≡ true = list_any-some test (native_edges f.0) (native i, y) f.2 (gray-tested h y g) in
+      let place : Among y (contents (places_of_native f.0)) =
+      subst (Among y) (targets-native f.0) (Among-map (λ (e : Name × Name). e.1) (native i, y) (native_edges f.0) f.2) in
+      let holds : holds_gray h f.0 ≡ true = list_any-some (is_gray_in h) (contents (places_of_native f.0)) y place (gray-tested h y g) in
       let listed : Among (native f.0.number) (holders_of h) =
       Among-map (λ (n : HeapNative). native n.number) f.0 (filter (holds_gray h) h.natives) (Among-filter (holds_gray h) f.0 h.natives f.1 holds) in
       subst (IsNode (begun h)) (native_edges-are f.0 (native i) y f.2).0 (holder-node (native f.0.number) listed))

@@ -6,7 +6,7 @@ use Rattle.std.specs.Option.{option_to_list}
 use Rattle.std.proofs.lemmas.Bool.{and_parts, eqb-true}
 use Rattle.std.proofs.lemmas.Grind.{flat_map-append}
 use Rattle.cc_lists.specs.Members.{Among}
-use Rattle.cc_lists.proofs.Members.{Among-map, Among-map_cases, Among-left, Among-right, Among-append, Among-flat_map, Among-flat_map_cases}
+use Rattle.cc_lists.proofs.Members.{Among-map, Among-map_cases, Among-append, Among-flat_map, Among-flat_map_cases}
 use Rattle.cc_lists.proofs.Counting.{count_by-append, count_by-map}
 use Rattle.cc_names.specs.declared.name.Name.{Name}
 use Rattle.cc_names.specs.declared.name.Name.TheVariants as name
@@ -14,11 +14,12 @@ use Rattle.cc_names.specs.declared.register.Reg.{Reg}
 use Rattle.cc_names.specs.declared.register.Reg.TheVariants.{N, S}
 use Rattle.cc_names.specs.Names.{native, reflector, same_name}
 use Rattle.cc_names.proofs.NameTests.{same_name-true}
+use Rattle.cc_model.proofs.Places.{native_edges-split, native_edges-count}
 use Rattle.cc_model.specs.Slots.{contents, from_to}
 use Rattle.cc_model.specs.Heap.{Heap, HeapNative, native_at, set_register, change_native, with_native_slot, set_preserved, preserve, with_mark}
 use Rattle.cc_model.specs.Cascade.{add_ref, take_up}
 use Rattle.cc_model.specs.Effects.{with_native}
-use Rattle.cc_model.specs.View.{view, between, slot_edges, preserved_edge, native_edges}
+use Rattle.cc_model.specs.View.{view, between, slot_edges, native_edges}
 use Rattle.cc_model.specs.WellFormed.{IsWellFormed, native_names}
 use Rattle.cc_laws_heap.proofs.Natives.{native_at-member, IsWellFormed-distinct}
 use Rattle.cc_laws_heap.specs.Balance.{has_number}
@@ -97,8 +98,8 @@ module _ (h : Heap) (k i : ℕ) (there : HeapNative) (x : Option Name) (w : IsWe
   slot-as_often room taken n v j m o e =
       omega (
         arith,
-        count_by-append test (slot_edges here (set n.slots i x)) (preserved_edge n),
-        count_by-append test (slot_edges here n.slots) (preserved_edge n),
+        native_edges-count test (with_native_slot i x n),
+        native_edges-count test n,
         count_by-map test (from_to here) (contents (set n.slots i x)),
         count_by-map test (from_to here) (contents n.slots),
         count_by-flat_map_set (λ y. test (from_to here y)) option_to_list n.slots i x None within,
@@ -157,8 +158,8 @@ flag-gentle h k on pale = AreGentleBut-one [] h k flagged h.buffer (record {
     as_often n v j =
         omega (
           arith,
-          count_by-append (between v (native j)) (slot_edges (native n.number) n.slots) (preserved_edge (flagged n)),
-          count_by-append (between v (native j)) (slot_edges (native n.number) n.slots) (preserved_edge n),
+          native_edges-count (between v (native j)) (flagged n),
+          native_edges-count (between v (native j)) n,
           between-preserved v j n.number on,
           between-preserved v j n.number n.preserved,
         )
@@ -183,7 +184,7 @@ module _ (h : Heap) (n : ℕ) where
   new-holds_none e m = ⊎_elim
       (λ l. let f = Among-map_cases (from_to (native (h.natives_made + 1))) (contents (new_native h n).slots) e l in contents-empty_none n f.0 f.1)
       (λ r. r)
-      (Among-append e (slot_edges (native (h.natives_made + 1)) (new_native h n).slots) [] m)
+      (Among-append e (slot_edges (native (h.natives_made + 1)) (new_native h n).slots) [] (subst (Among e) (native_edges-split (new_native h n)) m))
 
   -- A native made is gentle: it is in the buffer.
   pub with_native-gentle : AreGentle h (with_native h n)

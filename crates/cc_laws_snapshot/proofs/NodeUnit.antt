@@ -2,17 +2,19 @@
 use Rattle.std.proofs.Common.{arith, ◌≡◌, ℕ, true, false, List, [], Option, Some, None, option_map, is_some, refl, sym, ◌∙◌, ap, subst, ◌⊎◌, ⊎_elim}
 use Rattle.std.specs.List.{filter}
 use Rattle.std.proofs.lemmas.Bool.{or_left, or_right, false≢true}
+use Rattle.cc_model.specs.Places.{places_of_native}
+use Rattle.cc_model.specs.Slots.{contents}
 use Rattle.cc_lists.specs.Members.{Among}
 use Rattle.cc_lists.proofs.Members.{Among-map_cases, Among-filter, Among-filtered, Among-passes}
 use Rattle.cc_names.specs.declared.name.Name.{Name}
 use Rattle.cc_names.specs.declared.name.Name.TheVariants as name
-use Rattle.cc_names.specs.Names.{native, object, reflector, same_name, is_native, is_script, number_of}
+use Rattle.cc_names.specs.Names.{native, same_name, is_native, is_script, number_of}
 use Rattle.cc_names.proofs.NameTests.{same_name-true, same_name-exact}
 use Rattle.cc_model.specs.Heap.{Heap, HeapScript, native_at, script_at, is_gray_in}
-use Rattle.cc_model.specs.View.{view, native_edges, script_edges}
+use Rattle.cc_model.specs.View.{view}
 use Rattle.cc_model.specs.WellFormed.{IsWellFormed, script_names}
 use Rattle.cc_model.specs.Snapshot.{Snapshot, untraversed}
-use Rattle.cc_model.specs.Units.{first_untraversed, targets, edges_in, is_noted, to_note, sample, after_node}
+use Rattle.cc_model.specs.Units.{first_untraversed, edges_in, is_noted, to_note, sample, after_node}
 use Rattle.cc_model.specs.Fresh.{IsNode, IsLiving, IsFresh}
 use Rattle.cc_laws_heap.specs.Sound.{IsSound}
 use Rattle.cc_lists.proofs.Searching.{find-some, count_by-kept}
@@ -73,7 +75,7 @@ living-read h k w l =
     let f = living-native h (native k) l.0 l.1 in
     let number : f.0.number ≡ k = ap number_of f.2 in
     let found : native_at h k ≡ Some f.0 = subst (λ i. native_at h i ≡ Some f.0) number (native_at-member h (IsWellFormed-distinct h w) f.0 f.1) in
-    ap (λ o. is_some (option_map (λ n. targets (native_edges n)) o)) found
+    ap (λ o. is_some (option_map contents (option_map places_of_native o))) found
 
 -- a script object that is there is found
 script-found : (h : Heap) (x : Name) → Among x (script_names h) → (o : HeapScript) × (script_at h x ≡ Some o)

@@ -10,6 +10,7 @@ use Rattle.cc_lists.proofs.Counting.{count_by-append, count_by-map}
 use Rattle.cc_names.specs.declared.name.Name.{Name}
 use Rattle.cc_names.specs.declared.kind.Colour.TheVariants.{Black}
 use Rattle.cc_names.specs.Names.{native, behind}
+use Rattle.cc_model.proofs.Places.{behind_edges, script_edges-split, script_edges-count}
 use Rattle.cc_model.specs.Slots.{Slots, contents, from_to}
 use Rattle.cc_model.specs.Heap.{Heap, HeapScript, is_gray_colour}
 use Rattle.cc_model.specs.View.{view, between, names_with, slot_edges, native_edges, script_slot_edges, script_edges}
@@ -81,10 +82,6 @@ pub record ScriptsEach (h : Heap) (f : HeapScript → HeapScript) : Type 0 where
   pub gray : (o : HeapScript) → is_gray (f o) ≡ true → is_gray o ≡ true
   pub black : (o : HeapScript) → is_black o ≡ true → is_black (f o) ≡ true
 
--- the edges of a script object beside its slots
-abbrev edges_behind : Name → List (Name × Name)
-edges_behind x = map (λ k. from_to x (native k)) (behind x)
-
 -- slots of script objects make no edge to a native
 slots-no_native : (h : Heap) (w x : Name) (k : ℕ) (slots : Slots) → IsWellFormed h → ((y : Name) → Among y (contents slots) → Among y (script_names h)) →
     count_by (between w (native k)) (slot_edges x slots) ≡ 0
@@ -115,11 +112,11 @@ ScriptsGently-each h f v c = record {
     same w k o m =
         omega (
           arith,
-          count_by-append test (script_slot_edges (f o)) (edges_behind (f o).name),
-          count_by-append test (script_slot_edges o) (edges_behind o.name),
+          script_edges-count test (f o),
+          script_edges-count test o,
           slots-no_native h w (f o).name k (f o).slots v (λ y i. c.changes.contents o m y i),
           slots-no_native h w o.name k o.slots v (λ y i. v.script_contents o y m i),
-          ap (λ x. count_by test (edges_behind x)) (c.changes.name o),
+          ap (λ x. count_by test (behind_edges x)) (c.changes.name o),
         )
       where
         test : Name × Name → Bool
@@ -169,7 +166,7 @@ ScriptsGently-push h o v is_it empty taken = record {
         (λ l. ⊎_elim
         (λ s. let f = Among-map_cases (from_to o.name) (contents o.slots) e s in absurd (empty f.0 f.1))
         (λ b. let f = Among-map_cases (λ k. from_to o.name (native k)) (behind o.name) e b in (f.0, f.1, ap (λ (p : Name × Name). p.1) f.2))
-        (Among-append e (script_slot_edges o) (edges_behind o.name) l))
+        (Among-append e (script_slot_edges o) (behind_edges o.name) (subst (Among e) (script_edges-split o) l)))
         (λ t. absurd t)
         (Among-append e (script_edges o) [] m)
 

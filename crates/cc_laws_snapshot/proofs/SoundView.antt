@@ -6,10 +6,9 @@ use Rattle.cc_lists.proofs.Members.{Among-map, Among-map_cases, Among-left, Amon
 use Rattle.cc_lists.proofs.Counting.{count_by-map, count_by-append}
 use Rattle.cc_names.specs.declared.name.Name.{Name}
 use Rattle.cc_names.specs.declared.name.Name.TheVariants as name
-use Rattle.cc_names.specs.declared.kind.Colour.{Colour}
-use Rattle.cc_names.specs.declared.kind.Colour.TheVariants.{White, Gray, Black}
 use Rattle.cc_names.specs.Names.{native, reflector, same_name, number_of, is_native, is_script, behind}
 use Rattle.cc_names.proofs.NameTests.{same_name-true}
+use Rattle.cc_model.proofs.Places.{native_edges-split, script_edges-count}
 use Rattle.cc_model.specs.Slots.{contents, from_to}
 use Rattle.cc_model.specs.Entries.{Entry}
 use Rattle.cc_model.specs.Heap.{Heap, HeapNative, HeapScript, native_at, is_white_colour, is_gray_colour, is_black_colour}
@@ -124,7 +123,7 @@ to-targets x k ys = count_by-map (to (native k)) (from_to x) ys ∙ count_by-agr
 
 -- a native's edges to natives are those of its slots
 native_edges-to : (n : HeapNative) (k : ℕ) → count_by (to (native k)) (native_edges n) ≡ count_by (same_name (native k)) (contents n.slots)
-native_edges-to n k = go n.preserved
+native_edges-to n k = ap (count_by (to (native k))) (native_edges-split n) ∙ go n.preserved
   where
     edge_by : Bool → List (Name × Name)
     edge_by b = elim b [ true ↦ from_to (native n.number) (reflector n.number) ∷ [] | false ↦ [] ]
@@ -139,7 +138,7 @@ script_edges-to : (h : Heap) (o : HeapScript) (k : ℕ) → IsWellFormed h → A
 script_edges-to h o k w m =
     let slots : count_by (to (native k)) (script_slot_edges o) ≡ 0 =
     to-targets o.name k (contents o.slots) ∙ none-native h k (contents o.slots) w (λ x i. w.script_contents o x m i) in
-    omega (arith, count_by-append (to (native k)) (script_slot_edges o) (map (λ j. from_to o.name (native j)) (behind o.name)), go o.name o.name)
+    omega (arith, script_edges-count (to (native k)) o, go o.name o.name)
   where
     go : (x y : Name) → count_by (to (native k)) (map (λ j. from_to y (native j)) (behind x)) ≡ cond (same_name x (reflector k)) 1 0
     go (name.Native i) y = refl

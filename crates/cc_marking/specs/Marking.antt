@@ -4,13 +4,14 @@ use Rattle.std.specs.Prelude.{◌≡◌, ◌↔◌, IsTrue, ℕ, ◌==◌, List,
 use Rattle.cc_lists.specs.Members.{Among}
 use Rattle.cc_lists.specs.Least.{Rule, Least, system, closure}
 use Rattle.cc_names.specs.declared.kind.Colour.TheVariants.{Gray, Black}
+use Rattle.cc_names.specs.Places.{entry_joint}
 use Rattle.cc_script.specs.Objects.{Object, coloured_by, is_there}
 use Rattle.cc_script.specs.Walking.{edges}
 use Rattle.cc_weakmaps.specs.Entries.{KeyedEntry}
 
 -- an entry as a rule: map and key together give the value
 abbrev pub joint : KeyedEntry → List ℕ × ℕ
-joint e = (e.the_map ∷ e.key ∷ [], e.value)
+joint e = entry_joint e.the_map e.key e.value
 
 abbrev pub joints : List KeyedEntry → List (List ℕ × ℕ)
 joints es = map joint es

@@ -1,4 +1,5 @@
 pub mod Tellings
+pub mod Places
 pub mod Reaching
 pub mod Draining
 pub mod Rounds

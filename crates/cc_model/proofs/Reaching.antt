@@ -1,7 +1,7 @@
 -- What a graph reaches, by its own rules, is the least set of its list of rules.
 use Rattle.std.specs.List.{flat_map}
 use Rattle.std.specs.Prelude.{IsTrue}
-use Rattle.std.proofs.Common.{◌≡◌, ◌↔◌, ℕ, zero, suc, ◌+◌, List, [], ◌∷◌, ◌++◌, map, Option, Some, None, refl, sym, ap, subst, inl, inr, ⊎_elim, slice_index_or, slice_get, option_map, arith}
+use Rattle.std.proofs.Common.{◌≡◌, ◌↔◌, ℕ, zero, suc, ◌+◌, List, [], ◌∷◌, map, Option, Some, None, refl, sym, ap, subst, inl, inr, ⊎_elim, slice_index_or, slice_get, option_map, arith}
 use Rattle.std.specs.Option.{option_and_then}
 use Rattle.cc_lists.specs.Members.{Among, has}
 use Rattle.cc_lists.specs.Least.{Least}
@@ -17,8 +17,9 @@ use Rattle.cc_names.proofs.NameTests.{same_name-exact}
 use Rattle.cc_model.specs.Slots.{Slots, contents, from_to}
 use Rattle.cc_model.specs.Entries.{Entry, joint, joints}
 use Rattle.cc_model.specs.Checks.{slots_or_none}
-use Rattle.cc_model.specs.Graph.{Graph, GraphNative, GraphScript, numbered, native_in, script_in, slots_of_script, register}
-use Rattle.cc_model.specs.Reached.{Reached, held, edge, value, edges_of, kept_reflector, native_behind, edges_from, all_edges, names_of, numbers_from, with_reflector, roots_of, reach_rules, reached_names}
+use Rattle.cc_model.specs.Graph.{Graph, GraphNative, GraphScript, numbered, native_in, script_in, register}
+use Rattle.cc_model.specs.Places.{places_of_made_native, places_of_made_script, places_of_made_reflector}
+use Rattle.cc_model.specs.Reached.{Reached, held, edge, value, edges_of, edges_from, all_edges, names_of, numbers_from, with_reflector, roots_of, reach_rules, reached_names}
 
 -- what stands at a place of the registers is among their contents
 pub content-at : (x : Name) (slots : Slots) (r : ℕ) → slice_index_or slots r None ≡ Some x → Among x (contents slots)
@@ -51,33 +52,23 @@ numbers-of : {X : Type 0} (xs : List X) (k : ℕ) (x : X) → numbered xs k ≡ 
 numbers-of xs zero x e = let bad : None ≡ Some x = e in cc
 numbers-of xs (suc i) x e = subst (λ n. Among n (numbers_from 1 xs)) (omega arith) (numbers-get xs 1 i x e)
 
--- the slots of what may be there
-abbrev slots_of : Option GraphNative → Option Slots
-slots_of o = option_map (λ n. n.slots) o
-
-abbrev slots_of_object : Option GraphScript → Option Slots
-slots_of_object o = option_and_then slots_of_script o
-
-abbrev slots_of_reflector : Option GraphNative → Option Slots
-slots_of_reflector o = option_and_then (λ n. n.reflector) o
-
 -- an object that has an edge stands among the names of all objects
 with-edge-named : (g : Graph) (x y : Name) → Among y (edges_of g x) → Among x (names_of g)
 with-edge-named g (Native k) y m = go (native_in g k.0) refl m
   where
-    go : (o : Option GraphNative) → native_in g k.0 ≡ o → Among y (contents (slots_or_none (slots_of o)) ++ kept_reflector k.0 o) → Among (native k.0) (names_of g)
+    go : (o : Option GraphNative) → native_in g k.0 ≡ o → Among y (contents (slots_or_none (option_map (places_of_made_native k.0) o))) → Among (native k.0) (names_of g)
     go None e i = absurd i
     go (Some n) e i = Among-left (native k.0) (flat_map with_reflector (numbers_from 1 g.natives)) (map object (numbers_from 1 g.scripts))
         (Among-flat_map with_reflector k.0 (native k.0) (numbers_from 1 g.natives) (numbers-of g.natives k.0 n e) (inl refl))
 with-edge-named g (Script k) y m = go (script_in g k.0) refl m
   where
-    go : (o : Option GraphScript) → script_in g k.0 ≡ o → Among y (contents (slots_or_none (slots_of_object o)) ++ []) → Among (object k.0) (names_of g)
+    go : (o : Option GraphScript) → script_in g k.0 ≡ o → Among y (contents (slots_or_none (option_map (places_of_made_script k.0) o))) → Among (object k.0) (names_of g)
     go None e i = absurd i
     go (Some n) e i = Among-right (object k.0) (flat_map with_reflector (numbers_from 1 g.natives)) (map object (numbers_from 1 g.scripts))
         (Among-map object k.0 (numbers_from 1 g.scripts) (numbers-of g.scripts k.0 n e))
 with-edge-named g (Reflector k) y m = go (native_in g k.0) refl m
   where
-    go : (o : Option GraphNative) → native_in g k.0 ≡ o → Among y (contents (slots_or_none (slots_of_reflector o)) ++ native_behind k.0 o) → Among (reflector k.0) (names_of g)
+    go : (o : Option GraphNative) → native_in g k.0 ≡ o → Among y (contents (slots_or_none (option_and_then (places_of_made_reflector k.0) o))) → Among (reflector k.0) (names_of g)
     go None e i = absurd i
     go (Some n) e i = Among-left (reflector k.0) (flat_map with_reflector (numbers_from 1 g.natives)) (map object (numbers_from 1 g.scripts))
         (Among-flat_map with_reflector k.0 (reflector k.0) (numbers_from 1 g.natives) (numbers-of g.natives k.0 n e) (inr (inl refl)))

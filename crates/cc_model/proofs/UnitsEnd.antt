@@ -15,11 +15,14 @@ use Rattle.cc_names.specs.Names.{object, reflector, same_name}
 use Rattle.cc_names.proofs.NameTests.{same_name-exact}
 use Rattle.cc_model.specs.declared.item.Event.{Event}
 use Rattle.cc_model.specs.Heap.{Heap, HeapNative, HeapScript, native_at, script_at}
+use Rattle.cc_model.specs.Slots.{contents}
+use Rattle.cc_model.specs.Places.{places_of_native, places_of_script}
 use Rattle.cc_model.specs.View.{view, native_edges, script_edges}
 use Rattle.cc_model.specs.Snapshot.{NodeState, gone, traversed, Node, Snapshot}
-use Rattle.cc_model.specs.Units.{first_names, new_node, begun, is_untraversed, first_untraversed, targets, edges_in, is_noted, to_note, sample, with_state, with_node, with_nodes, after_node}
+use Rattle.cc_model.specs.Units.{first_names, new_node, begun, is_untraversed, first_untraversed, edges_in, is_noted, to_note, sample, with_state, with_node, with_nodes, after_node}
 use Rattle.cc_model.specs.End.{Progress, went_on, at_end, refused, UnitDone, may_be_refused, abandoned, node_or_end, granted, unit}
 use Rattle.cc_model.specs.Collecting.{Machine, UnitsDone, no_units, next_answer, one_unit, units_done, nodes_so_far, enough_units, to_the_end}
+use Rattle.cc_model.proofs.Places.{targets, targets-native, targets-script}
 use Rattle.cc_lists.proofs.Filtering.{find-among, count_by-wider, has-left}
 
 -- What is left to traverse
@@ -124,19 +127,19 @@ left-with_nodes edges ns (y ∷ ys) h = omega (
 -- The unit of a node
 
 -- what a native that is there refers to is what edges of the heaps lead to
-targets-native : (h : Heap) (k : ℕ) (n : HeapNative) → native_at h k ≡ Some n → (y : Name) → Among y (targets (native_edges n)) → Among y (targets (view h).edges)
-targets-native h k n e y m =
+from-native : (h : Heap) (k : ℕ) (n : HeapNative) → native_at h k ≡ Some n → (y : Name) → Among y (contents (places_of_native n)) → Among y (targets (view h).edges)
+from-native h k n e y m =
     let there : Among n h.natives = find-among (λ n. n.number == k) h.natives n e in
-    let found = Among-map_cases (λ (e : Name × Name). e.1) (native_edges n) y m in
+    let found = Among-map_cases (λ (e : Name × Name). e.1) (native_edges n) y (subst (Among y) (sym (targets-native n)) m) in
     let edge : Among found.0 (view h).edges = Among-left found.0 (flat_map native_edges h.natives) (flat_map script_edges h.scripts)
     (Among-flat_map native_edges n found.0 h.natives there found.1) in
     subst (λ z. Among z (targets (view h).edges)) found.2 (Among-map (λ (e : Name × Name). e.1) found.0 (view h).edges edge)
 
 -- what a script object that is there refers to is what edges of the heaps lead to
-targets-script : (h : Heap) (x : Name) (o : HeapScript) → script_at h x ≡ Some o → (y : Name) → Among y (targets (script_edges o)) → Among y (targets (view h).edges)
-targets-script h x o e y m =
+from-script : (h : Heap) (x : Name) (o : HeapScript) → script_at h x ≡ Some o → (y : Name) → Among y (contents (places_of_script o)) → Among y (targets (view h).edges)
+from-script h x o e y m =
     let there : Among o h.scripts = find-among (λ o. same_name o.name x) h.scripts o e in
-    let found = Among-map_cases (λ (e : Name × Name). e.1) (script_edges o) y m in
+    let found = Among-map_cases (λ (e : Name × Name). e.1) (script_edges o) y (subst (Among y) (sym (targets-script o)) m) in
     let edge : Among found.0 (view h).edges = Among-right found.0 (flat_map native_edges h.natives) (flat_map script_edges h.scripts)
     (Among-flat_map script_edges o found.0 h.scripts there found.1) in
     subst (λ z. Among z (targets (view h).edges)) found.2 (Among-map (λ (e : Name × Name). e.1) found.0 (view h).edges edge)
@@ -150,19 +153,19 @@ LeadTo h (Some ys) = (y : Name) → Among y ys → Among y (targets (view h).edg
 edges_in-lead : (h : Heap) (x : Name) → LeadTo h (edges_in h x)
 edges_in-lead h (Native k) = go (native_at h k.0) refl
   where
-    go : (o : Option HeapNative) → native_at h k.0 ≡ o → LeadTo h (option_map (λ n. targets (native_edges n)) o)
+    go : (o : Option HeapNative) → native_at h k.0 ≡ o → LeadTo h (option_map contents (option_map places_of_native o))
     go None e = tt
-    go (Some n) e = targets-native h k.0 n e
+    go (Some n) e = from-native h k.0 n e
 edges_in-lead h (Script k) = go (script_at h (object k.0)) refl
   where
-    go : (o : Option HeapScript) → script_at h (object k.0) ≡ o → LeadTo h (option_map (λ o. targets (script_edges o)) o)
+    go : (o : Option HeapScript) → script_at h (object k.0) ≡ o → LeadTo h (option_map contents (option_map places_of_script o))
     go None e = tt
-    go (Some o) e = targets-script h (object k.0) o e
+    go (Some o) e = from-script h (object k.0) o e
 edges_in-lead h (Reflector k) = go (script_at h (reflector k.0)) refl
   where
-    go : (o : Option HeapScript) → script_at h (reflector k.0) ≡ o → LeadTo h (option_map (λ o. targets (script_edges o)) o)
+    go : (o : Option HeapScript) → script_at h (reflector k.0) ≡ o → LeadTo h (option_map contents (option_map places_of_script o))
     go None e = tt
-    go (Some o) e = targets-script h (reflector k.0) o e
+    go (Some o) e = from-script h (reflector k.0) o e
 
 -- what the unit of a node notes is what edges of the heaps lead to
 to_note-lead : (h : Heap) (x : Name) → LeadTo h (to_note h x)

@@ -9,7 +9,8 @@ use Rattle.cc_names.specs.Names.{same_name, is_script}
 use Rattle.cc_model.specs.Slots.{contents}
 use Rattle.cc_model.specs.Entries.{joints}
 use Rattle.cc_model.specs.Heap.{Heap, HeapNative, HeapScript}
-use Rattle.cc_model.specs.View.{View, native_edges}
+use Rattle.cc_model.specs.Places.{places_of_native}
+use Rattle.cc_model.specs.View.{View}
 use Rattle.cc_model.specs.Exposure.{slots_of_scripts}
 
 -- BLACK: from the script registers, over script slots, and: map and key black make the value black
@@ -22,9 +23,9 @@ IsBlack h = Least (black_rules h)
 abbrev pub black_names : Heap → List Name
 black_names h = closure same_name (black_rules h)
 
--- the script objects that natives hold: in a slot, or as a preserved reflector
+-- the script objects to which natives refer
 abbrev pub scripts_held_by : HeapNative → List Name
-scripts_held_by n = filter is_script (map (λ e. e.1) (native_edges n))
+scripts_held_by n = filter is_script (contents (places_of_native n))
 
 abbrev pub scripts_held : Heap → List Name
 scripts_held h = flat_map scripts_held_by h.natives

@@ -2,6 +2,7 @@
 use Rattle.std.specs.Prelude.{Bool, true, false, not, ◌&&◌, List, [], ◌∷◌, map, filter, Option, Some, None}
 use Rattle.cc_names.specs.declared.name.Name.{Name}
 use Rattle.cc_names.specs.Names.{same_name}
+use Rattle.cc_names.specs.Places.{entry_joint}
 
 -- a key has a value in a map
 pub record Entry : Type 0 where
@@ -32,7 +33,7 @@ without_entry es m k = filter (λ e. not (is_entry_of m k e)) es
 
 -- an entry as a rule: map and key together give the value
 abbrev pub joint : Entry → List Name × Name
-joint e = (e.the_map ∷ e.key ∷ [], e.value)
+joint e = entry_joint e.the_map e.key e.value
 
 abbrev pub joints : List Entry → List (List Name × Name)
 joints es = map joint es

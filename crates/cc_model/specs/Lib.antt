@@ -18,6 +18,7 @@ pub mod Listed
 pub mod Lawful
 pub mod Quiet
 pub mod Heap
+pub mod Places
 pub mod View
 pub mod WellFormed
 pub mod Counts

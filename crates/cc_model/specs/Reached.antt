@@ -1,9 +1,8 @@
 -- What the registers of the graph reach.
-use Rattle.std.specs.Prelude.{◌≡◌, ℕ, ◌+◌, true, false, List, [], ◌∷◌, ◌++◌, map, flat_map, Option, Some, None}
+use Rattle.std.specs.Prelude.{◌≡◌, ℕ, ◌+◌, List, [], ◌∷◌, ◌++◌, map, flat_map, Some}
 use Rattle.cc_lists.specs.Members.{Among}
 use Rattle.cc_lists.specs.Least.{Rule, system, closure}
 use Rattle.cc_names.specs.declared.name.Name.{Name}
-use Rattle.cc_names.specs.declared.name.Name.TheVariants as name
 use Rattle.cc_names.specs.declared.register.Reg.{Reg}
 use Rattle.cc_names.specs.Names.{native, object, reflector, same_name}
 use Rattle.cc_model.specs.Banks.{over_banks}
@@ -11,25 +10,11 @@ use Rattle.cc_model.specs.Slots.{contents, from_to}
 use Rattle.cc_model.specs.Entries.{Entry, joints}
 use Rattle.cc_model.specs.Checks.{slots_or_none}
 use Rattle.cc_model.specs.Graph.{Graph, GraphNative, bank, register, native_in, slots_in}
+use Rattle.cc_model.specs.Places.{places_made}
 
--- a native refers to its reflector where that is preserved
-abbrev pub kept_reflector : ℕ → Option GraphNative → List Name
-kept_reflector k None = []
-kept_reflector k (Some n) = elim n.preserved [ true ↦ reflector k ∷ [] | false ↦ [] ]
-
--- a reflector that was made refers to its native
-abbrev pub native_behind : ℕ → Option GraphNative → List Name
-native_behind k None = []
-native_behind k (Some n) = elim n.reflector [ None ↦ [] | Some slots ↦ native k ∷ [] ]
-
-abbrev pub further_edges : Graph → Name → List Name
-further_edges g (name.Native k) = kept_reflector k.0 (native_in g k.0)
-further_edges g (name.Script k) = []
-further_edges g (name.Reflector k) = native_behind k.0 (native_in g k.0)
-
--- THE EDGES of an object, by occurrence: what its slots hold, then its preserved reflector or its native
+-- THE EDGES of an object, by occurrence: what its places hold; what was never made has none
 abbrev pub edges_of : Graph → Name → List Name
-edges_of g x = contents (slots_or_none (slots_in g x)) ++ further_edges g x
+edges_of g x = contents (slots_or_none (places_made g x))
 
 -- THE REACHED NAMES: the least set that has the names in the registers, is closed under edges,
 -- and has the value of each entry whose map and key it has

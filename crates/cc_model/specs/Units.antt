@@ -4,11 +4,11 @@ use Rattle.std.specs.List.{list_any}
 use Rattle.cc_lists.specs.Members.{has, with_all_last}
 use Rattle.cc_names.specs.declared.name.Name.{Name}
 use Rattle.cc_names.specs.declared.name.Name.TheVariants as name
-use Rattle.cc_names.specs.Names.{native, object, reflector, same_name, is_native}
-use Rattle.cc_model.specs.Slots.{from_to}
+use Rattle.cc_names.specs.Names.{native, same_name, is_native}
+use Rattle.cc_model.specs.Slots.{contents, from_to}
 use Rattle.cc_model.specs.Entries.{Entry}
-use Rattle.cc_model.specs.Heap.{Heap, HeapNative, native_at, script_at, is_gray_in}
-use Rattle.cc_model.specs.View.{native_edges, script_edges}
+use Rattle.cc_model.specs.Heap.{Heap, HeapNative, native_at, is_gray_in}
+use Rattle.cc_model.specs.Places.{places_of_native, places_in}
 use Rattle.cc_model.specs.Snapshot.{NodeState, untraversed, gone, traversed, Node, Mapping, Snapshot}
 
 -- Begin
@@ -18,9 +18,9 @@ abbrev pub candidates_of : Heap → List ℕ
 candidates_of h = map (λ b. b.number) (filter (λ b. b.purple) h.buffer)
 
 abbrev pub holds_gray : Heap → HeapNative → Bool
-holds_gray h n = list_any (λ e. is_gray_in h e.1) (native_edges n)
+holds_gray h n = list_any (is_gray_in h) (contents (places_of_native n))
 
--- the natives that hold a gray object, in a slot or as a preserved reflector, by rising number
+-- the natives that refer to a gray object, by rising number
 abbrev pub holders_of : Heap → List Name
 holders_of h = map (λ n. native n.number) (filter (holds_gray h) h.natives)
 
@@ -65,14 +65,9 @@ abbrev pub first_untraversed : List Node → Option Name
 first_untraversed [] = None
 first_untraversed (n ∷ ns) = elim (is_untraversed n.state) [ true ↦ Some n.name | false ↦ first_untraversed ns ]
 
-abbrev pub targets : List (Name × Name) → List Name
-targets edges = map (λ e. e.1) edges
-
--- what an object that is there refers to, in order: its slots, then its preserved reflector or its native
+-- what an object that is there refers to, in the order of its places
 abbrev pub edges_in : Heap → Name → Option (List Name)
-edges_in h (name.Native k) = option_map (λ n. targets (native_edges n)) (native_at h k.0)
-edges_in h (name.Script k) = option_map (λ o. targets (script_edges o)) (script_at h (object k.0))
-edges_in h (name.Reflector k) = option_map (λ o. targets (script_edges o)) (script_at h (reflector k.0))
+edges_in h x = option_map contents (places_in h x)
 
 -- natives and gray objects are noted
 abbrev pub is_noted : Heap → Name → Bool

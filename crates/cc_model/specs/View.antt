@@ -1,5 +1,5 @@
 -- The heaps seen flat: each edge as often as its object holds it. Laws speak of this view.
-use Rattle.std.specs.Prelude.{ℕ, Bool, true, false, ◌&&◌, ◌||◌, List, [], ◌∷◌, ◌++◌, map, filter, flat_map}
+use Rattle.std.specs.Prelude.{ℕ, Bool, ◌&&◌, ◌||◌, List, ◌++◌, map, filter, flat_map}
 use Rattle.cc_lists.specs.Members.{has}
 use Rattle.cc_lists.specs.Least.{Rule, Least, system, closure}
 use Rattle.cc_names.specs.declared.name.Name.{Name}
@@ -8,6 +8,7 @@ use Rattle.cc_model.specs.Banks.{over_banks}
 use Rattle.cc_model.specs.Slots.{Slots, contents, from_to}
 use Rattle.cc_model.specs.Entries.{Entry, joints}
 use Rattle.cc_model.specs.Heap.{Heap, HeapNative, HeapScript, Buffered, bank, is_white_colour, is_gray_colour, is_black_colour}
+use Rattle.cc_model.specs.Places.{places_of_native, places_of_script, script_places_of}
 
 pub record View : Type 0 where
   -- what the registers of all banks hold, empty ones left out
@@ -24,22 +25,21 @@ pub record View : Type 0 where
   pub gray : List Name
   pub white : List Name
 
+-- to what places hold
 abbrev pub slot_edges : Name → Slots → List (Name × Name)
 slot_edges x slots = map (from_to x) (contents slots)
 
-abbrev pub preserved_edge : HeapNative → List (Name × Name)
-preserved_edge n = elim n.preserved [ true ↦ from_to (native n.number) (reflector n.number) ∷ [] | false ↦ [] ]
-
 -- slots in rising order, then the preserved reflector
 abbrev pub native_edges : HeapNative → List (Name × Name)
-native_edges n = slot_edges (native n.number) n.slots ++ preserved_edge n
+native_edges n = slot_edges (native n.number) (places_of_native n)
 
+-- those over which script and marking go
 abbrev pub script_slot_edges : HeapScript → List (Name × Name)
-script_slot_edges o = slot_edges o.name o.slots
+script_slot_edges o = slot_edges o.name (script_places_of o)
 
 -- slots in rising order, then the native of a reflector
 abbrev pub script_edges : HeapScript → List (Name × Name)
-script_edges o = script_slot_edges o ++ map (λ k. from_to o.name (native k)) (behind o.name)
+script_edges o = slot_edges o.name (places_of_script o)
 
 -- the native's name with its count
 abbrev pub counted : HeapNative → Name × ℕ

@@ -1,3 +1,4 @@
 pub mod Allowance
 pub mod Names
 pub mod Sizes
+pub mod Places
