@@ -7,21 +7,20 @@ use Rattle.cc_names.specs.declared.number.NativeNo.{NativeNo}
 use Rattle.cc_model.specs.Checks.{Objects}
 use Rattle.cc_model.specs.Graph.{Graph}
 use Rattle.cc_laws_run.specs.Doomed.{IsSuspectedNow}
-use Rattle.cc_heaps.specs.Keyed.{Keyed}
 use Rattle.cc_heaps.specs.Standing.{StillStands}
-use Rattle.cc_builder.specs.Building.{Built}
 use Rattle.cc_collector.specs.Kept.{RunsIn, machine_of}
 use Rattle.cc_document.specs.declared.error.DocumentError.{DocumentError}
 use Rattle.cc_document.specs.declared.error.DocumentError.TheVariants.{Empty, HasParent, NoPlace, NoChild, Full, NoMemory}
+use Rattle.cc_document.specs.declared.parts.Parts.{Parts}
 use Rattle.cc_document.specs.Words.{element, element_of, in_variable}
 use Rattle.cc_document.specs.Changes.{Between}
 use Rattle.cc_document.specs.Stops.{StopsClosing, StopsListening, StopsWrapping}
-use Rattle.cc_document.specs.Shown.{Shows, parts}
+use Rattle.cc_document.specs.Shown.{Shows}
 
 -- a collection leaves the document as it is
-pub collected-shown : (v w : Keyed) (b c : Option Built) (g : Graph) → Shows (parts v b) g → RunsIn w c → StillStands v.heap w.heap →
-    (IsSuspectedNow (machine_of v.heap b) → IsSuspectedNow (machine_of w.heap c)) → Shows (parts w c) g
-collected-shown v w b c g s runs stands suspected = record {
+pub collected-shown : (p q : Parts) (g : Graph) → Shows p g → RunsIn q.heaps q.running → StillStands p.heaps.heap q.heaps.heap →
+    (IsSuspectedNow (machine_of p.heaps.heap p.running) → IsSuspectedNow (machine_of q.heaps.heap q.running)) → Shows q g
+collected-shown p q g s runs stands suspected = record {
   runs = runs;
   suspected = suspected s.suspected;
   well = s.well;

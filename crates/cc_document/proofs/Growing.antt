@@ -16,6 +16,8 @@ use Rattle.cc_model.specs.Effects.{hold_script, make_object, set_entry, with_ref
 use Rattle.cc_model.specs.WellFormed.{native_names, script_names, names_there}
 use Rattle.cc_laws_heap.proofs.Face.{native_names-change}
 use Rattle.cc_heaps.specs.Leaving.{NoneCame, NothingLeft}
+use Rattle.cc_document.specs.declared.parts.Parts.{Parts}
+use Rattle.cc_document.specs.Shown.{Makes}
 use Rattle.cc_document.specs.Told.{AreMade, Grows}
 
 -- nothing was made
@@ -28,6 +30,10 @@ made-then a b m n h g k s t = record {
   scripts_made = omega (arith, s.scripts_made, t.scripts_made);
   limits = t.limits ∙ s.limits;
 }
+
+-- and the collection that runs is as it was
+pub makes-then : (a b m n : ℕ) (p q r : Parts) → Makes a b p q → Makes m n q r → Makes (a + m) (b + n) p r
+makes-then a b m n p q r s t = record { running = t.running ∙ s.running; made = made-then a b m n p.heaps.heap q.heaps.heap r.heaps.heap s.made t.made }
 
 -- Growing
 

@@ -11,11 +11,10 @@ use Rattle.cc_model.specs.declared.command.Command.TheVariants.{Native, Script}
 use Rattle.cc_model.specs.declared.item.Refusal.{Refusal}
 use Rattle.cc_model.specs.Checks.{refusal_of}
 use Rattle.cc_model.specs.Graph.{Graph, GraphNative, GraphScript, native_in, script_in, objects_of, register, source, set_native, set_script, set_slot, with_slot, with_reflector_slot, with_script_slot, as_preserved, preserve, set_entry, changed, unless_refused}
-use Rattle.cc_heaps.specs.Keyed.{Keyed}
-use Rattle.cc_builder.specs.Building.{Built}
+use Rattle.cc_document.specs.declared.parts.Parts.{Parts}
 use Rattle.cc_document.specs.Words.{element_slots}
 use Rattle.cc_document.specs.Changes.{LetsScripts}
-use Rattle.cc_document.specs.Shown.{Shows, IsIdle, parts, written, wrapping, without, making_closure, closing, entering, made_in, closed_over, listened, entered, with_data, appended, removed}
+use Rattle.cc_document.specs.Shown.{Shows, IsIdle, written, wrapping, without, making_closure, closing, entering, made_in, closed_over, listened, entered, with_data, appended, removed}
 use Rattle.cc_document.proofs.Closures.{wrapping-reads}
 use Rattle.cc_document.proofs.Reached.{alike}
 
@@ -152,6 +151,6 @@ left-closed g k about enough p r = ⊎_elim
     (without-lets k 1 r)
 
 -- NO CLOSURE IS BEING MADE after a call, where none was before.
-pub idle-after : (v w : Keyed) (b c : Option Built) (g k : Graph) → Shows (parts v b) g → Shows (parts w c) k → LetsScripts (objects_of g) (objects_of k) → IsIdle v → IsIdle w
-idle-after v w b c g k s t lets idle r ne =
-    (alike w c k t).register (S r) ∙ ⊎_elim (λ same. same ∙ (sym ((alike v b g s).register (S r)) ∙ idle r ne)) (λ n. n) (lets r)
+pub idle-after : (p q : Parts) (g k : Graph) → Shows p g → Shows q k → LetsScripts (objects_of g) (objects_of k) → IsIdle p.heaps → IsIdle q.heaps
+idle-after p q g k s t lets idle r ne =
+    (alike q.heaps q.running k t).register (S r) ∙ ⊎_elim (λ same. same ∙ (sym ((alike p.heaps p.running g s).register (S r)) ∙ idle r ne)) (λ n. n) (lets r)
