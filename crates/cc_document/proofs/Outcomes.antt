@@ -22,8 +22,3 @@ stopped-alike P r d at p e is =
     let both : Err d ≡ Err e = sym at ∙ is in
     let same : d ≡ e = cc in
     subst P same p
-
--- what holds anyway holds of an error
-pub err-of : {T E P : Type 0} (r : Result T E) → P → OnErr r P
-err-of (Ok x) p = tt
-err-of (Err e) p = p

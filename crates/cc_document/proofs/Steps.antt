@@ -41,11 +41,7 @@ Shows-step v w c change t g s d =
       document = d;
     }
 
--- what a variable holds, as a slot holds it
-pub native-held : (v : Keyed) (x : Option NKey) → held_name v (held_of_native x) ≡ native_name v x
-native-held v None = refl
-native-held v (Some key) = refl
-
+-- what a variable holds is black, as a slot holds it
 pub native-black : (v : Keyed) (x : Option NKey) → IsBlackHeld v (held_of_native x)
 native-black v None = tt
 native-black v (Some key) = tt

@@ -1,4 +1,5 @@
 use Rattle.std.proofs.Common.{◌≡◌, true, Some, is_some, refl, sym, subst, inl, inr, ⊎_elim}
+use Rattle.cc_lists.proofs.KnownBytes.{on_err_of}
 use Rattle.cc_names.specs.declared.register.Reg.TheVariants.{N, S}
 use Rattle.cc_model.specs.Graph.{objects_of, register}
 use Rattle.cc_document.specs.Words.{element_of}
@@ -13,7 +14,6 @@ use Rattle.cc_document.proofs.Freed.{tells-after}
 use Rattle.cc_document.proofs.Growing.{grows-stays, makes-then}
 use Rattle.cc_heaps.specs.Leaving.{TellsWhatIsFreed}
 use Rattle.cc_document.proofs.Idle.{idle-after, listened-left}
-use Rattle.cc_document.proofs.Outcomes.{err-of}
 use Rattle.cc_document.proofs.Reached.{alike}
 use Rattle.cc_document.proofs.document.Document.listen.Goals as goal
 
@@ -59,7 +59,7 @@ invariant_of-self-2 g c =
     ((k, t), idle-after c.self.inside.parts c.empty.new.self s.0 k s.1 t (listened-left s.0 c.args.to.0 c.args.about.0 s.1.well.registers.1) c.self.invariant.1)
 
 pub returns-in_err-close_over-clause-same : goal.returns-in_err-close_over-clause-same
-returns-in_err-close_over-clause-same g c = err-of c.from_residual.result (λ k s.
+returns-in_err-close_over-clause-same g c = on_err_of c.from_residual.result (λ k s.
     let t = subst (λ p. Shows p k) (sym c.self.view_is) s in
     let x = c.in_err-close_over.ensures.same k t in
     (x.0, x.1, x.2.before))
@@ -96,7 +96,7 @@ returns-in_err-close_over-clause-tells g c =
     (nothing-told x y told (⊎_elim (grows-stays 0 x y) (grows-stays 1 x y) c.in_err-close_over.ensures.tried))
 
 pub returns-in_err-close_over-clause-tried : goal.returns-in_err-close_over-clause-tried
-returns-in_err-close_over-clause-tried g c = err-of c.from_residual.result
+returns-in_err-close_over-clause-tried g c = on_err_of c.from_residual.result
     (subst (λ p. MakesOneAtMost p c.close_over.new.self) c.self.view_is
     (⊎_elim (λ t. inl (record { running = c.close_over.ensures.running; made = t.made })) (λ t. inr (record { running = c.close_over.ensures.running; made = t.made })) c.in_err-close_over.ensures.tried))
 

@@ -1,4 +1,5 @@
 use Rattle.std.proofs.Common.{◌≡◌, true, Err, is_some, refl, sym, ◌∙◌, ap, subst, inl, inr, ⊎_elim}
+use Rattle.cc_lists.proofs.KnownBytes.{on_err_of}
 use Rattle.cc_names.specs.declared.register.Reg.TheVariants.{N}
 use Rattle.cc_model.specs.Graph.{objects_of, register}
 use Rattle.cc_model.specs.Heap as heap
@@ -15,7 +16,7 @@ use Rattle.cc_document.specs.Told.{Grows}
 use Rattle.cc_document.proofs.Holding.{room-for_script}
 use Rattle.cc_document.proofs.Calls.{read-some, between-from, both-there, element-found, stops-entering}
 use Rattle.cc_document.proofs.Idle.{idle-after, with_data-left, left-closed}
-use Rattle.cc_document.proofs.Outcomes.{err-of, stopped-alike}
+use Rattle.cc_document.proofs.Outcomes.{stopped-alike}
 use Rattle.cc_document.proofs.Reached.{alike}
 use Rattle.cc_document.proofs.document.Document.put_data.Goals as goal
 
@@ -53,7 +54,7 @@ invariant_of-self c =
     ((x.0, x.1), idle-after c.self.inside.parts c.close_over.new.self s.0 x.0 s.1 x.1 x.2.scripts c.self.invariant.1)
 
 pub returns-in_err-close_over-clause-same : goal.returns-in_err-close_over-clause-same
-returns-in_err-close_over-clause-same c = err-of c.from_residual.result (λ k s.
+returns-in_err-close_over-clause-same c = on_err_of c.from_residual.result (λ k s.
     let t = subst (λ p. Shows p k) (sym c.self.view_is) s in
     let x = c.in_err-close_over.ensures.same k t in
     (x.0, x.1, x.2.before))
@@ -147,7 +148,7 @@ returns-in_err-close_over-clause-stays c =
     subst (λ (p : Parts). NothingLeft p.heaps.heap y) c.self.view_is (⊎_elim (grows-stays 0 x y) (grows-stays 1 x y) c.in_err-close_over.ensures.tried)
 
 pub returns-in_err-close_over-clause-tried : goal.returns-in_err-close_over-clause-tried
-returns-in_err-close_over-clause-tried c = err-of c.from_residual.result
+returns-in_err-close_over-clause-tried c = on_err_of c.from_residual.result
     (subst (λ p. MakesOneAtMost p c.close_over.new.self) c.self.view_is
     (⊎_elim (λ t. inl (record { running = c.close_over.ensures.running; made = t.made })) (λ t. inr (record { running = c.close_over.ensures.running; made = t.made })) c.in_err-close_over.ensures.tried))
 

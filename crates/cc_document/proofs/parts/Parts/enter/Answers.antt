@@ -1,4 +1,5 @@
 use Rattle.std.proofs.Common.{sym, subst, ⊎_elim}
+use Rattle.cc_lists.proofs.KnownBytes.{on_err_of}
 use Rattle.cc_model.specs.Heap as heap
 use Rattle.cc_heaps.specs.Keyed.{Keyed}
 use Rattle.cc_document.specs.Stops.{StopsWrapping, out_of_memory}
@@ -6,7 +7,7 @@ use Rattle.cc_document.specs.Shown.{Shows, IsShown, parts, wrapping, without, en
 use Rattle.cc_document.proofs.Growing.{grows-then}
 use Rattle.cc_document.proofs.Closures.{unwrapped-reads}
 use Rattle.cc_document.proofs.Idle.{unwrapped-left}
-use Rattle.cc_document.proofs.Outcomes.{either-of, stopped-by, err-of}
+use Rattle.cc_document.proofs.Outcomes.{either-of, stopped-by}
 use Rattle.cc_document.proofs.parts.Parts.enter.Goals as goal
 
 pub empty-requires-clause-shown : goal.empty-requires-clause-shown
@@ -25,7 +26,7 @@ returns-in_err-entered-clause-stops c =
     stopped-by (StopsWrapping (heap.objects_of c.args.self.now.heaps.heap) c.args.of.0) c.from_residual-in_err-entered.result out_of_memory c.from_residual-in_err-entered.ensures.1 tt
 
 pub returns-in_err-entered-clause-same : goal.returns-in_err-entered-clause-same
-returns-in_err-entered-clause-same c = err-of c.from_residual-in_err-entered.result (λ g s.
+returns-in_err-entered-clause-same c = on_err_of c.from_residual-in_err-entered.result (λ g s.
     let h = wrapping c.args.of.0 g in
     let t = c.in_ok-wrap_into_register.ensures.wrapped g s in
     let same = c.in_err-entered.ensures.same in

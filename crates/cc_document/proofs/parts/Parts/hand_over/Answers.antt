@@ -1,4 +1,4 @@
-use Rattle.std.proofs.Common.{◌<◌, [], Some, sym, subst, arith}
+use Rattle.std.proofs.Common.{◌<◌, [], Some, sym, subst, arith, refl}
 use Rattle.cc_names.specs.declared.register.Reg.TheVariants.{S}
 use Rattle.cc_counted.specs.declared.held.Held.TheVariants as held
 use Rattle.cc_heaps.proofs.FewCounts.{none-owned}
@@ -38,5 +38,8 @@ returns-in-Some-Some-clause-makes g c =
     let n = c.in-Some-Some in
     let order = c.requires.shown.1.runs.order in
     let x = Some (held.Script n.closure) in
-    record { running = refl; made = stored-made v c.store_native.new.self (the_number v n.element.0) 1 (held_name v x)
-    (within-key v c.args.self.now.running c.requires.shown.0 c.requires.shown.1 c.args.to.0 n.element n.ensures.name n.ensures.there 1 (omega arith)) (held-in [] v x order) order c.store_native.ensures.heap }
+    record {
+      running = refl;
+      made = stored-made v c.store_native.new.self (the_number v n.element.0) 1 (held_name v x)
+          (within-key v c.args.self.now.running c.requires.shown.0 c.requires.shown.1 c.args.to.0 n.element n.ensures.name n.ensures.there 1 (omega arith)) (held-in [] v x order) order c.store_native.ensures.heap;
+    }

@@ -1,4 +1,4 @@
-use Rattle.std.proofs.Common.{rules, ◌<◌, [], ◌∙◌, sym, ap, subst}
+use Rattle.std.proofs.Common.{rules, ◌<◌, [], ◌∙◌, sym, ap, subst, refl}
 use Rattle.cc_names.specs.declared.register.Reg.TheVariants.{N}
 use Rattle.cc_model.specs.Checks.{slot_at}
 use Rattle.cc_model.specs.Graph.{set_register}
@@ -43,5 +43,8 @@ returns-clause-makes g c =
     let v = c.args.self.now.heaps in
     let order = c.requires.shown.1.runs.order in
     let within : c.args.into.0 < 256 = search rules in
-    record { running = refl; made = hold_native-made v c.set_native_reg.new.self c.args.into.0 (native_name v c.key_at-element.result)
-    within (native-in [] v c.key_at-element.result order) order c.set_native_reg.ensures.heap }
+    record {
+      running = refl;
+      made = hold_native-made v c.set_native_reg.new.self c.args.into.0 (native_name v c.key_at-element.result)
+          within (native-in [] v c.key_at-element.result order) order c.set_native_reg.ensures.heap;
+    }

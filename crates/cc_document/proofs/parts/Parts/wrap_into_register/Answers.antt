@@ -35,7 +35,7 @@ set_script_reg-requires-clause-order c = ([], c.wrap.ensures.kept.order [] c.req
 pub returns-clause-wrapped : goal.returns-clause-wrapped
 returns-clause-wrapped c = λ g s.
     let v = c.args.self.now.heaps in
-    let w = c.wrap.new.self.heaps in
+    let w = c.wrap.new.heaps in
     let u = c.set_script_reg.new.self in
     let b = c.args.self.now.running in
     let r = c.args.element.0 in
@@ -65,7 +65,7 @@ returns-clause-wrapped c = λ g s.
 pub returns-clause-grows : goal.returns-clause-grows
 returns-clause-grows c =
     let v = c.args.self.now.heaps in
-    let w = c.wrap.new.self.heaps in
+    let w = c.wrap.new.heaps in
     let u = c.set_script_reg.new.self in
     let one = subst (Grows 0 v.heap) (sym c.in_ok-reflector.ensures.heap) (grows-wrapped v.heap (the_number v c.in-Some.key.0)) in
     let two = subst (Grows 0 w.heap) (sym c.set_script_reg.ensures.heap) (grows-held w.heap 2 (name_at w.scripts c.in_ok-reflector.reflector.0)) in
