@@ -6,7 +6,7 @@ use Rattle.cc_document.specs.Changes.{IsAppended}
 use Rattle.cc_document.specs.Stops.{StopsAppending}
 use Rattle.cc_document.specs.declared.error.DocumentError.TheVariants.{HasParent, NoPlace}
 use Rattle.cc_document.specs.declared.parts.Parts.{Parts}
-use Rattle.cc_document.specs.Shown.{Makes, Shows, parts, written, appended}
+use Rattle.cc_document.specs.Shown.{Makes, Shows, written, appended}
 use Rattle.cc_document.proofs.Appending.{appended-reads}
 use Rattle.cc_document.proofs.Calls.{both-there, read-is_some, read-none, read-some, between-from}
 use Rattle.cc_heaps.specs.Leaving.{TellsWhatIsFreed}

@@ -1,11 +1,11 @@
-use Rattle.std.proofs.Common.{◌≡◌, true, Some, is_some, refl, sym, subst, inl, inr, ⊎_elim}
+use Rattle.std.proofs.Common.{◌≡◌, true, Some, is_some, sym, subst, inl, inr, ⊎_elim}
 use Rattle.cc_lists.proofs.KnownBytes.{on_err_of}
 use Rattle.cc_names.specs.declared.register.Reg.TheVariants.{N, S}
 use Rattle.cc_model.specs.Graph.{objects_of, register}
 use Rattle.cc_document.specs.Words.{element_of}
 use Rattle.cc_document.specs.Changes.{IsHeard}
 use Rattle.cc_document.specs.declared.parts.Parts.{Parts}
-use Rattle.cc_document.specs.Shown.{Makes, MakesOneAtMost, Shows, parts, written, closed_over, listened}
+use Rattle.cc_document.specs.Shown.{Makes, MakesOneAtMost, Shows, written, closed_over, listened}
 use Rattle.cc_document.proofs.Closures.{closed_over-reads, listened-reads}
 use Rattle.cc_document.proofs.Holding.{room-for_script}
 use Rattle.cc_document.proofs.Calls.{read-some, between-from, both-there}

@@ -7,7 +7,7 @@ use Rattle.cc_document.specs.Words.{element_of}
 use Rattle.cc_document.specs.Changes.{HasData}
 use Rattle.cc_document.specs.Stops.{StopsListening}
 use Rattle.cc_document.specs.declared.parts.Parts.{Parts}
-use Rattle.cc_document.specs.Shown.{Makes, MakesOneAtMost, Shows, parts, without, closed_over, entered, with_data}
+use Rattle.cc_document.specs.Shown.{Makes, MakesOneAtMost, Shows, without, closed_over, entered, with_data}
 use Rattle.cc_document.proofs.Assigning.{as_before-then}
 use Rattle.cc_document.proofs.Closures.{closed_over-reads, closed_over-before, with_data-reads, without-before}
 use Rattle.cc_document.proofs.Growing.{grows-stays, grows-then}

@@ -5,7 +5,7 @@ use Rattle.cc_model.specs.Graph.{objects_of, register}
 use Rattle.cc_document.specs.Words.{element_of, child_of}
 use Rattle.cc_document.specs.Changes.{IsRemoved}
 use Rattle.cc_document.specs.declared.parts.Parts.{Parts}
-use Rattle.cc_document.specs.Shown.{Makes, Shows, parts, written, removed}
+use Rattle.cc_document.specs.Shown.{Makes, Shows, written, removed}
 use Rattle.cc_document.proofs.Appending.{removed-reads}
 use Rattle.cc_document.proofs.Calls.{both-there, read-some, between-from}
 use Rattle.cc_document.specs.declared.error.DocumentError.TheVariants.{NoChild}

@@ -1,8 +1,7 @@
-use Rattle.std.proofs.Common.{refl, subst, inl}
+use Rattle.std.proofs.Common.{refl, inl}
 use Rattle.cc_model.specs.Graph.{objects_of}
 use Rattle.cc_document.specs.Words.{in_variable, slot_of, element_of}
-use Rattle.cc_document.specs.declared.parts.Parts.{Parts}
-use Rattle.cc_document.specs.Shown.{Makes, parts, gone_to}
+use Rattle.cc_document.specs.Shown.{gone_to}
 use Rattle.cc_document.proofs.Idle.{idle-after}
 use Rattle.cc_document.proofs.document.Document.visit_parent.Goals as goal
 

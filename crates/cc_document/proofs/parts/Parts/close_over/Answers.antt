@@ -4,7 +4,7 @@ use Rattle.cc_model.specs.Graph as graph
 use Rattle.cc_model.specs.Heap as heap
 use Rattle.cc_document.specs.declared.parts.Parts.{Parts}
 use Rattle.cc_document.specs.Words.{element_of}
-use Rattle.cc_document.specs.Shown.{Shows, IsShown, parts, wrapping, without, making_closure, closing}
+use Rattle.cc_document.specs.Shown.{Shows, IsShown, wrapping, without, making_closure, closing}
 use Rattle.cc_document.proofs.Calls.{stops-wrapping}
 use Rattle.cc_document.proofs.Closures.{closure-closed, made-before, new_closure-wrapped}
 use Rattle.cc_document.proofs.Growing.{grows-then}

@@ -1,9 +1,8 @@
 use Rattle.std.proofs.Common.{sym, subst, ⊎_elim}
 use Rattle.cc_lists.proofs.KnownBytes.{on_err_of}
 use Rattle.cc_model.specs.Heap as heap
-use Rattle.cc_heaps.specs.Keyed.{Keyed}
 use Rattle.cc_document.specs.Stops.{StopsWrapping, out_of_memory}
-use Rattle.cc_document.specs.Shown.{Shows, IsShown, parts, wrapping, without, entering}
+use Rattle.cc_document.specs.Shown.{Shows, IsShown, wrapping, without, entering}
 use Rattle.cc_document.proofs.Growing.{grows-then}
 use Rattle.cc_document.proofs.Closures.{unwrapped-reads}
 use Rattle.cc_document.proofs.Idle.{unwrapped-left}
