@@ -35,7 +35,6 @@ HasKeys-placed l p = record {
   rising = natives-rising l p;
 }
 
-
 module _ (l : Lists) (p : IsPlaced l) (key : ℕ) (d : Placed) (cells : List (Option Placed)) (vacant : cell_at l.cells key ≡ None) (at : cell_at cells key ≡ Some d)
     (others : (k : ℕ) → k ≢ key → cell_at cells k ≡ cell_at l.cells k)
     (above : (n : HeapNative) → Among n (counts_of l).natives → n.number < d.number) (size : ℕ) (empty : d.slots ≡ replicate size None) where

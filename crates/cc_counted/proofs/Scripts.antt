@@ -30,7 +30,6 @@ use Rattle.cc_counted.proofs.Places.{number_at-cell, number_at-found, shown-numb
 use Rattle.cc_counted.proofs.Reading.{slots_of-cell}
 use Rattle.cc_counted.proofs.Reflecting.{preserved_of-cell, reflector_at-cell}
 
-
 -- what is chosen of a number itself, and of another
 chosen : (m : ℕ) (x y : Entry) → (if m == m then x else y) ≡ x
 chosen m x y = rw (eq-eqb m m refl) refl
