@@ -1,6 +1,7 @@
 -- CONTENTS BY NAMES: of one kind, and by kind.
 use Rattle.std.proofs.Common.{◌≡◌, ℕ, true, false, List, Option, Some, None, is_some, option_map, IsTrue, IsSome, refl, sym, ◌∙◌, ap}
 use Rattle.std.proofs.lemmas.Bool.{false≢true}
+use Rattle.cc_counted.specs.Scripts.{is_script}
 use Rattle.cc_names.specs.declared.name.Name.{Name}
 use Rattle.cc_names.specs.declared.name.Name.TheVariants as name
 use Rattle.cc_names.specs.declared.number.NKey.{NKey}
@@ -16,7 +17,7 @@ use Rattle.cc_heaps.specs.Keyed.{Keyed, IsInOrder, number_at, named_object}
 use Rattle.cc_heaps.specs.Changes.{IsThere, held_name, native_name, script_name}
 use Rattle.cc_heaps.proofs.Content.{held_of_native-name}
 use Rattle.cc_heaps.proofs.ContentNames.{object-there}
-use Rattle.cc_mutator.specs.Commands.{held_of_script, is_native_held, is_script_held}
+use Rattle.cc_mutator.specs.Commands.{held_of_script, is_native_held}
 
 -- a script object that is held has its name
 held-script_name : (v : Keyed) (x : Option SKey) → held_name v (held_of_script x) ≡ script_name v x
@@ -61,7 +62,7 @@ module _ (owned : List ℕ) (v : Keyed) (order : IsInOrder owned v) where
       other (name.Reflector k) e = refl
 
   -- and a script object where it is a script object
-  script-held_there : (x : Option Held) → IsThere v x → is_script_there (held_name v x) ≡ is_script_held x
+  script-held_there : (x : Option Held) → IsThere v x → is_script_there (held_name v x) ≡ is_script x
   script-held_there None there = refl
   script-held_there (Some (held.Native key)) there = go (number_at v key.0) there
     where
@@ -74,5 +75,5 @@ module _ (owned : List ℕ) (v : Keyed) (order : IsInOrder owned v) where
   pub is_native_held-named : (x : Option Held) (y : Option Name) → held_name v x ≡ y → IsThere v x → is_native_held x ≡ is_native_there y
   is_native_held-named x y name there = sym (native-held x there) ∙ ap is_native_there name
 
-  pub is_script_held-named : (x : Option Held) (y : Option Name) → held_name v x ≡ y → IsThere v x → is_script_held x ≡ is_script_there y
+  pub is_script_held-named : (x : Option Held) (y : Option Name) → held_name v x ≡ y → IsThere v x → is_script x ≡ is_script_there y
   is_script_held-named x y name there = sym (script-held_there x there) ∙ ap is_script_there name
