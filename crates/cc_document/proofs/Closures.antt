@@ -54,11 +54,11 @@ wrapping-reads g v enough =
     }
 
 -- and it is as new as it was
-pub new_closure-wrapped : (g : Graph) (v : ℕ) → length g.script_registers ≡ 256 → HasNewClosure g → HasNewClosure (wrapping v g)
+pub new_closure-wrapped : (g : Graph) (v : ℕ) → length g.script_registers ≡ bank_length → HasNewClosure g → HasNewClosure (wrapping v g)
 new_closure-wrapped g v enough n = grind (arith, wrapping-reads)
 
 -- and where the register of the reflector is emptied, a document reads as before
-pub unwrapped-reads : (g : Graph) (v : ℕ) → length g.script_registers ≡ 256 → IsAsBefore (objects_of g) (objects_of (without 2 (wrapping v g)))
+pub unwrapped-reads : (g : Graph) (v : ℕ) → length g.script_registers ≡ bank_length → IsAsBefore (objects_of g) (objects_of (without 2 (wrapping v g)))
 unwrapped-reads g v enough = grind (arith, wrapping-reads, get_or-set_other, data-alike)
 
 -- A closure that speaks of an element, in its register

@@ -11,7 +11,7 @@ ghost use Rattle.cc_document.specs.Shown.{IsShown, register_of};
 use crate::parts::Parts;
 use crate::variable::{CHILDREN, CLOSED, DATA, LISTENER, PLACES, SPOKEN, Variable};
 use cc_counted::{Held, native_held};
-use cc_names::{NKey, NativeNo, SKey};
+use cc_names::{NKey, NativeNo, SKey, SlotNo};
 use cc_wrappers::unwrap_of;
 
 impl Parts {
@@ -39,7 +39,7 @@ impl Parts {
     }
 
     /// What slot `i` of the element in a variable holds.
-    fn content_at(&self, of: Variable, i: u8) -> Option<Held>
+    fn content_at(&self, of: Variable, i: SlotNo) -> Option<Held>
         requires shown { IsShown self.now }
         requires within { i < element_slots }
         ensures name { held_name self.now.heaps result ≡ slot_of (objects_of self.now.heaps.heap) (register self.now.heaps.heap (n_register of.0)) i }
@@ -49,7 +49,7 @@ impl Parts {
     }
 
     /// Where the element in slot `i` of the element in a variable stands.
-    pub(crate) fn key_at(&self, of: Variable, i: u8) -> Option<NKey>
+    pub(crate) fn key_at(&self, of: Variable, i: SlotNo) -> Option<NKey>
         requires shown { IsShown self.now }
         requires within { i < element_slots }
         ensures name { native_name self.now.heaps result ≡ elements (element_of (slot_of (objects_of self.now.heaps.heap) (register self.now.heaps.heap (n_register of.0)) i)) }
@@ -59,7 +59,7 @@ impl Parts {
     }
 
     /// The element in slot `i` of the element in a variable.
-    pub(crate) fn element_at(&self, of: Variable, i: u8) -> Option<NativeNo>
+    pub(crate) fn element_at(&self, of: Variable, i: SlotNo) -> Option<NativeNo>
         requires shown { IsShown self.now }
         requires within { i < element_slots }
         ensures { option_map (λ n. n.0) result ≡ element_of (slot_of (objects_of self.now.heaps.heap) (register self.now.heaps.heap (n_register of.0)) i) }
@@ -68,7 +68,7 @@ impl Parts {
     }
 
     /// The lowest place of the element in a variable that holds this child, or none.
-    pub(crate) fn place_of(&self, parent: Variable, child: Option<NativeNo>) -> Option<u8>
+    pub(crate) fn place_of(&self, parent: Variable, child: Option<NativeNo>) -> Option<SlotNo>
         requires shown { IsShown self.now }
         ensures within { IfSome result (λ place. place < places) }
         ensures found { IfSome result (λ place. child_of (objects_of self.now.heaps.heap) (register self.now.heaps.heap (n_register parent.0)) place ≡ option_map (λ n. n.0) child) }

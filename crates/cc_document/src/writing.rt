@@ -29,7 +29,7 @@ impl Parts {
     pub(crate) fn write<N: Notices>(
         &mut self,
         of: Variable,
-        i: u8,
+        i: SlotNo,
         from: Option<Variable>,
         out: &mut N,
     )
@@ -48,7 +48,7 @@ impl Parts {
     }
 
     /// A variable holds the element in slot `i` of the element in another, or nothing where that holds none.
-    pub(crate) fn visit<N: Notices>(&mut self, into: Variable, of: Variable, i: u8, out: &mut N)
+    pub(crate) fn visit<N: Notices>(&mut self, into: Variable, of: Variable, i: SlotNo, out: &mut N)
         requires shown { IsShown self.old }
         requires within { i < element_slots }
         ensures shows { (g : Graph) → Shows self.old g →
@@ -77,7 +77,7 @@ impl Parts {
     }
 
     /// A script register is empty from then on.
-    pub(crate) fn empty(&mut self, r: u8)
+    pub(crate) fn empty(&mut self, r: RegNo)
         requires shown { IsShown self.old }
         requires r { r ≢ data_register }
         ensures shows { ShowsAfter self.old self.new (without r) }

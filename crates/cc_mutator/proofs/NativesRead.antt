@@ -61,7 +61,7 @@ module _ (owned : List ℕ) (v : Keyed) (order : IsInOrder owned v) (r : ℕ) (k
   slots-as_many = ap length slots-keyed ∙ (length-map native-at.native.slots (λ x. option_and_then (keyed_name v.scripts) x) ∙ sym (ap length slots-named))
 
   -- and few
-  pub slots-few : length (slots_at (objects_of v.heap) (N r)) ≤ 64
+  pub slots-few : length (slots_at (objects_of v.heap) (N r)) ≤ most_slots
   slots-few = grind (arith, slots-named, native_at-there, order.sound.well_formed.native_slots)
 
   -- WHAT A SLOT HOLDS, as the counted heap answers it, by name

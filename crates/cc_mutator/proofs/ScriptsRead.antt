@@ -57,7 +57,7 @@ kind-slots : (x : Name) (kind : Kind) (slots : Slots) → FitsName x kind slots 
 kind-slots x kind slots f = grind arith
 
 -- at most 64 of them: a reflector has four
-fits-few : (x : Name) (kind : Kind) (slots : Slots) → FitsName x kind slots → length slots ≤ 64
+fits-few : (x : Name) (kind : Kind) (slots : Slots) → FitsName x kind slots → length slots ≤ most_slots
 fits-few x kind slots f = grind arith
 
 module _ (owned : List ℕ) (v : Keyed) (order : IsInOrder owned v) where

@@ -45,7 +45,7 @@ returns-clause-tells g c = grind (arith, g.N.Notices.telling)
 pub returns-clause-makes : goal.returns-clause-makes
 returns-clause-makes g c =
     let w = c.set_native_reg.new.self in
-    let within : c.args.variable.0 < 256 = search rules in
+    let within : c.args.variable.0 < bank_length = search rules in
     subst (λ (p : Parts). Makes 0 0 p (parts w c.self.inside.parts.running)) c.self.view_is
     (record {
       running = refl;

@@ -43,7 +43,7 @@ pub returns-clause-makes : goal.returns-clause-makes
 returns-clause-makes g c =
     let v = c.args.self.now.heaps in
     let order = c.requires.shown.1.runs.order in
-    let within : c.args.into.0 < 256 = search rules in
+    let within : c.args.into.0 < bank_length = search rules in
     record {
       running = refl;
       made = hold_native-made v c.set_native_reg.new.self c.args.into.0 (native_name v c.key_at-element.result)
