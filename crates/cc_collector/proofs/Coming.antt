@@ -1,5 +1,6 @@
 -- WHAT SLICES, COLLECTIONS AND `gc` COME TO, by what their units did and told.
 use Rattle.std.proofs.Common.{◌≡◌, ◌≢◌, ℕ, ◌+◌, ◌<◌, Bool, true, false, List, [], ◌++◌, Option, Some, None, is_some, refl, sym, ap, ◌∙◌, subst, arith}
+use Rattle.cc_lists.proofs.Held.{is_some-none}
 use Rattle.cc_model.specs.declared.item.Event.{Event}
 use Rattle.cc_model.specs.Telling.{Telling, TellsEvents}
 use Rattle.cc_model.specs.Heap.{Heap}
@@ -39,10 +40,6 @@ led-by d old new events p t t₁ is spares unreached told = record {
 some-runs : (h : Heap) (c : Option Built) → is_some c ≡ true → is_some (machine_of h c).snapshot ≡ true
 some-runs h None e = cc
 some-runs h (Some b) e = refl
-
-pub is_some-none : {X : Type 0} (o : Option X) → is_some o ≡ false → o ≡ None
-is_some-none None e = refl
-is_some-none (Some x) e = cc
 
 -- Slices
 

@@ -18,7 +18,7 @@ use Rattle.cc_laws_heap.proofs.Writes.{script_register-sound}
 use Rattle.cc_laws_heap.proofs.ScriptsKept.{preserve-sound, put_in_script-sound, exposed-sound, hold_script-sound}
 use Rattle.cc_laws_heap.proofs.Holding.{IsIn-no_script, IsIn-no_native, native_register-there, script_register-there, source-there, script_source-there, slot_at-there, script_slot-there, value_at-there, native_of-there}
 use Rattle.cc_laws_heap.proofs.NativeCommands.{put_in_register-sound, hold_native-sound, store_native-sound, make_native-sound}
-use Rattle.cc_laws_heap.proofs.ScriptCommands.{make_object-sound, wrapped-sound, set_entry-sound, IsDelegate, no_delegate, make_proxy-sound}
+use Rattle.cc_laws_heap.proofs.ScriptCommands.{make_object-sound, wrapped-sound, set_entry-sound, no_delegate, make_proxy-sound}
 use Rattle.cc_laws_heap.proofs.Taken.{IsTaken}
 
 -- a register in range is one of its bank

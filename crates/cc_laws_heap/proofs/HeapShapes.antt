@@ -6,8 +6,8 @@ use Rattle.cc_lists.specs.Members.{Among}
 use Rattle.cc_lists.proofs.Members.{Among-map, Among-map_cases, Among-left, Among-right, Among-append, Among-flat_map, Among-flat_map_cases}
 use Rattle.cc_names.specs.declared.name.Name.{Name}
 use Rattle.cc_names.specs.declared.kind.Kind.{Kind}
-use Rattle.cc_names.specs.Names.{native, same_name}
-use Rattle.cc_names.proofs.NameTests.{same_name-true, same_name-refl}
+use Rattle.cc_names.specs.Names.{native}
+use Rattle.cc_names.proofs.NameTests.{same_name-true}
 use Rattle.cc_model.specs.Slots.{Slots, contents, from_to}
 use Rattle.cc_model.specs.Checks.{native_of}
 use Rattle.cc_model.specs.Heap.{Heap, HeapNative, HeapScript, slots_of_kind, script_at}
@@ -16,8 +16,7 @@ use Rattle.cc_model.proofs.Places.{contents-last}
 use Rattle.cc_model.specs.WellFormed.{IsWellFormed, FitsName, native_names, script_names, names_there}
 use Rattle.cc_model.specs.StandsFor.{Shape, script_shape, shape_at, shape_of_held_native, shape_of_held_script}
 use Rattle.cc_lists.proofs.Filtering.{find-among, find-passes}
-use Rattle.cc_lists.proofs.Searching.{find-only}
-use Rattle.cc_laws_heap.proofs.ScriptNames.{scripts-once, script_at-member}
+use Rattle.cc_laws_heap.proofs.ScriptNames.{script_at-member}
 use Rattle.cc_laws_heap.proofs.Natives.{native_at-there, native_at-number, native_at-member, IsWellFormed-distinct}
 use Rattle.cc_laws_heap.proofs.Shapes.{edges_of_shape, contents-script}
 

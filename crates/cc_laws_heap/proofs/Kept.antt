@@ -1,5 +1,5 @@
 -- WHAT KEEPS THE HEAPS WELL FORMED: one list of the heaps changed at a time.
-use Rattle.std.proofs.Common.{arith, ◌≡◌, ℕ, ◌≤◌, Bool, true, refl, List, ◌++◌, map, length, sym, ◌∙◌, ap, subst, count_by, is_some, Some}
+use Rattle.std.proofs.Common.{◌≡◌, ℕ, ◌≤◌, Bool, true, refl, List, ◌++◌, map, length, sym, ◌∙◌, ap, subst, count_by, is_some, Some}
 use Rattle.cc_lists.specs.Members.{Among}
 use Rattle.cc_lists.proofs.Members.{Among-map}
 use Rattle.cc_names.specs.declared.name.Name.{Name}

@@ -1,7 +1,7 @@
 -- WHAT IS REACHED IN A GRAPH is what is reached in heaps that stand for it, of what is there; and all of it is there.
-use Rattle.std.proofs.Common.{arith, ◌≡◌, List, [], ◌∷◌, Some, refl, sym, ◌∙◌, ap, subst, inl, inr, ⊎_elim}
+use Rattle.std.proofs.Common.{arith, ◌≡◌, List, [], ◌∷◌, Some, sym, ◌∙◌, ap, subst, inl, inr, ⊎_elim}
 use Rattle.cc_lists.specs.Members.{Among}
-use Rattle.cc_lists.proofs.Members.{Among-map, Among-map_cases, Among-left, Among-right, Among-append}
+use Rattle.cc_lists.proofs.Members.{Among-left, Among-right, Among-append}
 use Rattle.cc_lists.proofs.Least.{derive-root, derive-along}
 use Rattle.cc_names.specs.declared.name.Name.{Name}
 use Rattle.cc_names.specs.declared.register.Reg.{Reg}

@@ -1,5 +1,5 @@
 -- WHAT THE REGISTERS REACH AND IS A SCRIPT OBJECT IS MARKED.
-use Rattle.std.proofs.Common.{arith, ◌≡◌, true, List, sym, ◌∙◌, ap, subst, ⊎_elim}
+use Rattle.std.proofs.Common.{arith, ◌≡◌, true, sym, ◌∙◌, ap, subst, ⊎_elim}
 use Rattle.std.specs.List.{flat_map}
 use Rattle.std.proofs.lemmas.Bool.{false≢true}
 use Rattle.cc_lists.specs.Members.{Among, has}

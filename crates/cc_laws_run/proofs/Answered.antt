@@ -96,6 +96,7 @@ takes-may_want : (m : Machine) (s : State) (c : Command) → IsRunning m s → t
 takes-may_want m s (Native d n) r t = refl
 takes-may_want m s (Script d n) r t = refl
 takes-may_want m s (WeakMap d) r t = refl
+takes-may_want m s (Proxy d q) r t = refl
 takes-may_want m s (Slice u) r t = refl
 takes-may_want m s Collect r t = refl
 takes-may_want m s (SetEntry x k (Some v)) r t = sym (ap is_none ((objects-stand m.heap s.graph r.stands).value (S x) (S k))) ∙ t

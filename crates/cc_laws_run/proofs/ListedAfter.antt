@@ -129,6 +129,7 @@ made-listed h (Native d n) names natives a =
     (AreListed-native names natives (script_names h) (h.natives_made + 1) a)
 made-listed h (Script d n) names natives a = object-listed h names natives a
 made-listed h (WeakMap d) names natives a = object-listed h names natives a
+made-listed h (Proxy d s) names natives a = object-listed h names natives a
 made-listed h (Wrap d s) names natives a = wrapped-listed h d s (register h (N s)) names natives a
 made-listed h c names natives a = same-listed names natives (script_names h) a
 

@@ -1,7 +1,7 @@
 -- THE NAMES OF ALL OBJECTS AFTER A COMMAND: what it told as freed is there no more, what it made goes last.
-use Rattle.std.proofs.Common.{◌≡◌, ℕ, ◌+◌, ◌<◌, ◌≤◌, Bool, true, false, not, List, [], ◌∷◌, ◌++◌, map, length, Option, Some, None, refl, sym, ◌∙◌, ap, subst, arith, option_map, slice_index_or}
+use Rattle.std.proofs.Common.{◌≡◌, ℕ, ◌+◌, ◌<◌, ◌≤◌, Bool, true, false, not, List, [], ◌∷◌, ◌++◌, map, length, Option, Some, None, refl, sym, ◌∙◌, ap, subst, arith, option_map, slice_index_or, is_none}
 use Rattle.std.specs.Prelude.{IsTrue}
-use Rattle.std.specs.List.{filter}
+use Rattle.std.specs.List.{filter, list_any}
 use Rattle.std.proofs.Math.Path.{fun_ext}
 use Rattle.std.proofs.lemmas.Bool.{ltb-true, leb-false}
 use Rattle.std.proofs.lemmas.List.{append-nil, map_push}
@@ -11,7 +11,7 @@ use Rattle.cc_names.specs.declared.name.Name.{Name}
 use Rattle.cc_names.specs.declared.name.Name.TheVariants as name
 use Rattle.cc_names.specs.declared.register.Reg.TheVariants.{N, S}
 use Rattle.cc_names.specs.declared.kind.Kind.{Kind}
-use Rattle.cc_names.specs.declared.kind.Kind.TheVariants.{Plain, Reflector, Map}
+use Rattle.cc_names.specs.declared.kind.Kind.TheVariants.{Plain, Reflector, Map, Proxy as proxy_kind}
 use Rattle.cc_names.specs.Names.{native, object, reflector}
 use Rattle.cc_names.specs.Sizes.{bank_length, most_slots}
 use Rattle.cc_model.specs.declared.command.Command.{Command}
@@ -19,10 +19,10 @@ use Rattle.cc_model.specs.declared.command.Command.TheVariants.{Native, Script, 
 use Rattle.cc_model.specs.Slots.{reflector_slots}
 use Rattle.cc_model.specs.Ranges.{in_range, is_register, is_slots}
 use Rattle.cc_model.specs.Checks.{slot_at, slots_at, value_at, native_of, reflector_of}
-use Rattle.cc_model.specs.Heap.{Heap, HeapNative, HeapScript, Outcome, silently, register, source, objects_of, has_reflector, change_native, with_native_slot, set_register}
+use Rattle.cc_model.specs.Heap.{Heap, HeapNative, HeapScript, Outcome, silently, register, source, objects_of, has_reflector, change_native, with_native_slot, set_register, preserve}
 use Rattle.cc_model.specs.Cascade.{take_up, let_go}
 use Rattle.cc_model.specs.Exposure.{exposed}
-use Rattle.cc_model.specs.Effects.{effects, put_in_register, hold_native, store_native, put_in_slot, with_native, make_native, with_script, with_reflector, make_object, hold_script, wrapped, put_in_script}
+use Rattle.cc_model.specs.Effects.{effects, put_in_register, hold_native, store_native, put_in_slot, with_native, make_native, with_script, with_reflector, make_object, hold_script, wrapped, put_in_script, make_proxy}
 use Rattle.cc_model.specs.WellFormed.{IsWellFormed, native_names, script_names, names_there}
 use Rattle.cc_model.specs.Counts.{times}
 use Rattle.cc_model.specs.Listed.{after_events}
@@ -46,6 +46,7 @@ use Rattle.cc_laws_heap.proofs.CommandsSound.{below-first, few-slots}
 use Rattle.cc_laws_run.proofs.Listing.{after_events-freed}
 use Rattle.cc_laws_run.proofs.NamesKept.{SameNames, SameNames-refl, SameNames-trans, SameNames-alike, SameNames-change_native, SameNames-preserve, SameNames-put_in_script, SameNames-set_entry, SameNames-exposed}
 use Rattle.cc_laws_run.proofs.FreedListed.{has-native}
+use Rattle.cc_laws_run.proofs.TouchedCommands.{scripts_made-preserve}
 
 -- these natives and script objects went last, then the natives ks were told freed, each once, and are there no more; all
 -- others are there, in their order
@@ -148,12 +149,28 @@ make_native-names h d n room few allowed s =
 -- Commands of script objects
 
 -- a script object made
-make_object-names : (h : Heap) (d : ℕ) (kind : Kind) (n : ℕ) →
-    (ks : List ℕ) × NamesAfter h (silently (make_object h d kind n)) ks [] (object (h.scripts_made + 1) ∷ [])
-make_object-names h d kind n = (
+make_object-names : (h : Heap) (d : ℕ) (kind : Kind) (n : ℕ) (its_delegate : Option Name) →
+    (ks : List ℕ) × NamesAfter h (silently (make_object h d kind n its_delegate)) ks [] (object (h.scripts_made + 1) ∷ [])
+make_object-names h d kind n its_delegate = (
   [],
-  NamesAfter-scripts h (make_object h d kind n) (object (h.scripts_made + 1) ∷ []) refl
-      (map_push (λ (o : HeapScript). o.name) h.scripts (blank (object (h.scripts_made + 1)) kind n)),
+  NamesAfter-scripts h (make_object h d kind n its_delegate) (object (h.scripts_made + 1) ∷ []) refl
+      (map_push (λ (o : HeapScript). o.name) h.scripts (blank (object (h.scripts_made + 1)) kind n its_delegate)),
+)
+
+-- a register that must hold something does
+first-held : (x : Option Name) → list_any (λ (y : Option Name). is_none y) (x ∷ []) ≡ false → is_none x ≡ false
+first-held x e = grind arith
+
+-- a proxy made of what a register holds
+make_proxy-names : (h : Heap) (d : ℕ) (x : Option Name) → is_none x ≡ false →
+    (ks : List ℕ) × NamesAfter h (silently (make_proxy h d x)) ks [] (object (h.scripts_made + 1) ∷ [])
+make_proxy-names h d None held = absurd (cc)
+make_proxy-names h d (Some x) held = (
+  [],
+  NamesAfter-scripts h (make_proxy h d (Some x)) (object (h.scripts_made + 1) ∷ []) (SameNames-preserve h (Some x)).natives
+      (map_push (λ (o : HeapScript). o.name) (preserve h (Some x)).scripts (blank (object ((preserve h (Some x)).scripts_made + 1)) proxy_kind 0 (Some x))
+      ∙ (ap (λ xs. xs ++ object ((preserve h (Some x)).scripts_made + 1) ∷ []) (SameNames-preserve h (Some x)).scripts
+      ∙ ap (λ n. script_names h ++ object (n + 1) ∷ []) (scripts_made-preserve h (Some x)))),
 )
 
 -- what comes into a script register is exposed
@@ -174,7 +191,7 @@ wrapped-names h d (Some (name.Reflector k)) w = NamesAfter-same h (set_register 
 wrapped-names h d (Some (name.Native k)) w = go (has_reflector h k.0)
   where
     with_one : Heap
-    with_one = with_script h (reflector k.0) Reflector reflector_slots
+    with_one = with_script h (reflector k.0) Reflector reflector_slots None
 
     go : (b : Bool) → (ks : List ℕ) × NamesAfter h
         (silently (set_register (elim b [ true ↦ exposed h (Some (reflector k.0)) | false ↦ with_reflector h k.0 ]) (S d) (Some (reflector k.0))))
@@ -184,7 +201,7 @@ wrapped-names h d (Some (name.Native k)) w = go (has_reflector h k.0)
         let s : SameNames with_one (with_reflector h k.0) = SameNames-alike with_one (with_reflector h k.0) (HoldsTheSame-add_ref with_one k.0) in (
           [],
           NamesAfter-scripts h (set_register (with_reflector h k.0) (S d) (Some (reflector k.0))) (reflector k.0 ∷ []) s.natives
-              (s.scripts ∙ map_push (λ (o : HeapScript). o.name) h.scripts (blank (reflector k.0) Reflector reflector_slots)),
+              (s.scripts ∙ map_push (λ (o : HeapScript). o.name) h.scripts (blank (reflector k.0) Reflector reflector_slots None)),
         )
 
 -- All commands
@@ -198,6 +215,7 @@ made_natives h _ = []
 abbrev pub made_scripts : Heap → Command → List Name
 made_scripts h (Script d n) = object (h.scripts_made + 1) ∷ []
 made_scripts h (WeakMap d) = object (h.scripts_made + 1) ∷ []
+made_scripts h (Proxy d s) = object (h.scripts_made + 1) ∷ []
 made_scripts h (Wrap d s) = made_reflector h (register h (N s))
 made_scripts h _ = []
 
@@ -207,8 +225,9 @@ pub effects-names : (h : Heap) (c : Command) → IsSound [] h → IsTrue (in_ran
 unfolding effects
 effects-names h (Native d n) s r t = make_native-names h d n (below-first d (is_slots n) r) (few-slots n (is_register d) r)
     (leb-false h.limits.natives h.natives_made t.room) s
-effects-names h (Script d n) s r t = make_object-names h d Plain n
-effects-names h (WeakMap d) s r t = make_object-names h d Map 0
+effects-names h (Script d n) s r t = make_object-names h d Plain n None
+effects-names h (WeakMap d) s r t = make_object-names h d Map 0 None
+effects-names h (Proxy d q) s r t = make_proxy-names h d (register h (S q)) (first-held (register h (S q)) t.objects)
 effects-names h (CopyNative d q) s r t = hold_native-names h d (register h (N q)) (below-first d (is_register q) r) (native_register-there h q s.well_formed) s
 effects-names h (CopyScript d q) s r t = NamesAfter-same h (set_register h (S d) (register h (S q))) (record { natives = refl; scripts = refl })
 effects-names h (Drop (N d)) s r t = put_in_register-names h h d None (SameNames-refl h) (ltb-true d bank_length r) (λ y m. absurd m) s

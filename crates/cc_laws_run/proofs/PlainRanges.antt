@@ -144,6 +144,7 @@ forms-in_range =
     two-in_range IsRegister IsSlots command.Native native_register slots_number native-below slots-below (λ d n p q. and_from (is_register d) (is_slots n) p q)
     also two-in_range IsRegister IsSlots command.Script script_register slots_number script-below slots-below (λ d n p q. and_from (is_register d) (is_slots n) p q)
     also one-in_range IsRegister command.WeakMap script_register script-below (λ d p. p)
+    also two-in_range IsRegister IsRegister command.Proxy script_register script_register script-below script-below two_registers
     also two-in_range IsRegister IsRegister command.CopyNative native_register native_register native-below native-below two_registers
     also two-in_range IsRegister IsRegister command.CopyScript script_register script_register script-below script-below two_registers
     also one-in_range IsRegister (λ d. command.Drop (N d)) native_register native-below (λ d p. p)

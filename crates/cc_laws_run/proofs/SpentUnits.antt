@@ -41,6 +41,7 @@ use Rattle.cc_laws_run.proofs.HoldingUnits.{Manner, EachKeeps, units_done-holds,
 use Rattle.cc_laws_run.proofs.Unabandoned.{TellsNone, take_away-none}
 use Rattle.cc_laws_run.proofs.SpentViews.{IsLess-buffer, spent-less, IsLess}
 use Rattle.cc_laws_run.specs.Spent.{IsSpent}
+use Rattle.cc_laws_run.proofs.JointLists.{joints-within}
 
 -- The end
 

@@ -3,7 +3,7 @@ use Rattle.std.proofs.Common.{◌≤◌, List, sym, subst, arith}
 use Rattle.cc_lists.specs.Members.{Among}
 use Rattle.cc_names.specs.declared.name.Name.{Name}
 use Rattle.cc_names.specs.Names.{native}
-use Rattle.cc_model.specs.Entries.{Entry}
+use Rattle.cc_model.specs.Entries.{Joint, joints}
 use Rattle.cc_model.specs.Heap.{Heap, Buffered}
 use Rattle.cc_model.specs.View.{view}
 use Rattle.cc_model.specs.WellFormed.{IsWellFormed}
@@ -58,7 +58,7 @@ spent-less ds h k l d = record {
 
 -- another buffer
 pub IsLess-buffer : (h : Heap) (bs : List Buffered) → IsLess h (record h { buffer = bs })
-IsLess-buffer h bs = record { natives_made = omega arith; scripts_made = omega arith; registers = λ x m. m; edges = λ x y m. m; entries = λ e m. m }
+IsLess-buffer h bs = record { natives_made = omega arith; scripts_made = omega arith; registers = λ x m. m; edges = λ x y m. m; joints = λ j m. m }
 
 -- heaps have no more than themselves
 pub IsLess-refl : (h : Heap) → IsLess h h

@@ -1,5 +1,5 @@
 -- COMMANDS LEAVE NAMES ALONE that are apart, in each of their parts, and so what is doomed stays so.
-use Rattle.std.proofs.Common.{◌≡◌, ℕ, ◌+◌, ◌≤◌, Bool, true, false, not, List, [], ◌∷◌, ◌++◌, Option, Some, None, refl, sym, subst, inl, ⊎_elim, arith, option_map}
+use Rattle.std.proofs.Common.{◌≡◌, ℕ, ◌+◌, ◌≤◌, Bool, true, false, not, List, [], ◌∷◌, ◌++◌, Option, Some, None, refl, sym, subst, inl, ⊎_elim, arith, option_map, option_to_list, ◌⊎◌, inr}
 use Rattle.std.proofs.lemmas.Bool.{false≢true}
 use Rattle.cc_lists.specs.Members.{Among, has}
 use Rattle.cc_lists.proofs.Members.{Among-append, Among-filtered, has-among}
@@ -10,21 +10,22 @@ use Rattle.cc_names.specs.declared.name.Name.TheVariants as name
 use Rattle.cc_names.specs.declared.register.Reg.{Reg}
 use Rattle.cc_names.specs.declared.register.Reg.TheVariants.{N, S}
 use Rattle.cc_names.specs.declared.kind.Kind.{Kind}
-use Rattle.cc_names.specs.declared.kind.Kind.TheVariants.{Plain, Reflector, Map}
+use Rattle.cc_names.specs.declared.kind.Kind.TheVariants.{Plain, Reflector, Map, Proxy as proxy_kind}
 use Rattle.cc_names.specs.Names.{native, object, reflector, same_name}
 use Rattle.cc_names.proofs.NameTests.{same_name-exact}
 use Rattle.cc_model.specs.declared.command.Command.{Command}
 use Rattle.cc_model.specs.declared.command.Command.TheVariants.{Native, Script, WeakMap, Proxy, CopyNative, CopyScript, Drop, Set, Get, Put, Take, Wrap, Unwrap, Preserve, SetEntry, GetEntry, Expose}
 use Rattle.cc_model.specs.Slots.{reflector_slots}
-use Rattle.cc_model.specs.Entries.{Entry, is_entry_of, with_entry, without_entry}
+use Rattle.cc_model.specs.Entries.{Entry, is_entry_of, with_entry, without_entry, Joint, joints, entry}
 use Rattle.cc_model.specs.Checks.{slot_at, value_at, native_of, reflector_of}
-use Rattle.cc_model.specs.Heap.{Heap, HeapNative, HeapScript, change_native, change_script, with_native_slot, with_script_slot, register, set_register, set_slot, source, objects_of, preserve, has_reflector}
+use Rattle.cc_model.specs.Heap.{Heap, HeapNative, HeapScript, change_native, change_script, with_native_slot, with_script_slot, register, set_register, set_slot, source, objects_of, preserve, has_reflector, delegate_at}
 use Rattle.cc_model.specs.View.{view, native_edges, script_edges}
 use Rattle.cc_model.specs.Cascade.{take_up}
 use Rattle.cc_model.specs.Exposure.{slots_of_scripts, exposure_rules, exposed_names, as_black, blackened, exposed}
-use Rattle.cc_model.specs.Effects.{effects, put_in_register, hold_native, put_in_slot, store_native, with_native, make_native, hold_script, with_script, with_object, make_object, with_reflector, wrapped, set_entry, put_in_script}
+use Rattle.cc_model.specs.Effects.{effects, put_in_register, hold_native, put_in_slot, store_native, with_native, make_native, hold_script, with_script, with_object, make_object, with_reflector, wrapped, set_entry, put_in_script, make_proxy}
 use Rattle.cc_model.specs.WellFormed.{IsWellFormed}
 use Rattle.cc_model.specs.Snapshot.{Snapshot}
+use Rattle.cc_model.proofs.Joints.{Gives, its_key, gives-joint, joint-cases, its_value}
 use Rattle.cc_laws_heap.proofs.EntryLists.{with_entry-cases}
 use Rattle.cc_laws_heap.proofs.Making.{contents-empty_none, new_native, native_names-made}
 use Rattle.cc_laws_heap.proofs.ScriptCommands.{blank}
@@ -39,7 +40,9 @@ use Rattle.cc_laws_run.proofs.TouchedCascade.{leaves-touch, leaves-add_ref, leav
 use Rattle.cc_laws_run.proofs.TouchedSteps.{Leaves, leaves-refl, leaves-on, leaves-still}
 use Rattle.cc_laws_heap.proofs.Natives.{KeepsNumber}
 use Rattle.cc_laws_heap.proofs.Leaving.{IsOf, OthersStay-change_native}
+use Rattle.cc_laws_heap.proofs.CommandsColours.{blank-holds}
 use Rattle.cc_laws_run.proofs.TouchedReads.{IsApart, register-untouched, source-untouched, script_source-untouched, slot_at-untouched, value_at-untouched, native_of-untouched, reflector_of-untouched}
+use Rattle.cc_laws_run.proofs.JointLists.{joints-within}
 
 -- a place that is to hold a name that is no member
 one-untouched : (ds : List Name) (x : Name) → ¬ (Among x ds) → IsUntouched ds (Some x)
@@ -55,7 +58,7 @@ blank-edge : (z : Name) (kind : Kind) (n : ℕ) (d : Option Name) (x y : Name) �
 blank-edge z kind n d x y m = ⊎_elim (λ c. inl (blank-holds z kind n d y c)) (λ p. inr p) (script_edges-are (blank z kind n d) x y m).1
 
 -- a reflector preserved leaves numbers made and entries
-scripts_made-preserve : (h : Heap) (x : Option Name) → (preserve h x).scripts_made ≡ h.scripts_made
+pub scripts_made-preserve : (h : Heap) (x : Option Name) → (preserve h x).scripts_made ≡ h.scripts_made
 scripts_made-preserve h x = grind arith
 
 entries-preserve : (h : Heap) (x : Option Name) → (preserve h x).entries ≡ h.entries

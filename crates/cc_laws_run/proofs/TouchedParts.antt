@@ -13,6 +13,7 @@ use Rattle.cc_names.proofs.NameTests.{same_name-true}
 use Rattle.cc_model.specs.Slots.{Slots, contents}
 use Rattle.cc_model.specs.Heap.{Heap, HeapNative, HeapScript, is_black_colour, set_register, change_native, change_script, with_native_slot, with_script_slot, set_preserved}
 use Rattle.cc_model.specs.View.{view, native_edges, script_edges}
+use Rattle.cc_model.proofs.Places.{slot-place, delegate-place, script_place-cases}
 use Rattle.cc_lists.proofs.ListWrites.{changed_where, changed_where-either, Among-flat_map_set}
 use Rattle.cc_laws_snapshot.proofs.ReachedStays.{native-edge, script-edge}
 use Rattle.cc_laws_run.proofs.TouchedViews.{Spares, Spares-registers, Spares-natives, Spares-scripts}
@@ -150,7 +151,10 @@ module _ (ds : List Name) (h : Heap) where
   Spares-script_slot z i x out none = Spares-change_scripts (λ o. same_name o.name z) (with_script_slot i x) (λ o. refl)
       (λ o w y m e.
       let p = script_edges-are (with_script_slot i x o) w y e in
-      script_edges-has o w y p.0 (⊎_elim (λ c. inl (contents-untouched o.slots i x none y m c)) (λ q. inr q) p.1))
+      script_edges-has o w y p.0 (⊎_elim (λ c. inl (⊎_elim
+      (λ l. slot-place o y (contents-untouched o.slots i x none y m l))
+      (λ q. delegate-place o y q)
+      (script_place-cases (with_script_slot i x o) y c))) (λ q. inr q) p.1))
       (λ o y t m j e. absurd (out (subst (λ v. Among v ds) (same_name-true o.name z t) m)))
       (λ o there t m e. absurd (out (subst (λ v. Among v ds) (same_name-true o.name z t) m)))
 

@@ -15,15 +15,17 @@ use Rattle.cc_names.specs.declared.kind.Kind.TheVariants.{Map}
 use Rattle.cc_names.specs.Names.{native, object, reflector, same_name}
 use Rattle.cc_names.proofs.NameTests.{same_name-true}
 use Rattle.cc_model.specs.Slots.{contents}
-use Rattle.cc_model.specs.Entries.{Entry, is_entry_of, value_in}
+use Rattle.cc_model.specs.Entries.{Entry, is_entry_of, value_in, Joint, joints, joint}
 use Rattle.cc_model.specs.Checks.{slots_or_none, slot_at, value_at, native_of, reflector_of}
 use Rattle.cc_model.specs.Heap.{Heap, HeapNative, HeapScript, native_at, script_at, slots_in, slots_of_script, slots_of_kind, register, objects_of, source}
 use Rattle.cc_model.specs.View.{view}
 use Rattle.cc_model.specs.WellFormed.{IsWellFormed}
+use Rattle.cc_model.proofs.Places.{slot-place}
+use Rattle.cc_model.proofs.Joints.{value-joint}
 use Rattle.cc_laws_heap.proofs.Natives.{native_at-there, native_at-number}
 use Rattle.cc_laws_heap.proofs.Writes.{contents-at}
 use Rattle.cc_laws_heap.proofs.Holding.{script_register-there}
-use Rattle.cc_laws_heap.proofs.Coloured.{edge-from_script_slot}
+use Rattle.cc_laws_heap.proofs.Coloured.{edge-from_script_place}
 use Rattle.cc_laws_run.specs.Doomed.{KeepsReflectors}
 use Rattle.cc_laws_snapshot.proofs.Handing.{edge-from_slot, edge-from_reflector}
 use Rattle.cc_laws_run.proofs.TouchedParts.{IsUntouched}
@@ -70,7 +72,7 @@ module _ (ds : List Name) (h : Heap) (d : IsApart ds h) where
     where
       there : Among y (contents o.slots) → Among x ds
       there j = subst (λ z. Among z ds) (same_name-true o.name x (find-passes (λ p. same_name p.name x) h.scripts o e))
-          (d.holder o.name y (edge-from_script_slot h o y (find-among (λ p. same_name p.name x) h.scripts o e) j) m)
+          (d.holder o.name y (edge-from_script_place h o y (find-among (λ p. same_name p.name x) h.scripts o e) (slot-place o y j)) m)
 
       go : (kind : Kind) → Among y (contents (slots_or_none (slots_of_kind kind o.slots))) → Among x ds
       go Map j = absurd j
@@ -102,7 +104,7 @@ module _ (ds : List Name) (h : Heap) (d : IsApart ds h) where
       ⊎_elim
       (λ t. a m (inl refl) (subst (λ z. Among z ds) f.2 t))
       (λ t. b k (inl refl) (subst (λ z. Among z ds) f.3 t))
-      (d.joint f.0 f.1 (subst (λ z. Among z ds) (sym f.4) j))
+      (d.joint (joint f.0.the_map f.0.key f.0.value) (value-joint h.entries f.0 f.1) (subst (λ z. Among z ds) (sym f.4) j))
   value_at-untouched _ _ a b y i j = i
 
   -- the native of the reflector that a script register holds is no member

@@ -8,7 +8,7 @@ use Rattle.cc_lists.proofs.Least.{derive-root, derive-along, derived-within}
 use Rattle.cc_names.specs.declared.name.Name.{Name}
 use Rattle.cc_names.specs.Names.{native}
 use Rattle.cc_model.specs.Slots.{Slots, contents}
-use Rattle.cc_model.specs.Entries.{Entry}
+use Rattle.cc_model.specs.Entries.{Entry, Joint, joints}
 use Rattle.cc_model.specs.Heap.{Heap, HeapNative, HeapScript, Buffered, is_black_colour}
 use Rattle.cc_model.specs.View.{View, view, native_edges, script_edges, buffered}
 use Rattle.cc_model.specs.WellFormed.{native_names, script_names}

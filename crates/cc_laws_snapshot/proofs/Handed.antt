@@ -12,7 +12,7 @@ use Rattle.cc_names.specs.declared.name.Name.TheVariants as name
 use Rattle.cc_names.specs.declared.register.Reg.TheVariants.{N}
 use Rattle.cc_names.specs.Names.{native, reflector}
 use Rattle.cc_model.specs.Slots.{contents}
-use Rattle.cc_model.specs.Entries.{joints, rules_of}
+use Rattle.cc_model.specs.Entries.{rules_of}
 use Rattle.cc_model.specs.Heap.{Heap, HeapNative, native_at, register, set_register, change_native, with_native_slot, with_mark}
 use Rattle.cc_model.specs.View.{view, buffered, ReachedIn}
 use Rattle.cc_model.specs.Cascade.{add_ref, take_up}

@@ -1,40 +1,30 @@
 -- WHAT IS MADE, REFERRED TO, EXPOSED OR WRITTEN BESIDE NATIVES keeps every unreached native suspected.
-use Rattle.std.proofs.Common.{◌≡◌, ℕ, ◌+◌, ◌<◌, ◌≤◌, Bool, true, false, List, [], ◌∷◌, ◌++◌, map, length, Option, Some, None, refl, sym, ◌∙◌, ap, subst, inl, inr, ◌⊎◌, ⊎_elim, arith}
-use Rattle.std.specs.List.{filter}
+use Rattle.std.proofs.Common.{◌≡◌, ℕ, ◌+◌, ◌<◌, ◌≤◌, Bool, true, false, List, [], ◌∷◌, ◌++◌, map, Option, Some, None, refl, ◌∙◌, ap, subst, inl, ⊎_elim, arith}
 use Rattle.std.proofs.lemmas.List.{map_push}
-use Rattle.cc_lists.specs.Members.{Among, has}
-use Rattle.cc_lists.proofs.Members.{Among-left, Among-append}
+use Rattle.cc_lists.specs.Members.{Among}
+use Rattle.cc_lists.proofs.Members.{Among-append}
 use Rattle.cc_names.specs.declared.name.Name.{Name}
 use Rattle.cc_names.specs.declared.name.Name.TheVariants as name
-use Rattle.cc_names.specs.declared.register.Reg.TheVariants.{N}
 use Rattle.cc_names.specs.declared.kind.Kind.{Kind}
 use Rattle.cc_names.specs.declared.kind.Kind.TheVariants.{Reflector}
 use Rattle.cc_names.specs.Names.{native, object, reflector, same_name, is_script}
 use Rattle.cc_names.specs.Sizes.{bank_length, most_slots}
-use Rattle.cc_model.specs.Slots.{contents, reflector_slots}
-use Rattle.cc_model.specs.Heap.{Heap, HeapScript, has_reflector, register, set_register, change_script, with_script_slot, set_preserved}
-use Rattle.cc_model.specs.View.{view, buffered, ReachedIn}
-use Rattle.cc_model.specs.Cascade.{add_ref, let_go}
-use Rattle.cc_model.specs.Exposure.{exposed, exposed_names, as_black}
-use Rattle.cc_model.specs.Effects.{make_native, make_object, with_native, with_reflector, wrapped, set_entry}
+use Rattle.cc_model.specs.Slots.{reflector_slots}
+use Rattle.cc_model.specs.Heap.{Heap, HeapScript, has_reflector, change_script, with_script_slot, set_preserved}
+use Rattle.cc_model.specs.View.{view, ReachedIn}
+use Rattle.cc_model.specs.Cascade.{add_ref}
+use Rattle.cc_model.specs.Exposure.{exposed}
+use Rattle.cc_model.specs.Effects.{make_native, make_object, with_reflector, wrapped, set_entry}
 use Rattle.cc_model.specs.WellFormed.{IsWellFormed, native_names, script_names}
-use Rattle.cc_laws_heap.specs.Sound.{IsSound, numbers_of}
-use Rattle.cc_laws_heap.specs.Freeing.{Uncounted}
-use Rattle.cc_laws_heap.proofs.Owning.{let_go-sound}
-use Rattle.cc_laws_heap.proofs.Writes.{native_register-sound}
-use Rattle.cc_laws_heap.proofs.MadeSound.{with_native-sound}
-use Rattle.cc_laws_heap.proofs.NativeCommands.{IsIn-made, make_native-sound}
+use Rattle.cc_laws_heap.specs.Sound.{IsSound}
+use Rattle.cc_laws_heap.proofs.NativeCommands.{make_native-sound}
 use Rattle.cc_laws_heap.proofs.HoldsTheSame.{HoldsTheSame-add_ref, native_names-alike}
 use Rattle.cc_lists.proofs.ListWrites.{changed_where, changed_where-either, map-kept}
 use Rattle.cc_laws_heap.proofs.ScriptCommands.{blank}
-use Rattle.cc_laws_heap.proofs.ScriptsKept.{native-no_script}
-use Rattle.cc_laws_snapshot.specs.Losing.{PurpleOrGone, IsLoyal}
 use Rattle.cc_laws_snapshot.specs.KindsSuspected.{IsSuspectedIn, IsReachedNative}
-use Rattle.cc_laws_snapshot.proofs.BufferMarks.{IsPurple, buffer-place}
-use Rattle.cc_laws_snapshot.proofs.NamesAndEdges.{living-same}
 use Rattle.cc_laws_snapshot.proofs.LoyalSuspected.{loyal-suspected}
-use Rattle.cc_laws_snapshot.proofs.Handing.{edge-to, edge-from_slot, edge-from_reflector, handed-loyal, hands-loyal}
-use Rattle.cc_laws_snapshot.proofs.Handed.{TakesUp, TakesUp-nothing, TakesUp-add_ref, TakesUp-with_native, made-living, Hands-register, Still}
+use Rattle.cc_laws_snapshot.proofs.Handing.{hands-loyal}
+use Rattle.cc_laws_snapshot.proofs.Handed.{TakesUp, TakesUp-nothing, TakesUp-add_ref, Still}
 use Rattle.cc_laws_snapshot.proofs.StillNatives.{Still-refl, Still-script_last, Still-exposed, Still-change_script, Still-flag, Still-set_entry, Still-make_object, Hands-taken}
 use Rattle.cc_laws_snapshot.proofs.KindsLoyal.{HasScriptNames, HasScriptNames-well_formed, buffers-suspected}
 use Rattle.cc_laws_snapshot.proofs.CommandsLoyal.{make_native-loyal}

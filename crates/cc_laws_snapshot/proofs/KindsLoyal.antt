@@ -1,14 +1,14 @@
 -- A LOYAL CHANGE OF VIEWS FORGETS NO NATIVE, whatever counts as purple in the buffer: of views whose edges start at what
 -- is there, and whose script objects and values of entries have names of script objects.
 use Rattle.std.proofs.Common.{arith, ◌≡◌, ℕ, Bool, true, false, List, [], ◌++◌, map, refl, sym, ◌∙◌, ap, subst, inl, inr, ◌⊎◌, ⊎_elim}
-use Rattle.std.proofs.lemmas.Bool.{true≢false, false≢true, not_from_false}
+use Rattle.std.proofs.lemmas.Bool.{true≢false, false≢true}
 use Rattle.cc_lists.specs.Members.{Among, has}
 use Rattle.cc_lists.proofs.Members.{Among-map, Among-map_cases, Among-left, Among-right, Among-append, Among-filter, Among-filtered, Among_or_not}
 use Rattle.cc_lists.proofs.Least.{derive-root, derive-along, derived-within}
 use Rattle.cc_lists.proofs.Closure.{closure-decides}
 use Rattle.cc_names.specs.declared.name.Name.{Name}
 use Rattle.cc_names.specs.declared.name.Name.TheVariants as name
-use Rattle.cc_names.specs.Names.{native, object, reflector, same_name, is_native, is_script}
+use Rattle.cc_names.specs.Names.{native, same_name, is_native, is_script}
 use Rattle.cc_names.proofs.NameTests.{same_name-exact}
 use Rattle.cc_model.proofs.Joints.{derived-by_joints}
 use Rattle.cc_model.specs.Entries.{Joint, rules_of}

@@ -1,8 +1,7 @@
 -- Names and pairs of names told apart.
 use Rattle.std.proofs.Common.{arith, ◌≡◌, ◌∙◌, true, sym, ap, inl, inr, ◌⊎◌, ⊎_elim}
-use Rattle.std.proofs.lemmas.Bool.{cases_Bool, and_parts, and_from, true≢false, false≢true}
+use Rattle.std.proofs.lemmas.Bool.{cases_Bool, and_parts, and_from, true≢false}
 use Rattle.cc_names.specs.declared.name.Name.{Name}
-use Rattle.cc_names.specs.declared.name.Name.TheVariants as name
 use Rattle.cc_names.specs.Names.{same_name, is_native, is_script}
 use Rattle.cc_names.proofs.NameTests.{same_name-true, same_name-refl, same_name-exact}
 use Rattle.cc_model.specs.View.{between}

@@ -9,7 +9,7 @@ use Rattle.cc_lists.proofs.Counting.{count_by-map}
 use Rattle.cc_names.specs.declared.name.Name.{Name}
 use Rattle.cc_names.specs.Names.{same_name}
 use Rattle.cc_names.proofs.NameTests.{same_name-exact}
-use Rattle.cc_model.specs.Snapshot.{NodeState, untraversed, gone, traversed, Node}
+use Rattle.cc_model.specs.Snapshot.{NodeState, untraversed, Node}
 use Rattle.cc_model.specs.Units.{new_node, is_untraversed, first_untraversed, with_state, with_node, with_nodes}
 use Rattle.cc_model.specs.Fresh.{node, done_first}
 use Rattle.cc_model.proofs.UnitsEnd.{names-with_state}

@@ -2,7 +2,7 @@
 -- each look at an entry leaves one side of it less. Where none waits any more, all that a mark comes to was raised.
 use Rattle.std.specs.Prelude.{IsTrue}
 use Rattle.std.proofs.Common.{◌≡◌, ℕ, ◌+◌, ◌≤◌, ◌==◌, Bool, true, false, not, cond, ◌||◌, ◌&&◌, List, [], ◌∷◌, ◌++◌, length, Option, Some, None, refl, sym, ◌∙◌, ap, subst, inl, inr, ◌⊎◌, ⊎_elim, arith, count_by}
-use Rattle.std.proofs.lemmas.Bool.{and_from, cases_Bool, or_cases, true≢false, eq-eqb, eqb-true}
+use Rattle.std.proofs.lemmas.Bool.{and_from, cases_Bool, or_cases, true≢false, eq-eqb, eqb-true, or_right}
 use Rattle.std.proofs.lemmas.Option.{slice_get_within}
 use Rattle.cc_lists.specs.Members.{Among, has}
 use Rattle.cc_lists.proofs.ListWrites.{map-agree}
@@ -168,15 +168,11 @@ module _ (to : Colour) (entries : List KeyedEntry) (old : List Object) (roots : 
         (⊎_elim (λ h. h) (λ s. absurd (true≢false (sym (map-has s) ∙ lacks))) (looked-cases e.the_map the_map))
         (⊎_elim (λ h. h) (λ s. absurd (true≢false (sym (key-has s) ∙ lacks))) (looked-cases e.key key_looked)))
       where
-        or-true : (b : Bool) → (b || true) ≡ true
-        or-true true = refl
-        or-true false = refl
-
         map-has : key ≡ e.the_map → has_object key e ≡ true
         map-has s = ap (λ b. b || e.key == key) (eq-eqb e.the_map key (sym s))
 
         key-has : key ≡ e.key → has_object key e ≡ true
-        key-has s = ap (λ b. e.the_map == key || b) (eq-eqb e.key key (sym s)) ∙ or-true (e.the_map == key)
+        key-has s = ap (λ b. e.the_map == key || b) (eq-eqb e.key key (sym s)) ∙ or_right (e.the_map == key) true refl
 
     pub under_way-turns : (n : Marking) → n ≡ valued → IsUnderWay before (now + count_by (has_object key) entries) n
     under_way-turns n e = subst (IsUnderWay before (now + count_by (has_object key) entries)) (sym e) (record {

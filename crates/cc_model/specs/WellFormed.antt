@@ -11,6 +11,7 @@ use Rattle.cc_names.specs.Sizes.{bank_length, most_slots}
 use Rattle.cc_model.specs.Slots.{Slots, contents, reflector_slots}
 use Rattle.cc_model.specs.Entries.{Entry, is_entry_of}
 use Rattle.cc_model.specs.Heap.{Heap, HeapNative, HeapScript, Buffered}
+use Rattle.cc_model.specs.Places.{script_places_of}
 
 abbrev pub native_names : Heap → List Name
 native_names h = map (λ n. native n.number) h.natives
@@ -62,7 +63,7 @@ pub record IsWellFormed (h : Heap) : Type 0 where
   pub native_numbers : (n : HeapNative) → Among n h.natives → (1 ≤ n.number) × (n.number ≤ h.natives_made)
   pub native_slots : (n : HeapNative) → Among n h.natives → length n.slots ≤ most_slots
   pub native_contents : (n : HeapNative) (x : Name) → Among n h.natives → Among x (contents n.slots) → Among x (names_there h)
-  -- script objects with distinct names, numbers that were made, kinds that fit; slots hold script objects that are there
+  -- script objects with distinct names, numbers that were made, kinds that fit; they hold script objects that are there
   pub distinct : (x : Name) → count_by (same_name x) (script_names h) ≤ 1
   pub object_numbers : (k : ℕ) → Among (object k) (script_names h) → (1 ≤ k) × (k ≤ h.scripts_made)
   pub kinds : (o : HeapScript) → Among o h.scripts → FitsName o.name o.kind o.slots

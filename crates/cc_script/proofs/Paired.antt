@@ -5,10 +5,6 @@ use Rattle.std.proofs.Math.ListN.{set}
 use Rattle.slab.specs.Slab.{Slab, ContainsKey, Updates, get}
 use Rattle.cc_script.specs.Paired.{paired, paired_slab, Reaches}
 
--- what stands where something does
-pub some-of : {X : Type 0} (o : Option X) → is_some o ≡ true → (x : X) × (o ≡ Some x)
-some-of o h = is_some-found o h
-
 module _ {X Y Z : Type 0} (pair : Y → X → Z) (none : Y) where
   -- what stands in the list at the next key
   next-apart : (apart : List Y) (key : ℕ) → get_or (drop 1 apart) key none ≡ get_or apart (suc key) none

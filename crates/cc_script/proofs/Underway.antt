@@ -184,9 +184,6 @@ ordered-marked to m none h = record { coloured = λ k n. absurd (subst (Among k)
 
 -- What is there
 
-pub there-some : (objects : List Object) (q : ℕ) → is_there objects q ≡ true → (d : Object) × (object_at objects q ≡ Some d)
-there-some objects q h = is_some-found (object_at objects q) h
-
 pub slots-there : (objects : List Object) (k q : ℕ) → AreWhole objects → Among (Some q) (slots_at objects k) → is_there objects q ≡ true
 slots-there objects k q whole n = go (object_at objects k) refl n
   where

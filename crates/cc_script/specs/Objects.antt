@@ -1,6 +1,7 @@
 -- THE SCRIPT OBJECTS AS A LIST, in order of making; each stands at a key, and its slots hold keys. A reflector has the
 -- key of its native, which stands in a heap of its own.
 use Rattle.std.specs.Prelude.{◌≡◌, ◌↔◌, IsSome, IsTrue, ℕ, ◌==◌, Bool, true, false, not, List, [], map, filter, find, replicate, Option, Some, None, is_some, option_map, option_and_then, slice_set, if◌then◌else◌}
+use Rattle.cc_names.specs.Places.{script_places}
 use Rattle.cc_lists.specs.Members.{Among, has}
 use Rattle.cc_lists.specs.Walks as walks
 use Rattle.cc_names.specs.declared.name.Name.{Name}
@@ -79,9 +80,17 @@ first_key objects = walks.first_key (λ o. o.key) objects
 abbrev pub key_after : List Object → ℕ → Option ℕ
 key_after objects key = walks.next_key (λ o. o.key) objects key
 
--- each slot holds an object that is there
+-- the places of an object over which marking goes
+abbrev pub places_of : Object → List (Option ℕ)
+places_of o = script_places o.slots
+
+-- so by its key
+abbrev pub places_at : List Object → ℕ → List (Option ℕ)
+places_at objects key = script_places (slots_at objects key)
+
+-- each place holds an object that is there
 abbrev pub AreWhole : List Object → Type 0
-AreWhole objects = (o : Object) (q : ℕ) → Among o objects → Among (Some q) o.slots → IsTrue (is_there objects q)
+AreWhole objects = (o : Object) (q : ℕ) → Among o objects → Among (Some q) (places_of o) → IsTrue (is_there objects q)
 
 -- what stands at the key of an object is that object
 abbrev pub HaveOwnKeys : List Object → Type 0

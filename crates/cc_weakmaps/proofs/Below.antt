@@ -1,7 +1,7 @@
 -- The last place of an object below another place.
 use Rattle.std.proofs.Common.{◌≡◌, ℕ, ◌<◌, ◌==◌, zero, suc, Bool, true, false, ◌||◌, cond, List, [], ◌∷◌, length, get_or, Option, Some, None, refl, sym, ◌∙◌, ap, subst, arith, inl, inr, ◌⊎◌, ⊎_elim, option_map}
 use Rattle.std.specs.Prelude.{slice_get, IfSome}
-use Rattle.std.proofs.lemmas.Bool.{true≢false, eq-eqb}
+use Rattle.std.proofs.lemmas.Bool.{true≢false, eq-eqb, or_right}
 use Rattle.std.proofs.lemmas.Bool.Decides.{eqb_tells}
 use Rattle.std.proofs.lemmas.Option.{slice_get-get_or, slice_get_within}
 use Rattle.cc_lists.specs.Members.{Among}
@@ -132,11 +132,7 @@ below-alike es fs k (suc n) h =
 pub entry-has : (m k : ℕ) (e : KeyedEntry) → is_entry_of m k e ≡ true → (has_object m e ≡ true) × (has_object k e ≡ true)
 entry-has m k e is =
     let both = same-map m k e is in
-    (ap (λ b. b || e.key == m) (eq-eqb e.the_map m both.0), ap (λ b. e.the_map == k || b) (eq-eqb e.key k both.1) ∙ or-true (e.the_map == k))
-  where
-    or-true : (b : Bool) → (b || true) ≡ true
-    or-true true = refl
-    or-true false = refl
+    (ap (λ b. b || e.key == m) (eq-eqb e.the_map m both.0), ap (λ b. e.the_map == k || b) (eq-eqb e.key k both.1) ∙ or_right (e.the_map == k) true refl)
 
 -- so one that lacks either is another's
 pub other-map : (m k : ℕ) (e : KeyedEntry) → has_object m e ≡ false → is_entry_of m k e ≡ false

@@ -2,7 +2,7 @@
 use Rattle.std.proofs.Common.{◌≡◌, ℕ, ◌+◌, ◌<◌, ◌≤◌, ◌==◌, suc, Bool, true, false, ◌||◌, cond, List, length, get_or, Option, Some, refl, sym, ◌∙◌, ap, subst, arith, ⊎_elim, option_map, if◌then◌else◌, add-one}
 use Rattle.std.specs.Prelude.{slice_get}
 use Rattle.std.proofs.Math.ListN.{set}
-use Rattle.std.proofs.lemmas.Bool.{eqb-true, eq-eqb}
+use Rattle.std.proofs.lemmas.Bool.{eqb-true, eq-eqb, or_right}
 use Rattle.std.proofs.lemmas.Bool.Decides.{eqb_tells}
 use Rattle.std.proofs.lemmas.List.{get_or-set_same, get_or-set_other}
 use Rattle.std.proofs.lemmas.Option.{slice_get-get_or}
@@ -16,14 +16,10 @@ use Rattle.cc_weakmaps.proofs.Below.{below-step, below-alike, below-some}
 
 -- the map and the key of an entry of the index are known
 pub indexed-known : (es : List KeyedEntry) (links : List Links) (kept : List (Option ℕ)) → IsIndexed es links kept (length es) → AreKnown es kept
-indexed-known es links kept h e m = (known e.the_map (ap (λ b. b || e.key == e.the_map) (eq-eqb e.the_map e.the_map refl)), known e.key (or-true (e.the_map == e.key) (e.key == e.key) (eq-eqb e.key e.key refl)))
+indexed-known es links kept h e m = (known e.the_map (ap (λ b. b || e.key == e.the_map) (eq-eqb e.the_map e.the_map refl)), known e.key (or_right (e.the_map == e.key) (e.key == e.key) (eq-eqb e.key e.key refl)))
   where
     known : (k : ℕ) → has_object k e ≡ true → k < length kept
     known k has = let at = below-some es k e m has in known-last kept k at.0 (h.last k ∙ at.1)
-
-    or-true : (a b : Bool) → b ≡ true → (a || b) ≡ true
-    or-true true b e = refl
-    or-true false b e = e
 
 -- the same index of other entries, whose maps and keys below are the same
 pub indexed-alike : (es fs : List KeyedEntry) (links others : List Links) (kept left : List (Option ℕ)) (n : ℕ) → n ≤ length es → n ≤ length fs →

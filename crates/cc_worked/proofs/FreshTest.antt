@@ -3,6 +3,7 @@ use Rattle.std.proofs.Common.{◌≡◌, ℕ, zero, suc, ◌<◌, ◌≤◌, tru
 use Rattle.std.specs.Prelude.{IsTrue, option_to_list}
 use Rattle.std.specs.List.{list_all}
 use Rattle.std.proofs.lemmas.Bool.{and_parts, and_from, not-true, false≢true, true≢false, eqb-true, leb-true}
+use Rattle.std.proofs.lemmas.List.{nil_from_length}
 use Rattle.cc_lists.specs.Members.{Among, has}
 use Rattle.cc_lists.proofs.Members.{has-among, has-there, Among-map, Among-map_cases, Among-left, Among-right}
 use Rattle.cc_lists.proofs.Counting.{counted_is}
@@ -85,11 +86,6 @@ is_dead_native-true made v (name.Native i) h =
     (i.0, refl, leb-true 1 i.0 l.0, leb-true i.0 made l.1, λ living. absent (Among-map (λ (n : Name × ℕ). n.0) (name.Native i, living.0) v.natives living.1))
 is_dead_native-true made v (name.Script i) h = absurd (false≢true h)
 is_dead_native-true made v (name.Reflector i) h = absurd (false≢true h)
-
--- A list of length zero is empty.
-length-zero : {X : Type 0} (xs : List X) → length xs ≡ 0 → xs ≡ []
-length-zero [] e = refl
-length-zero (x ∷ xs) e = absurd (omega (arith, e))
 
 -- The tests that a fresh snapshot passes.
 record FreshParts (made : ℕ) (v : View) (s : Snapshot) : Type 0 where
@@ -189,7 +185,7 @@ module _ (made : ℕ) (v : View) (s : Snapshot) (part : FreshParts made v s) whe
 
   -- No script object is white.
   none_white : v.white ≡ []
-  none_white = length-zero v.white (eqb-true (length v.white) 0 (and_parts _ _ (and_parts _ _ part.colours).1).1)
+  none_white = nil_from_length v.white (eqb-true (length v.white) 0 (and_parts _ _ (and_parts _ _ part.colours).1).1)
 
   -- A noted reference passes for its ends.
   reference-nodes : (x y : Name) → Among (x, y) s.references → (has same_name (node_names s) x && has same_name (node_names s) y) ≡ true

@@ -1,4 +1,5 @@
 use Rattle.std.proofs.Common.{◌≡◌, ℕ, List, Option, Some, drop, ap, sym, subst, ◌∙◌, refl, inl}
+use Rattle.cc_script.proofs.Wholeness.{there-object}
 use Rattle.cc_lists.specs.Members.{Among}
 use Rattle.cc_script.specs.Objects.{Object, object_at, is_there, slots_at}
 use Rattle.cc_script.specs.Lists.{Lists, objects_of, IsPlaced}
@@ -10,7 +11,7 @@ use Rattle.cc_script.proofs.Keys.{object_at-among, coloured-there}
 use Rattle.cc_script.proofs.Raising.{raised-front, raised-none}
 use Rattle.cc_script.proofs.Popping.{front-popped, none-popped}
 use Rattle.cc_script.proofs.Chained.{lists-waiting, marking-is}
-use Rattle.cc_script.proofs.Underway.{first-looked, looked-marked, slots-there, there-some}
+use Rattle.cc_script.proofs.Underway.{first-looked, looked-marked, slots-there}
 use Rattle.cc_script.proofs.parts.ScriptParts.look_into_first.Goals as goal
 
 pub pop_front-requires : goal.pop_front-requires
@@ -101,6 +102,6 @@ returns-clause-begun c =
       marked = subst (IsMarked c.args.to) (sym raises)
           (looked-marked c.args.to m c.in_ok-key.key (drop 1 m.waiting) front
           (subst (λ (z : Marking). (o : Object) → Among o z.objects → object_at z.objects o.key ≡ Some o) raises (object_at-own (lists_of c.raise_each.new.self) c.raise_each.ensures.under_way.placed))
-          (λ o q n held. there-some (shows p) q (c.requires.whole o q n held))
+          (λ o q n held. there-object (shows p) q (c.requires.whole o q n held))
           (λ k d e. object_at-among (shows p) k d e) c.requires.begun.marked);
     }
