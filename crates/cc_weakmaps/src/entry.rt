@@ -1,5 +1,5 @@
 //! One entry.
-ghost use Rattle.std.specs.Prelude.{◌≡◌};
+ghost use Rattle.std.specs.Prelude.{◌≡◌, IsTrue};
 ghost use Rattle.cc_weakmaps.specs.Entries.{is_entry_of};
 ghost use Rattle.cc_weakmaps.specs.Index.{has_object};
 ghost use Rattle.cc_weakmaps.specs.Living.{Stays, script_key};
@@ -41,6 +41,17 @@ impl Entry {
         ensures { result ≡ has_object object.0 self.now }
     {
         self.the_map == object || self.key == object || self.delegate == Some(object)
+    }
+
+    /// Whether another one has the same delegate, or none as well.
+    pub(crate) fn is_alike(&self, other: Entry) -> bool
+        ensures { IsTrue result → self.now.delegate ≡ other.delegate }
+    {
+        match (self.delegate, other.delegate) {
+            (Some(one), Some(two)) => one == two,
+            (None, None) => true,
+            _ => false,
+        }
     }
 
     /// Whether both its map and its key live. `alive` says of a key whether the object that stands there does.

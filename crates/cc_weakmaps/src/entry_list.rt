@@ -265,9 +265,8 @@ impl EntryList {
         ensures at_most_one { HasOneEach self.new.entries }
         ensures memory { TakesNoMemory self.old self.new }
     {
-        if self.entries[place].delegate != entry.delegate {
-            self.has_index = false;
-        }
+        let is_alike = self.entries[place].is_alike(entry);
+        self.has_index = keeps_index(self.has_index, is_alike);
         self.entries[place] = entry;
     }
 
@@ -297,6 +296,13 @@ impl EntryList {
         );
         self.links.truncate(self.entries.len());
     }
+}
+
+/// Whether there is an index where an entry was written again: where there was one, and the entry has the delegate that it had.
+fn keeps_index(has_index: bool, is_alike: bool) -> bool
+    ensures { IsTrue result → IsTrue has_index × IsTrue is_alike }
+{
+    has_index && is_alike
 }
 
 /// The last place below another of an entry that has an object, by a look at one after another; none where none has.
