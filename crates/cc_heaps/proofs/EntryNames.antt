@@ -8,13 +8,13 @@ use Rattle.std.specs.List.{find}
 use Rattle.std.proofs.lemmas.Bool.{eqb-true, eq-eqb, false≢true}
 use Rattle.cc_lists.specs.Members.{Among}
 use Rattle.cc_lists.proofs.Filtering.{filter-agree}
-use Rattle.cc_lists.proofs.Members.{Among-filtered}
+use Rattle.cc_lists.proofs.Members.{Among-filtered, Among-map}
 use Rattle.cc_lists.proofs.Searching.{filter-map, find-map, find-only}
 use Rattle.cc_names.specs.declared.name.Name.{Name}
 use Rattle.cc_names.specs.declared.name.Name.TheVariants as name
 use Rattle.cc_names.specs.declared.number.SKey.{SKey}
 use Rattle.cc_names.specs.declared.kind.Kind.{Kind}
-use Rattle.cc_names.specs.declared.kind.Kind.TheVariants.{Plain, Reflector, Map}
+use Rattle.cc_names.specs.declared.kind.Kind.TheVariants.{Plain, Reflector, Map, Proxy}
 use Rattle.cc_names.specs.Names.{same_name}
 use Rattle.cc_names.proofs.NameTests.{same_name-true, same_name-refl}
 use Rattle.cc_model.specs.Entries as model
@@ -23,14 +23,15 @@ use Rattle.cc_model.specs.Slots.{Slots}
 use Rattle.cc_model.specs.Checks.{is_map_in, value_at}
 use Rattle.cc_model.specs.Heap.{HeapScript, objects_of, script_at, slots_in, slots_of_kind, slots_of_script}
 use Rattle.cc_model.specs.WellFormed.{script_names}
-use Rattle.cc_laws_heap.proofs.Face.{native-no_script}
+use Rattle.cc_laws_heap.proofs.Face.{is_some-found, native-no_script}
 use Rattle.cc_script.specs.Objects.{Object, is_there, kind_at, name_at, object_at}
 use Rattle.cc_weakmaps.specs.Entries.{KeyedEntry, entry, has_value_in, is_entry_of, value_in, with_entry, without_entry}
-use Rattle.cc_marking.specs.Marking.{IsEntryThere, AreEntriesThere}
-use Rattle.cc_heaps.specs.Keyed.{Keyed, IsInOrder, the_name_at, named_entry, named_entries, named_object}
+use Rattle.cc_marking.specs.Marking.{AreDelegatesOfKeys, IsEntryThere, AreEntriesThere}
+use Rattle.cc_script.proofs.PlacesOf.{delegate-place}
+use Rattle.cc_heaps.specs.Keyed.{Keyed, IsInOrder, name_held, the_name_at, named_entry, named_entries, named_object}
 use Rattle.cc_heaps.specs.Changes.{IsScriptThere, script_name}
 use Rattle.cc_heaps.proofs.Keys.{object-name}
-use Rattle.cc_heaps.proofs.Reaching.{HasOneName, key-named, name_at-found, object_at-found, same-tests, the_name-there}
+use Rattle.cc_heaps.proofs.Reaching.{HasOneName, key-named, name_at-found, object_at-found, same-tests, the_name-is, the_name-there}
 use Rattle.cc_heaps.proofs.ScriptsChanged.{HasOneName-named}
 
 -- Entries changed and read
@@ -52,14 +53,14 @@ module _ (objects : List Object) (one_name : HasOneName objects) where
     is_entry_of-named e t = λ i. same-key e.the_map m t.the_map m-there i && same-key e.key k t.key k-there i
 
     -- AN ENTRY IS SET,
-    pub with_entry-named : (v : ℕ) (es : List KeyedEntry) → AreEntriesThere objects es →
-        named_entries objects (with_entry es m k v) ≡ model.with_entry (named_entries objects es) x y (the_name_at objects v)
-    with_entry-named v [] t = refl
-    with_entry-named v (e ∷ es) t =
-        through-test (named_entries objects) (is_entry_of m k e) (entry m k v ∷ es) (e ∷ with_entry es m k v)
+    pub with_entry-named : (d : Option ℕ) (v : ℕ) (es : List KeyedEntry) → AreEntriesThere objects es →
+        named_entries objects (with_entry es m k d v) ≡ model.with_entry (named_entries objects es) x y (name_held objects d) (the_name_at objects v)
+    with_entry-named d v [] t = refl
+    with_entry-named d v (e ∷ es) t =
+        through-test (named_entries objects) (is_entry_of m k e) (entry m k d v ∷ es) (e ∷ with_entry es m k d v)
         ∙ (λ i. elim (sym (is_entry_of-named e (t e (inl refl))) i) [
-          | true ↦ model.entry x y (the_name_at objects v) ∷ named_entries objects es
-          | false ↦ named_entry objects e ∷ with_entry-named v es (λ f i. t f (inr i)) i
+          | true ↦ model.entry x y (name_held objects d) (the_name_at objects v) ∷ named_entries objects es
+          | false ↦ named_entry objects e ∷ with_entry-named d v es (λ f i. t f (inr i)) i
         ])
 
     -- OR TAKEN OUT,
@@ -83,14 +84,14 @@ module _ (objects : List Object) (one_name : HasOneName objects) where
 
 module _ (objects : List Object) (es : List KeyedEntry) (there : AreEntriesThere objects es) (m k : ℕ) where
   -- what entries name is there after one of what is there was set,
-  pub entries_there-set : (v : ℕ) → IsEntryThere objects (entry m k v) → AreEntriesThere objects (with_entry es m k v)
-  entries_there-set v new = each es there
+  pub entries_there-set : (d : Option ℕ) (v : ℕ) → IsEntryThere objects (entry m k d v) → AreEntriesThere objects (with_entry es m k d v)
+  entries_there-set d v new = each es there
     where
-      each : (fs : List KeyedEntry) → AreEntriesThere objects fs → AreEntriesThere objects (with_entry fs m k v)
-      each [] old = of-one (IsEntryThere objects) (entry m k v) new
-      each (f ∷ fs) old = of-test (AreEntriesThere objects) (is_entry_of m k f) (entry m k v ∷ fs) (f ∷ with_entry fs m k v)
+      each : (fs : List KeyedEntry) → AreEntriesThere objects fs → AreEntriesThere objects (with_entry fs m k d v)
+      each [] old = of-one (IsEntryThere objects) (entry m k d v) new
+      each (f ∷ fs) old = of-test (AreEntriesThere objects) (is_entry_of m k f) (entry m k d v ∷ fs) (f ∷ with_entry fs m k d v)
           (λ e. ⊎_elim (λ s. subst (IsEntryThere objects) s new) (λ r. old e (inr r)))
-          (λ e. ⊎_elim (λ s. old e (inl s)) (each fs (λ d j. old d (inr j)) e))
+          (λ e. ⊎_elim (λ s. old e (inl s)) (each fs (λ g j. old g (inr j)) e))
 
   -- and after one was taken out,
   pub entries_there-without : AreEntriesThere objects (without_entry es m k)
@@ -139,10 +140,33 @@ module _ (owned : List ℕ) (v : Keyed) (o : IsInOrder owned v) where
   -- The kind of what is there
 
   -- a script object is found by its name
-  script_at-named : (q : Object) → Among q v.scripts → script_at v.heap q.name ≡ Some (named_object v.scripts q)
+  pub script_at-named : (q : Object) → Among q v.scripts → script_at v.heap q.name ≡ Some (named_object v.scripts q)
   script_at-named q m = ap (find (λ (s : HeapScript). same_name s.name q.name)) o.named
       ∙ (find-map (λ (s : HeapScript). same_name s.name q.name) (named_object v.scripts) v.scripts
       ∙ ap (option_map (named_object v.scripts)) (find-only (λ (s : Object). same_name s.name q.name) v.scripts q (one_name-order q.name) m (same_name-refl q.name)))
+
+  -- THE DELEGATE OF AN ENTRY IS THAT OF ITS KEY, by keys as by names
+  pub delegates-order : AreDelegatesOfKeys v.scripts v.entries
+  delegates-order e m =
+      let there = o.entries_there e m in
+      let f = is_some-found (object_at v.scripts e.key) there.key in
+      let i = (object_at-found v.scripts e.key f.0 f.1).0 in
+      let given : Among (named_entry v.scripts e) v.heap.entries = subst (Among (named_entry v.scripts e)) (sym o.entries) (Among-map (named_entry v.scripts) e v.entries m) in
+      let same = (o.sound.well_formed.entries (named_entry v.scripts e) given).delegate (named_object v.scripts f.0)
+      (subst (Among (named_object v.scripts f.0)) (sym o.named) (Among-map (named_object v.scripts) f.0 v.scripts i))
+      (sym (the_name-is v.scripts e.key f.0.name (ap (option_map (λ (q : Object). q.name)) f.1))) in
+      sym (only f.0.delegate e.delegate (λ d q. o.whole f.0 d i (delegate-place f.0 d q)) there.delegate same)
+      ∙ sym (ap (option_and_then (λ (q : Object). q.delegate)) f.1)
+    where
+      only : (a b : Option ℕ) → ((d : ℕ) → a ≡ Some d → IsTrue (is_there v.scripts d)) → ((d : ℕ) → b ≡ Some d → IsTrue (is_there v.scripts d)) →
+          name_held v.scripts a ≡ name_held v.scripts b → a ≡ b
+      only None None s t e = refl
+      only None (Some b) s t e = let n = the_name-there v.scripts b (t b refl) in let none : None ≡ Some (the_name_at v.scripts b) = e ∙ n in absurd (cc)
+      only (Some a) None s t e = let n = the_name-there v.scripts a (s a refl) in let none : Some (the_name_at v.scripts a) ≡ None = sym n ∙ e in absurd (cc)
+      only (Some a) (Some b) s t e =
+          let n = the_name-there v.scripts a (s a refl) in
+          let f = name_at-found v.scripts a (the_name_at v.scripts a) n in
+          ap (λ (k : ℕ). Some k) (sym f.2 ∙ key-named v.scripts one_name-order b (the_name_at v.scripts a) (sym e ∙ n) f.0 f.1 f.3)
 
   -- and its slots
   slots_in-named : (q : Object) → Among q v.scripts → slots_in v.heap q.name ≡ slots_of_script (named_object v.scripts q)

@@ -3,7 +3,7 @@
 use Rattle.cc_heaps.proofs.ObjectsKept.{there-named}
 use Rattle.cc_lists.proofs.Held.{held-is, of-one}
 use Rattle.cc_heaps.proofs.Keys.{name-in, script_name-in}
-use Rattle.std.proofs.Common.{◌≡◌, ℕ, ◌<◌, ◌≤◌, ◌==◌, true, List, ◌++◌, length, get_or, Option, Some, None, option_map, refl, sym, ◌∙◌, ap, subst, inl, inr, ⊎_elim, arith}
+use Rattle.std.proofs.Common.{◌≡◌, ℕ, ◌+◌, ◌<◌, ◌≤◌, ◌==◌, true, List, ◌++◌, length, get_or, Option, Some, None, option_map, refl, sym, ◌∙◌, ap, subst, inl, inr, ⊎_elim, arith}
 use Rattle.std.specs.Prelude.{IsTrue, IfSome}
 use Rattle.std.specs.Option.{option_and_then, option_to_list}
 use Rattle.std.proofs.lemmas.Bool.{lt-ltb, le-leb, lt-leb}
@@ -16,31 +16,37 @@ use Rattle.cc_names.specs.declared.name.Name.TheVariants as name
 use Rattle.cc_names.specs.Names.{native, object, reflector}
 use Rattle.cc_names.specs.declared.kind.Colour.TheVariants.{Black}
 use Rattle.cc_names.specs.declared.number.SKey.{SKey}
+use Rattle.cc_names.specs.declared.register.Reg.TheVariants.{S}
 use Rattle.cc_names.specs.Sizes.{bank_length, most_slots}
 use Rattle.cc_model.specs.Slots.{Slots}
 use Rattle.cc_model.specs.Ranges.{in_range}
-use Rattle.cc_model.specs.Heap.{Heap, objects_of, HeapNative, HeapScript, native_at, set_slot, change_script, change_native, with_native_slot, with_script_slot, suspect}
+use Rattle.cc_model.specs.Heap.{Heap, objects_of, HeapNative, HeapScript, native_at, preserve, set_register, set_slot, change_script, change_native, with_native_slot, with_script_slot, suspect}
 use Rattle.cc_model.specs.Cascade.{take_up, let_go}
 use Rattle.cc_model.specs.End.{slots_now}
 use Rattle.cc_model.specs.View.{view, ReachedIn}
 use Rattle.cc_model.specs.Colours.{HasColourInvariant}
-use Rattle.cc_model.specs.Effects.{effects, hold_native, hold_script, make_native, make_object}
+use Rattle.cc_model.specs.Effects.{effects, hold_native, hold_script, make_native, make_object, make_proxy, with_object}
 use Rattle.cc_model.specs.Exposure.{exposed}
 use Rattle.cc_model.specs.Snapshot.{Snapshot}
 use Rattle.cc_model.specs.Fresh.{IsFresh}
 use Rattle.cc_model.specs.Suspected.{IsSuspected}
 use Rattle.cc_model.specs.WellFormed.{IsWellFormed, native_names, names_there, script_names}
 use Rattle.cc_laws_heap.specs.Sound.{IsSound, numbers_of}
-use Rattle.cc_laws_heap.proofs.Face.{AreColoured-from_view, AreColoured-register, AreColoured-slot, HasColourInvariant-from, IsColoured, IsHeldBlack, IsIn, IsTaken, SameScripts, SameScripts-coloured, SameScripts-take_up, effects-coloured, effects-sound, exposed-black, exposed-coloured, exposed-sound, hold_native-scripts, hold_native-sound, hold_script-sound, let_go-scripts, let_go-sound, make_native-scripts, make_native-sound, names_there-take_up, native-no_script, native_slot-sound, script-named, script_slot-sound, take_up-sound}
+use Rattle.cc_laws_heap.proofs.Face.{AreColoured-from_view, AreColoured-register, AreColoured-slot, HasColourInvariant-from, IsColoured, IsHeldBlack, IsIn, IsTaken, SameScripts, SameScripts-coloured, SameScripts-take_up, effects-coloured, effects-sound, exposed-black, exposed-coloured, exposed-sound, hold_native-scripts, hold_native-sound, hold_script-sound, let_go-scripts, let_go-sound, make_proxy-coloured, make_proxy-sound, option_map-found, make_native-scripts, make_native-sound, names_there-take_up, native-no_script, native_slot-sound, script-named, script_slot-sound, take_up-sound}
 use Rattle.cc_laws_snapshot.specs.Losing.{IsLoyal}
-use Rattle.cc_laws_snapshot.proofs.Face.{AreGentle, AreGentle-then, AreTaken, IsGentleBut-then, Still-hold_script, effects-fresh, exposed-gentle, exposed-suspected, fresh-coloured, fresh-more, hold_native-gentle, hold_native-loyal, hold_script-gentle, let_go-caught, let_go-gentle, loyal-suspected, make_native-gentle, marked-buffer, native-name_of, native-no_script as native-is_no_script, native_made-suspected, native_slot-gentle, not_gray-held, object_made-suspected, script_slot-gentle, script_slot_written-suspected, still-loyal, stored-loyal, suspect-keeps_purple, suspect-purple, take_up-gentle, take_up-taken, with_mark-keeps}
+use Rattle.cc_laws_snapshot.proofs.Face.{AreGentle, AreGentle-then, AreTaken, IsGentleBut-then, Still-hold_script, Still-make_proxy, effects-fresh, exposed-gentle, exposed-suspected, fresh-coloured, fresh-more, hold_native-gentle, hold_native-loyal, hold_script-gentle, let_go-caught, let_go-gentle, loyal-suspected, make_native-gentle, make_proxy-gentle, marked-buffer, native-name_of, native-no_script as native-is_no_script, native_made-suspected, native_slot-gentle, not_gray-held, object_made-suspected, script_slot-gentle, script_slot_written-suspected, still-loyal, stored-loyal, suspect-keeps_purple, suspect-purple, take_up-gentle, take_up-taken, with_mark-keeps}
 use Rattle.cc_counted.specs.Counts.{slots_of}
 use Rattle.cc_counted.specs.Counts as counts
 use Rattle.cc_counted.specs.declared.held.Held.{Held}
 use Rattle.cc_counted.specs.declared.held.Held.TheVariants as held
-use Rattle.cc_script.specs.Objects.{Object, colour_at, is_there, name_at}
+use Rattle.cc_script.specs.Objects.{Object, colour_at, is_there, name_at, object_at}
 use Rattle.cc_heaps.specs.Keyed.{Keyed, keyed_name, keyed_native, IsInOrder, counts_of, left_with, named_object, the_number}
-use Rattle.cc_heaps.specs.Making.{kind_to_make, command_to_make, slots_to_make}
+use Rattle.cc_heaps.specs.Making.{MayBeMade, delegate_name, kind_to_make, slots_to_make}
+use Rattle.cc_heaps.specs.declared.heaps.to_make.ToMake.{ToMake}
+use Rattle.cc_heaps.specs.declared.heaps.to_make.ToMake.TheVariants.{Plain, Map, Proxy}
+use Rattle.cc_names.specs.declared.kind.Kind.TheVariants as kind
+use Rattle.cc_model.specs.declared.command.Command.{Command}
+use Rattle.cc_model.specs.declared.command.Command.TheVariants.{Script, WeakMap}
 use Rattle.cc_heaps.specs.Changes.{IsBlackHeld, held_name, script_name, stored_in}
 use Rattle.cc_heaps.proofs.Content.{held-in, native-in}
 use Rattle.cc_heaps.proofs.Reaching.{key-named, object_at-own}
@@ -108,35 +114,46 @@ script_slot-keeps {owned} h (name.Script k) i y at there black s = script_slot h
 script_slot-keeps {owned} h (name.Reflector k) i y at there black s = script_slot h (reflector k.0) i y
     (script_slot-sound owned h (Some (reflector k.0)) i y (of-one (λ w. Among w (script_names h)) (reflector k.0) at) there s).well_formed there black s
 
--- the command that makes a script object is in its ranges, and is taken
-pub made-ranges : (d : ℕ) (slots : Option ℕ) → d < bank_length → IfSome slots (λ n. n ≤ most_slots) → IsTrue (in_range (command_to_make d slots))
-made-ranges d slots room few = grind (arith, lt-ltb, le-leb)
+-- what a command makes that is in its ranges and is taken
+taken-follows : {owned : List ℕ} (h : Heap) (c : Command) → IsSound owned h → IsTrue (in_range c) → IsTaken (objects_of h) c → Follows h (effects h c).heap
+taken-follows h c s ranges taken = record {
+  colours = λ k. HasColourInvariant-from (effects h c).heap (effects-sound h c s ranges taken).well_formed
+      (effects-coloured h c s (AreColoured-from_view h s.well_formed k) ranges taken);
+  fresh = λ t f. effects-fresh h t c s f ranges taken;
+}
 
-made-taken : (h : Heap) (d : ℕ) (slots : Option ℕ) → h.scripts_made < h.limits.scripts → IsTaken (objects_of h) (command_to_make d slots)
-made-taken h d slots allowed = grind (arith, lt-leb)
+-- such commands make a plain object or a weak map
+pub plain-ranges : (d n : ℕ) → d < bank_length → n ≤ most_slots → IsTrue (in_range (Script d n))
+plain-ranges d n room few = grind (arith, lt-ltb, le-leb)
 
--- it makes it
-pub made-effects : (h : Heap) (d : ℕ) (slots : Option ℕ) → (effects h (command_to_make d slots)).heap ≡ make_object h d (kind_to_make slots) (slots_to_make slots)
+pub map-ranges : (d : ℕ) → d < bank_length → IsTrue (in_range (WeakMap d))
+map-ranges d room = grind (arith, lt-ltb)
+
+plain-taken : (h : Heap) (d n : ℕ) → h.scripts_made < h.limits.scripts → IsTaken (objects_of h) (Script d n)
+plain-taken h d n allowed = grind (arith, lt-leb)
+
+map-taken : (h : Heap) (d : ℕ) → h.scripts_made < h.limits.scripts → IsTaken (objects_of h) (WeakMap d)
+map-taken h d allowed = grind (arith, lt-leb)
+
+pub plain-effects : (h : Heap) (d n : ℕ) → (effects h (Script d n)).heap ≡ make_object h d kind.Plain n None
 unfolding effects
-made-effects h d slots = grind arith
+plain-effects h d n = refl
 
--- A script object is made.
-pub make_object-keeps : {owned : List ℕ} (h : Heap) (d : ℕ) (slots : Option ℕ) → d < bank_length → IfSome slots (λ n. n ≤ most_slots) → h.scripts_made < h.limits.scripts → IsSound owned h →
-    Keeps h (make_object h d (kind_to_make slots) (slots_to_make slots))
-make_object-keeps h d slots room few allowed s = record {
-  follows = subst (Follows h) (made-effects h d slots) (record {
-    colours = λ c. HasColourInvariant-from (effects h (command_to_make d slots)).heap (effects-sound h (command_to_make d slots) s ranges taken).well_formed
-        (effects-coloured h (command_to_make d slots) s (AreColoured-from_view h s.well_formed c) ranges taken);
-    fresh = λ t f. effects-fresh h t (command_to_make d slots) s f ranges taken;
-  });
-  suspected = λ candidates. object_made-suspected h candidates d (kind_to_make slots) (slots_to_make slots) s.well_formed;
+pub map-effects : (h : Heap) (d : ℕ) → (effects h (WeakMap d)).heap ≡ make_object h d kind.Map 0 None
+unfolding effects
+map-effects h d = refl
+
+-- A proxy is made of what is there and black.
+make_proxy-keeps : {owned : List ℕ} (h : Heap) (d : ℕ) (x : Option Name) → h.scripts_made < h.limits.scripts → IsIn (script_names h) x → IsHeldBlack h.scripts x → IsSound owned h →
+    Keeps h (make_proxy h d x)
+make_proxy-keeps {owned} h d x room there black s = record {
+  follows = Follows-from h (make_proxy h d x) s.well_formed after.well_formed (make_proxy-gentle owned h d x there (not_gray-held h x black) s)
+      (make_proxy-coloured h d x s there black);
+  suspected = Remembers-from h (make_proxy h d x) s.well_formed after.well_formed (still-loyal h (make_proxy h d x) s after (Still-make_proxy h d x));
 }
   where
-    ranges : IsTrue (in_range (command_to_make d slots))
-    ranges = made-ranges d slots room few
-
-    taken : IsTaken (objects_of h) (command_to_make d slots)
-    taken = made-taken h d slots allowed
+    after : IsSound owned (make_proxy h d x)
+    after = make_proxy-sound owned h d x there room s
 
 -- Natives
 
@@ -285,6 +302,44 @@ module _ (owned : List ℕ) (v : Keyed) (o : IsInOrder owned v) where
   -- what is held is black, where it is a script object
   pub held_name-black : (x : Option Held) → IsBlackHeld v x → IsHeldBlack v.heap.scripts (held_name v x)
   held_name-black x b = grind (arith, name_at-black, native-is_no_script, native-name_of, native-in, script-named)
+
+-- A script object is made, and a register holds it: the heaps afterwards
+abbrev pub made_by : Keyed → ℕ → ToMake → Heap
+made_by v d what = make_object (preserve v.heap (delegate_name v what)) d (kind_to_make what) (slots_to_make what) (delegate_name v what)
+
+-- the same where the delegate is preserved once the object is made
+pub made_first : (v : Keyed) (d : ℕ) (what : ToMake) →
+    set_register (preserve (with_object v.heap (kind_to_make what) (slots_to_make what) (delegate_name v what)) (delegate_name v what)) (S d) (Some (object (v.heap.scripts_made + 1))) ≡
+    made_by v d what
+made_first v d what = go (delegate_name v what)
+  where
+    go : (x : Option Name) → set_register (preserve (with_object v.heap (kind_to_make what) (slots_to_make what) x) x) (S d) (Some (object (v.heap.scripts_made + 1))) ≡
+        make_object (preserve v.heap x) d (kind_to_make what) (slots_to_make what) x
+    go None = refl
+    go (Some (name.Native k)) = refl
+    go (Some (name.Script k)) = refl
+    go (Some (name.Reflector k)) = refl
+
+-- of a proxy they are those of the definitions
+pub proxy-made : (v : Keyed) (d : ℕ) (k : SKey) → colour_at v.scripts k.0 ≡ Some Black → make_proxy v.heap d (name_at v.scripts k.0) ≡ made_by v d (Proxy k)
+proxy-made v d k black =
+    let f = option_map-found (λ (q : Object). q.colour) (object_at v.scripts k.0) Black black in
+    let n : name_at v.scripts k.0 ≡ Some f.0.name = ap (option_map (λ (q : Object). q.name)) f.1 in
+    ap (make_proxy v.heap d) n ∙ ap (λ x. make_object (preserve v.heap x) d kind.Proxy 0 x) (sym n)
+
+pub make_object-keeps : {owned : List ℕ} (v : Keyed) (o : IsInOrder owned v) (d : ℕ) (what : ToMake) → d < bank_length → MayBeMade v.scripts what → v.heap.scripts_made < v.heap.limits.scripts →
+    Keeps v.heap (made_by v d what)
+make_object-keeps v o d (Plain n) room few allowed = record {
+  follows = subst (Follows v.heap) (plain-effects v.heap d n) (taken-follows v.heap (Script d n) o.sound (plain-ranges d n room few) (plain-taken v.heap d n allowed));
+  suspected = λ candidates. object_made-suspected v.heap candidates d kind.Plain n None o.sound.well_formed;
+}
+make_object-keeps v o d Map room few allowed = record {
+  follows = subst (Follows v.heap) (map-effects v.heap d) (taken-follows v.heap (WeakMap d) o.sound (map-ranges d room) (map-taken v.heap d allowed));
+  suspected = λ candidates. object_made-suspected v.heap candidates d kind.Map 0 None o.sound.well_formed;
+}
+make_object-keeps {owned} v o d (Proxy k) room black allowed =
+    subst (Keeps v.heap) (proxy-made v d k black)
+    (make_proxy-keeps v.heap d (name_at v.scripts k.0) allowed (name_at-there owned v o k.0) (name_at-black owned v o k.0 black) o.sound)
 
 -- A slot of the script object at a key is written.
 pub object_slot-keeps : {owned : List ℕ} (v : Keyed) (o : IsInOrder owned v) (key i : ℕ) (x : Option SKey) → IsTrue (is_there v.scripts key) →
