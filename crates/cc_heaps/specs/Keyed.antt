@@ -24,12 +24,12 @@ pub record Keyed : Type 0 where
 
 -- Script objects by names
 
--- the name of what a slot of a script object holds
+-- the name of what a slot of a script object holds, or of its delegate
 abbrev pub name_held : List Object → Option ℕ → Option Name
 name_held objects x = option_and_then (name_at objects) x
 
 abbrev pub named_object : List Object → Object → HeapScript
-named_object objects o = record { name = o.name; kind = o.kind; slots = map (name_held objects) o.slots; colour = o.colour }
+named_object objects o = record { name = o.name; kind = o.kind; slots = map (name_held objects) o.slots; delegate = name_held objects o.delegate; colour = o.colour }
 
 abbrev pub named_objects : List Object → List HeapScript
 named_objects objects = map (named_object objects) objects
@@ -38,9 +38,9 @@ named_objects objects = map (named_object objects) objects
 abbrev pub the_name_at : List Object → ℕ → Name
 the_name_at objects key = elim (name_at objects key) [ None ↦ object 0 | Some x ↦ x ]
 
--- an entry by the names of its map, its key and its value
+-- an entry by the names of its map, its key, the key's delegate and its value
 abbrev pub named_entry : List Object → KeyedEntry → Entry
-named_entry objects e = entries.entry (the_name_at objects e.the_map) (the_name_at objects e.key) (the_name_at objects e.value)
+named_entry objects e = entries.entry (the_name_at objects e.the_map) (the_name_at objects e.key) (name_held objects e.delegate) (the_name_at objects e.value)
 
 abbrev pub named_entries : List Object → List KeyedEntry → List Entry
 named_entries objects es = map (named_entry objects) es
@@ -97,7 +97,7 @@ Reflects v (name.Reflector k) None = ⊥
 Reflects v (name.Reflector k) (Some key) = number_at v key ≡ Some k.0
 
 -- THE JOINT FACTS, where these references are owned besides: the heaps are sound, each object stands at one key, slots of
--- script objects hold what is there and entries name what is there, a reflector has the key of its native, and limits keep
+-- script objects hold what is there, as delegates are, and entries name what is there, a reflector has the key of its native, and limits keep
 -- their range.
 pub record IsInOrder (owned : List ℕ) (v : Keyed) : Type 0 where
   pub sound : IsSound owned v.heap

@@ -30,6 +30,7 @@ mod reflectors;
 mod roots;
 mod scripts;
 mod sweeping;
+mod to_make;
 
 use cc_counted::Counted;
 use cc_model::Notices;

@@ -1,8 +1,8 @@
 -- ONE LINE OF A TRANSCRIPT, with what was asked and answered before it.
-use Rattle.std.specs.Prelude.{◌≡◌, Bool, true, false, List, [], ◌∷◌, ◌++◌, length, Some}
+use Rattle.std.specs.Prelude.{◌≡◌, true, false, List, [], ◌∷◌, ◌++◌, length, Some}
 use Rattle.cc_laws_run.specs.Missing.{asks_nothing}
 use Rattle.cc_names.specs.Allowance.{Allowance}
-use Rattle.cc_model.specs.declared.command.Command.TheVariants.{Nothing, Collect, Gc}
+use Rattle.cc_model.specs.declared.command.Command.TheVariants.{Collect, Gc}
 use Rattle.cc_model.specs.declared.item.Reply.TheVariants.{Done}
 use Rattle.cc_model.specs.Answers.{Answer}
 use Rattle.cc_model.specs.Asks.{Ask, taken}

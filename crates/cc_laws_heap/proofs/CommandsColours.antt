@@ -104,7 +104,7 @@ set_entry-coloured : (h : Heap) (m k v : Option Name) → IsColoured h → IsCol
 set_entry-coloured h m k v c = grind (arith, preserve-coloured)
 
 -- a proxy of what is black is made black
-make_proxy-coloured : {owned : List ℕ} (h : Heap) (d : ℕ) (x : Option Name) → IsSound owned h → IsIn (script_names h) x → IsHeldBlack h.scripts x → IsColoured h →
+pub make_proxy-coloured : {owned : List ℕ} (h : Heap) (d : ℕ) (x : Option Name) → IsSound owned h → IsIn (script_names h) x → IsHeldBlack h.scripts x → IsColoured h →
     IsColoured (make_proxy h d x)
 make_proxy-coloured h d None s there black c = c
 make_proxy-coloured {owned} h d (Some x) s there black c = make_object-coloured (preserve h (Some x)) d proxy_kind 0 (Some x)

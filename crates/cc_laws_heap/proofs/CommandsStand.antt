@@ -89,10 +89,10 @@ module _ (h : Heap) (g : Graph) (w : IsWellFormed h) (m : IsWellMade g) (s : Sta
       go (Some x) i d = delegate-stands h g s x (and_parts (is_script x) (was_made g x) i).0 d
 
   -- a proxy made of what a register holds, which is preserved first where it is a reflector, and put into a register
-  make_proxy : (d : ℕ) (o : Option Name) → OfSome (Reached g) o → OfSome (HasBehind (Reached g)) o → OfSome (MadeScript g) o → (Q : Type 0) →
+  pub proxy-follows : (d : ℕ) (o : Option Name) → OfSome (Reached g) o → OfSome (HasBehind (Reached g)) o → OfSome (MadeScript g) o → (Q : Type 0) →
       ((P : Name → Type 0) → Follows P (effects_of.make_proxy h d o) (graph.with_proxy g d o) → Q) → Q
-  make_proxy d None r b i Q f = f (Reached g) start
-  make_proxy d (Some x) r b i Q f = f (λ z. Reached g z ⊎ (next_object e ≡ z))
+  proxy-follows d None r b i Q f = f (Reached g) start
+  proxy-follows d (Some x) r b i Q f = f (λ z. Reached g z ⊎ (next_object e ≡ z))
       (Follows-script_register (λ z. Reached g z ⊎ (next_object e ≡ z)) (effects_of.with_object k proxy_kind 0 (Some x)) (graph.with_script e (proxy x)) d
       (Some (object (k.scripts_made + 1))) (Some (object (length g.scripts + 1)))
       (ap (λ j. Some (object (j + 1))) (t.beside.scripts_made ∙ ap length same)) (inr (ap (λ os. object (length os + 1)) same))
@@ -125,7 +125,7 @@ module _ (h : Heap) (g : Graph) (w : IsWellFormed h) (m : IsWellMade g) (s : Sta
       (Follows-script_register (λ z. Reached g z ⊎ (next_object g ≡ z)) (effects_of.with_object h Map 0 None) (graph.with_script g weak_map) d
       (Some (object (h.scripts_made + 1))) (Some (object (length g.scripts + 1))) (ap (λ k. Some (object (k + 1))) s.scripts_made) (inr refl)
       (Follows-map (Reached g) h g m start))
-  effects-follow (Proxy d r) Q f = make_proxy d (graph.register g (S r)) (register-reached g (S r))
+  effects-follow (Proxy d r) Q f = proxy-follows d (graph.register g (S r)) (register-reached g (S r))
       (script-behind g (graph.register g (S r)) (script_register-made g m r) (register-reached g (S r))) (script_register-made g m r) Q
       (λ P t. f P (subst (λ x. Follows P (effects_of.make_proxy h d x) (graph.with_proxy g d (graph.register g (S r)))) (sym (a.register (S r))) t))
   effects-follow (CopyNative d r) Q f = f (Reached g) (Follows-hold (Reached g) h g d (heap.register h (N r)) (graph.register g (N r)) (a.register (N r)) (register-reached g (N r)) start)

@@ -6,9 +6,9 @@ pub use Rattle.cc_laws_heap.proofs.Changing.{Follows-left, Leaves, option_map-fo
 pub use Rattle.cc_laws_heap.proofs.CollectedColours.{black-is, collect_scripts-colours, collect_scripts-frees, collect_scripts-invariant, collect_scripts-sound, collect_scripts-unmarked, collecting-keeps, is-black}
 pub use Rattle.cc_laws_heap.proofs.ColourChanges.{AreColoured-push, AreColoured-register, AreColoured-slot, IsHeldBlack, exposed-black, exposed-coloured}
 pub use Rattle.cc_laws_heap.proofs.Coloured.{AreColoured-from_view, HasColourInvariant-from, IsColoured}
-pub use Rattle.cc_laws_heap.proofs.CommandsColours.{effects-coloured}
+pub use Rattle.cc_laws_heap.proofs.CommandsColours.{effects-coloured, make_proxy-coloured}
 pub use Rattle.cc_laws_heap.proofs.CommandsSound.{effects-sound}
-pub use Rattle.cc_laws_heap.proofs.CommandsStand.{command-stands, empty-stands}
+pub use Rattle.cc_laws_heap.proofs.CommandsStand.{command-stands, empty-stands, proxy-follows}
 pub use Rattle.cc_laws_heap.proofs.CountBound.{count-bound, natives-made}
 pub use Rattle.cc_laws_heap.proofs.Counted.{IsCounted-owned, IsCounted-referred, count_at-found}
 pub use Rattle.cc_laws_heap.proofs.Drain.{drained-balanced, free_front-fewer}
@@ -21,7 +21,7 @@ pub use Rattle.cc_laws_heap.proofs.FreeFront.{IsBalanced-free_front, IsBalanced-
 pub use Rattle.cc_laws_heap.proofs.Freed.{TakesOut}
 pub use Rattle.cc_laws_heap.proofs.FreedNames.{FreesNames-left}
 pub use Rattle.cc_laws_heap.proofs.GiveUp.{IsBalanced-give_up_each, living-one, lower_native}
-pub use Rattle.cc_laws_heap.proofs.GraphCommands.{KeepsReflector-slot, empty-well, step-well}
+pub use Rattle.cc_laws_heap.proofs.GraphCommands.{KeepsReflector-slot, empty-well, proxy-well, step-well}
 pub use Rattle.cc_laws_heap.proofs.GraphParts.{Grows, IsMadeEntry-grows, IsWellMade-entries, is_some-found, with_natives, with_scripts}
 pub use Rattle.cc_laws_heap.proofs.GraphReads.{Made, MadeNative, MadeScript, native_register-made}
 pub use Rattle.cc_laws_heap.proofs.GraphWrites.{Grows-change_native, IsWellMade-change_native, IsWellMade-native_register, IsWellMade-script_register, IsWellMade-script_slot, KeepsNative-preserved, KeepsNative-reflector_slot, KeepsNative-slot, KeepsNative-wrapped, set_native-is, set_script-is}
@@ -51,7 +51,7 @@ pub use Rattle.cc_laws_heap.proofs.RepliesAlike.{AreAlike, objects-stand, refusa
 pub use Rattle.cc_laws_heap.proofs.Rising.{IsRising-filter, IsRising-once}
 pub use Rattle.cc_laws_heap.proofs.RoundParts.{round-entries, round-natives, round-scripts, value_in-filter}
 pub use Rattle.cc_laws_heap.proofs.RoundsStand.{collect_scripts-stands, round-stands, spared-from}
-pub use Rattle.cc_laws_heap.proofs.ScriptCommands.{IsNewScript-object, blank, with_reflector-sound}
+pub use Rattle.cc_laws_heap.proofs.ScriptCommands.{IsDelegate, IsNewScript-object, blank, make_proxy-sound, no_delegate, with_reflector-sound}
 pub use Rattle.cc_laws_heap.proofs.ScriptNames.{entry-named, script-named, script_names-named, scripts-once}
 pub use Rattle.cc_laws_heap.proofs.ScriptsKept.{exposed-sound, hold_script-sound, is_one_of, native-no_script, script_names-exposed, script_slot-sound}
 pub use Rattle.cc_laws_heap.proofs.Shapes.{further_of, slots_in-graph, slots_in-heap, slots_of_shape}

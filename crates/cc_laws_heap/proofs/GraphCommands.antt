@@ -105,7 +105,7 @@ limits-preserve : (g : Graph) (o : Option Name) → (preserve g o).limits ≡ g.
 limits-preserve g o = grind (arith, set_native-is)
 
 -- a proxy made of an object that was made, which is preserved first where it is a reflector
-proxy-well : (g : Graph) → IsWellMade g → (d : ℕ) (o : Option Name) → OfSome (MadeScript g) o → length g.scripts < g.limits.scripts → IsWellMade (with_proxy g d o)
+pub proxy-well : (g : Graph) → IsWellMade g → (d : ℕ) (o : Option Name) → OfSome (MadeScript g) o → length g.scripts < g.limits.scripts → IsWellMade (with_proxy g d o)
 proxy-well g w d None m room = w
 proxy-well g w d (Some x) m room = IsWellMade-script_register f d (Some (object (length g.scripts + 1)))
     (IsWellMade-with_script e (proxy x) (preserve-well g w (Some x) (MadeScript-made g x m)) (ScriptFits-proxy e x (is_made_script-grows g e (Grows-preserve g (Some x)) x m))

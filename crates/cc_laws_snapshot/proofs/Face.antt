@@ -21,9 +21,9 @@ pub use Rattle.cc_laws_snapshot.proofs.NativeParts.{AreTaken, native_slot-gentle
 pub use Rattle.cc_laws_snapshot.proofs.NativesHeld.{hold_native-gentle, make_native-gentle}
 pub use Rattle.cc_laws_snapshot.proofs.NodeUnit.{after_node-fresh, gray-tested}
 pub use Rattle.cc_laws_snapshot.proofs.ReachedStays.{IsTidy, native-edge, native_edges-alike, reached-kept, reached-there, script-edge}
-pub use Rattle.cc_laws_snapshot.proofs.ScriptParts.{exposed-gentle, hold_script-gentle, not_gray-held, script_slot-gentle, set_entry-gentle}
+pub use Rattle.cc_laws_snapshot.proofs.ScriptParts.{exposed-gentle, hold_script-gentle, make_proxy-gentle, not_gray-held, script_slot-gentle, set_entry-gentle}
 pub use Rattle.cc_laws_snapshot.proofs.SoundView.{living-native, named-there, native-name_of, script-place}
 pub use Rattle.cc_laws_snapshot.proofs.States.{gone-not_traversed}
-pub use Rattle.cc_laws_snapshot.proofs.StillNatives.{Still-hold_script}
+pub use Rattle.cc_laws_snapshot.proofs.StillNatives.{Still-hold_script, Still-make_proxy}
 pub use Rattle.cc_laws_snapshot.proofs.SweepLoses.{collect_scripts-suspected}
 pub use Rattle.cc_laws_snapshot.proofs.WhiteNatives.{taking_white-colours, taking_white-sound, white_natives-there, white_natives-unreached}

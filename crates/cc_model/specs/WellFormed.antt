@@ -1,5 +1,5 @@
 -- WHEN THE HEAPS ARE WELL FORMED: every name that they mention is in them, and their lists are in order.
-use Rattle.std.specs.Prelude.{Bool, true, false, is_some, Option, Some, ◌≡◌, ℕ, ◌≤◌, ◌==◌, true, List, [], ◌++◌, map, length, count_by}
+use Rattle.std.specs.Prelude.{Bool, true, false, is_some, Some, ◌≡◌, ℕ, ◌≤◌, ◌==◌, true, List, [], ◌++◌, map, length, count_by}
 use Rattle.cc_lists.specs.Members.{Among}
 pub use Rattle.cc_lists.specs.Walks.{IsRising}
 use Rattle.cc_names.specs.declared.name.Name.{Name}
@@ -11,7 +11,6 @@ use Rattle.cc_names.specs.Sizes.{bank_length, most_slots}
 use Rattle.cc_model.specs.Slots.{Slots, contents, reflector_slots}
 use Rattle.cc_model.specs.Entries.{Entry, is_entry_of}
 use Rattle.cc_model.specs.Heap.{Heap, HeapNative, HeapScript, Buffered}
-use Rattle.cc_model.specs.Places.{script_places_of}
 
 abbrev pub native_names : Heap → List Name
 native_names h = map (λ n. native n.number) h.natives

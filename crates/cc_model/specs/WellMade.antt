@@ -5,7 +5,6 @@ use Rattle.cc_names.specs.declared.name.Name.{Name}
 use Rattle.cc_names.specs.declared.name.Name.TheVariants as name
 use Rattle.cc_names.specs.Names.{object, reflector, is_native, is_script}
 use Rattle.cc_names.specs.Sizes.{bank_length, most_slots}
-use Rattle.cc_names.specs.Places.{script_places}
 use Rattle.cc_model.specs.Slots.{Slots, contents, reflector_slots}
 use Rattle.cc_model.specs.Entries.{Entry, is_entry_of}
 use Rattle.cc_model.specs.Graph.{Graph, GraphNative, plain_object, weak_map, proxy, native_in, script_in, delegate_in}
@@ -43,7 +42,7 @@ pub record IsWellMade (g : Graph) : Type 0 where
   -- a reflector and a plain object hold script objects that were made
   pub reflectors : (k : ℕ) (n : GraphNative) (slots : Slots) → native_in g k ≡ Some n → n.reflector ≡ Some slots → length slots ≡ reflector_slots
   pub reflector_contents : (k : ℕ) (n : GraphNative) (slots : Slots) (x : Name) → native_in g k ≡ Some n → n.reflector ≡ Some slots →
-      Among x (contents (script_places slots)) → IsTrue (is_made_script g x)
+      Among x (contents slots) → IsTrue (is_made_script g x)
   pub script_slots : (k : ℕ) (slots : Slots) → script_in g k ≡ Some (plain_object slots) → length slots ≤ most_slots
   pub script_contents : (k : ℕ) (slots : Slots) (x : Name) → script_in g k ≡ Some (plain_object slots) → Among x (contents slots) → IsTrue (is_made_script g x)
   -- the delegate of a proxy is a script object that was made

@@ -7,7 +7,7 @@ use Rattle.std.proofs.lemmas.Simd.{map-map}
 use Rattle.cc_lists.specs.Members.{Among}
 use Rattle.cc_lists.proofs.ListWrites.{map-agree}
 use Rattle.cc_names.specs.Sizes.{most_slots}
-use Rattle.cc_script.specs.Objects.{Object, FitsKind, change_object}
+use Rattle.cc_script.specs.Objects.{Object, FitsKind, FitsDelegate, change_object}
 use Rattle.cc_script.specs.Lists.{Placed, Lists, cell_at, placed_or_nothing, with_key, shown_at, objects_of, with_cell, IsPlaced}
 use Rattle.cc_script.proofs.Keys.{changed_at}
 
@@ -29,8 +29,8 @@ module _ (l : Lists) (p : IsPlaced l) (key : ℕ) (c d : Placed) (at : cell_at l
       (λ t. let both : Some d ≡ Some b = sym (ap (cell_at after.cells) t.1 ∙ same) ∙ e in inl (t.1, cc))
       (λ t. inr (sym (other k t.1) ∙ e)) (eqb_tells k key)
 
-  pub IsPlaced-changed : length d.slots ≤ most_slots → FitsKind d.kind d.native → IsPlaced (with_cell l key (Some d))
-  IsPlaced-changed few fits = record {
+  pub IsPlaced-changed : length d.slots ≤ most_slots → FitsKind d.kind d.native → FitsDelegate d.kind d.delegate → IsPlaced (with_cell l key (Some d))
+  IsPlaced-changed few fits stands = record {
     in_order = λ k m. ⊎_elim
         (λ t. (d, ap (cell_at after.cells) t.1 ∙ same))
         (λ t. let f = p.in_order k m in (f.0, other k t.1 ∙ f.1)) (eqb_tells k key);
@@ -38,6 +38,7 @@ module _ (l : Lists) (p : IsPlaced l) (key : ℕ) (c d : Placed) (at : cell_at l
     once = p.once;
     small = λ k b e. ⊎_elim (λ t. subst (λ (a : Placed). length a.slots ≤ most_slots) (sym t.1) few) (λ t. p.small k b t) (cases k b e);
     reflected = λ k b e. ⊎_elim (λ t. subst (λ (a : Placed). FitsKind a.kind a.native) (sym t.1) fits) (λ t. p.reflected k b t) (cases k b e);
+    delegated = λ k b e. ⊎_elim (λ t. subst (λ (a : Placed). FitsDelegate a.kind a.delegate) (sym t.1) stands) (λ t. p.delegated k b t) (cases k b e);
   }
 
   -- what is shown of it

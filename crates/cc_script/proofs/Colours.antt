@@ -64,6 +64,9 @@ raised-key to o = of-test (λ (z : Object). z.key ≡ o.key) (is_below o.colour 
 pub raised-slots : (to : Colour) (o : Object) → (raised to o).slots ≡ o.slots
 raised-slots to o = of-test (λ (z : Object). z.slots ≡ o.slots) (is_below o.colour to) (with_colour to o) o refl refl
 
+pub raised-delegate : (to : Colour) (o : Object) → (raised to o).delegate ≡ o.delegate
+raised-delegate to o = of-test (λ (z : Object). z.delegate ≡ o.delegate) (is_below o.colour to) (with_colour to o) o refl refl
+
 -- an object that is below is painted
 pub raised-below : (to : Colour) (o : Object) → is_below o.colour to ≡ true → raised to o ≡ with_colour to o
 raised-below to o e = ap (raised_if to o) e

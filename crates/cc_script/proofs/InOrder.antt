@@ -10,8 +10,9 @@ use Rattle.cc_lists.proofs.ListWrites.{Among-set_cases, changed_where-either}
 use Rattle.cc_lists.proofs.Searching.{find-filter}
 use Rattle.cc_names.specs.declared.kind.Colour.{Colour}
 use Rattle.cc_names.specs.declared.kind.Colour.TheVariants.{White}
-use Rattle.cc_script.specs.Objects.{Object, object_at, is_there, colour_at, change_object, with_slot, with_colour, without_object, whitened, is_below, IsNotBelow}
+use Rattle.cc_script.specs.Objects.{Object, object_at, is_there, colour_at, change_object, with_slot, with_colour, without_object, whitened, is_below, IsNotBelow, places_of}
 use Rattle.cc_script.specs.ColourOrder.{HasColourOrder}
+use Rattle.cc_script.proofs.PlacesOf.{slot-place, delegate-place, place-cases}
 use Rattle.cc_script.proofs.Keys.{object_at-map, changed_at, changed_at-key, changed_at-same}
 
 -- no objects
@@ -42,11 +43,17 @@ find-left {X} p (z ∷ zs) ys x e = go (find-left p zs ys x) (p z) e
 pub object_at-left : (objects others : List Object) (key : ℕ) (o : Object) → object_at objects key ≡ Some o → object_at (objects ++ others) key ≡ Some o
 object_at-left objects others key o e = find-left (λ (z : Object). z.key == key) objects others o e
 
-pub HasColourOrder-made : (objects : List Object) (o : Object) (n : ℕ) → o.slots ≡ replicate n None → HasColourOrder objects → HasColourOrder (objects ++ o ∷ [])
-HasColourOrder-made objects o n empty h = record {
+pub HasColourOrder-made : (objects : List Object) (o : Object) (n : ℕ) → o.slots ≡ replicate n None →
+    ((q : ℕ) → o.delegate ≡ Some q → (d : Object) × (object_at objects q ≡ Some d) × (is_below d.colour o.colour ≡ false)) → HasColourOrder objects → HasColourOrder (objects ++ o ∷ [])
+HasColourOrder-made objects o n empty delegate h = record {
   held = λ z q m above s. ⊎_elim
       (λ t. let f = h.held z q t above s in (f.0, object_at-left objects (o ∷ []) q f.0 f.1, f.2))
-      (λ t. ⊎_elim (λ e. absurd (no-slots n q (subst (λ xs. Among (Some q) xs) (ap (λ (y : Object). y.slots) (sym e) ∙ empty) s))) (λ x. absurd x) t)
+      (λ t. ⊎_elim
+      (λ e. ⊎_elim
+      (λ y. absurd (no-slots n q (subst (λ xs. Among (Some q) xs) empty y)))
+      (λ y. let f = delegate q y in (f.0, object_at-left objects (o ∷ []) q f.0 f.1, subst (λ (p : Object). is_below f.0.colour p.colour ≡ false) e f.2))
+      (place-cases o q (subst (λ (y : Object). Among (Some q) (places_of y)) (sym e) s)))
+      (λ x. absurd x) t)
       (Among-append z objects (o ∷ []) m);
 }
 
@@ -72,6 +79,16 @@ module _ (objects : List Object) (h : HasColourOrder objects) (own : (o : Object
       ⊎_elim (λ e. inl (t.1, e)) (λ r. inr r) (Among-set_cases o.slots i x (Some q) (subst (λ xs. Among (Some q) xs) slots m)))
       (λ t. let same : wrote o ≡ o = rw t.0 refl in inr (subst (λ (z : Object). Among (Some q) z.slots) same m))
       (eqb_tells o.key key)
+
+  wrote-delegate : (o : Object) → (wrote o).delegate ≡ o.delegate
+  wrote-delegate o = changed_where-either (λ z. z.delegate ≡ o.delegate) (λ z. z.key == key) (with_slot i x) o (λ e. refl) refl
+
+  -- and so of its other places
+  wrote-places : (o : Object) (q : ℕ) → Among (Some q) (places_of (wrote o)) → ((o.key ≡ key) × (x ≡ Some q)) ⊎ Among (Some q) (places_of o)
+  wrote-places o q m = ⊎_elim
+      (λ t. ⊎_elim (λ e. inl e) (λ r. inr (slot-place o q r)) (wrote-slots o q t))
+      (λ d. inr (delegate-place o q (sym (wrote-delegate o) ∙ d)))
+      (place-cases (wrote o) q m)
 
   found : (q : ℕ) (c : Colour) → (d : Object) × (object_at objects q ≡ Some d) × (is_below d.colour c ≡ false) →
       (d : Object) × (object_at (change_object objects key (with_slot i x)) q ≡ Some d) × (is_below d.colour c ≡ false)
@@ -104,7 +121,7 @@ module _ (objects : List Object) (h : HasColourOrder objects) (own : (o : Object
         let r = ⊎_elim
         (λ t. given k.0 q k.1 t.0 t.1)
         (λ t. h.held k.0 q k.1 was t)
-        (wrote-slots k.0 q (subst (λ (z : Object). Among (Some q) z.slots) (sym k.2) s)) in
+        (wrote-places k.0 q (subst (λ (z : Object). Among (Some q) (places_of z)) (sym k.2) s)) in
         let f = found q k.0.colour r in
         (f.0, f.1, ap (is_below f.0.colour) (sym (ap (λ (z : Object). z.colour) k.2) ∙ wrote-colour k.0) ∙ f.2);
   }

@@ -47,6 +47,7 @@ module _ (l : Lists) (p : IsPlaced l) (key : ℕ) (c : Placed) (at : cell_at l.c
         omega arith;
     small = λ k b e. p.small k b (left k b e).1;
     reflected = λ k b e. p.reflected k b (left k b e).1;
+    delegated = λ k b e. p.delegated k b (left k b e).1;
   }
 
   pub objects-left : objects_of (taken_out l key) ≡ without_object (objects_of l) key

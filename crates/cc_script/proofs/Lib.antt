@@ -1,4 +1,5 @@
 pub mod Keys
+pub mod PlacesOf
 pub mod Places
 pub mod Changing
 pub mod Painting

@@ -9,7 +9,7 @@ use Rattle.cc_lists.proofs.Counting.{count_by-append, count_by-cons}
 use Rattle.cc_lists.proofs.CountsOf.{count_by-none}
 use Rattle.cc_lists.proofs.ListWrites.{map-agree}
 use Rattle.cc_names.specs.Sizes.{most_slots}
-use Rattle.cc_script.specs.Objects.{FitsKind}
+use Rattle.cc_script.specs.Objects.{FitsKind, FitsDelegate}
 use Rattle.cc_script.specs.Lists.{Placed, Lists, cell_at, placed_or_nothing, with_key, shown_at, objects_of, made, IsPlaced}
 
 -- no object
@@ -23,6 +23,7 @@ IsPlaced-none = record {
   once = λ k. omega arith;
   small = λ k c e. absurd (cc);
   reflected = λ k c e. absurd (cc);
+  delegated = λ k c e. absurd (cc);
 }
 
 -- one more
@@ -48,8 +49,8 @@ module _ (l : Lists) (p : IsPlaced l) (key : ℕ) (d : Placed) (cells : List (Op
       omega (arith, count_by-append (λ k. k == j) l.order (key ∷ []), p.once j))
       (eqb_tells key j)
 
-  pub IsPlaced-made : length d.slots ≤ most_slots → FitsKind d.kind d.native → IsPlaced (made l cells key)
-  IsPlaced-made few fits = record {
+  pub IsPlaced-made : length d.slots ≤ most_slots → FitsKind d.kind d.native → FitsDelegate d.kind d.delegate → IsPlaced (made l cells key)
+  IsPlaced-made few fits stands = record {
     in_order = λ k m. ⊎_elim
         (λ t. let f = p.in_order k t in (f.0, others k (other k t) ∙ f.1))
         (λ t. ⊎_elim (λ e. (d, ap (cell_at cells) (sym e) ∙ at)) (λ x. absurd x) t)
@@ -60,6 +61,7 @@ module _ (l : Lists) (p : IsPlaced l) (key : ℕ) (d : Placed) (cells : List (Op
     once = once;
     small = λ k c e. ⊎_elim (λ t. subst (λ (b : Placed). length b.slots ≤ most_slots) (sym t.1) few) (λ t. p.small k c t) (cases k c e);
     reflected = λ k c e. ⊎_elim (λ t. subst (λ (b : Placed). FitsKind b.kind b.native) (sym t.1) fits) (λ t. p.reflected k c t) (cases k c e);
+    delegated = λ k c e. ⊎_elim (λ t. subst (λ (b : Placed). FitsDelegate b.kind b.delegate) (sym t.1) stands) (λ t. p.delegated k c t) (cases k c e);
   }
 
   pub objects-made : objects_of (made l cells key) ≡ objects_of l ++ with_key key d ∷ []

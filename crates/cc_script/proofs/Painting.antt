@@ -12,7 +12,7 @@ module _ (l : Lists) (p : IsPlaced l) (key : ℕ) (c : Placed) (at : cell_at l.c
   lists = ap (λ cs. record { cells = cs; order = l.order }) (sym (e ∙ ap (λ o. set l.cells key (option_map (painted colour) o)) at))
 
   pub IsPlaced-painted : IsPlaced (record { cells = cells; order = l.order })
-  IsPlaced-painted = subst IsPlaced lists (IsPlaced-changed l p key c (painted colour c) at (p.small key c at) (p.reflected key c at))
+  IsPlaced-painted = subst IsPlaced lists (IsPlaced-changed l p key c (painted colour c) at (p.small key c at) (p.reflected key c at) (p.delegated key c at))
 
   pub objects-painted : (f : Object → Object) → f (with_key key c) ≡ with_key key (painted colour c) → objects_of (record { cells = cells; order = l.order }) ≡ change_object (objects_of l) key f
   objects-painted f same = ap objects_of (sym lists) ∙ objects-changed l p key c (painted colour c) at f same

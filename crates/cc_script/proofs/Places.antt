@@ -1,11 +1,11 @@
 -- OBJECTS BY KEY: what the list shows at a key is what stands there.
-use Rattle.std.proofs.Common.{◌≡◌, ℕ, true, false, Option, Some, None, option_map, is_some, refl, sym, ◌∙◌, ap, subst, ◌==◌}
+use Rattle.std.proofs.Common.{◌≡◌, ℕ, true, false, Option, Some, None, option_map, option_and_then, is_some, refl, sym, ◌∙◌, ap, subst, ◌==◌}
 use Rattle.std.specs.List.{find}
 use Rattle.std.proofs.lemmas.Bool.{false≢true}
 use Rattle.cc_lists.specs.Members.{Among}
 use Rattle.cc_lists.proofs.Members.{Among-map_cases}
 use Rattle.cc_lists.proofs.Searching.{find-map}
-use Rattle.cc_script.specs.Objects.{Object, colour_at, object_at, is_there, slots_at, slots_or_none}
+use Rattle.cc_script.specs.Objects.{Object, colour_at, delegate_at, object_at, is_there, slots_at, slots_or_none}
 use Rattle.cc_script.specs.Lists.{Placed, Lists, cell_at, placed_or_nothing, with_key, shown_at, objects_of, IsPlaced}
 use Rattle.cc_script.proofs.Keys.{find-key, find-no_key}
 
@@ -44,6 +44,14 @@ module _ (l : Lists) (p : IsPlaced l) where
   -- its slots
   pub slots_at-placed : (key : ℕ) (c : Placed) → cell_at l.cells key ≡ Some c → slots_at (objects_of l) key ≡ c.slots
   slots_at-placed key c e = ap slots_or_none (object_at-placed key c e)
+
+  -- its delegate
+  pub delegate_at-cell : (key : ℕ) (x : Option ℕ) → option_map (λ (c : Placed). c.delegate) (cell_at l.cells key) ≡ Some x → delegate_at (objects_of l) key ≡ x
+  delegate_at-cell key x e = ap (option_and_then (λ (o : Object). o.delegate)) (object_at-cell key) ∙ go (cell_at l.cells key) e
+    where
+      go : (o : Option Placed) → option_map (λ (c : Placed). c.delegate) o ≡ Some x → option_and_then (λ (z : Object). z.delegate) (option_map (with_key key) o) ≡ x
+      go None f = absurd (cc)
+      go (Some c) f = cc
 
   -- each object is the one at its key
   pub object_at-own : (o : Object) → Among o (objects_of l) → object_at (objects_of l) o.key ≡ Some o

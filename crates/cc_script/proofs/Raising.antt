@@ -1,7 +1,7 @@
 -- ONE OBJECT RAISED: what stays as it is, and what of the walk is spent.
 use Rattle.cc_lists.proofs.ListWrites.{changed_where-either}
 use Rattle.cc_lists.proofs.Held.{is_some-map, of-one}
-use Rattle.std.proofs.Common.{◌≡◌, ℕ, ◌+◌, ◌<◌, ◌≤◌, Bool, true, false, List, [], ◌∷◌, ◌++◌, map, length, get_or, drop, drop-cons, add-one, Option, Some, None, option_map, is_some, refl, sym, ◌∙◌, ap, subst, arith, count_by, ⊎_elim, inr, ◌==◌}
+use Rattle.std.proofs.Common.{◌≡◌, ℕ, ◌+◌, ◌<◌, ◌≤◌, Bool, true, false, List, [], ◌∷◌, ◌++◌, map, length, get_or, drop, drop-cons, add-one, Option, Some, None, option_map, option_and_then, is_some, refl, sym, ◌∙◌, ap, subst, arith, count_by, ⊎_elim, inr, ◌==◌}
 use Rattle.std.proofs.lemmas.List.{length_push}
 use Rattle.std.proofs.lemmas.Bool.{true≢false, false≢true, cases_Bool}
 use Rattle.cc_lists.specs.Members.{Among}
@@ -9,16 +9,34 @@ use Rattle.cc_lists.proofs.Members.{Among-append}
 use Rattle.cc_lists.proofs.Counting.{count_by-map}
 use Rattle.cc_lists.proofs.Filtering.{count_by-wider}
 use Rattle.cc_names.specs.declared.kind.Colour.{Colour}
-use Rattle.cc_script.specs.Objects.{Object, object_at, is_there, slots_at, slots_or_none, change_object, is_below, raised}
+use Rattle.cc_script.specs.Objects.{Object, object_at, is_there, delegate_at, places_at, places_of, places_or_none, slots_at, slots_or_none, change_object, is_below, raised}
 use Rattle.cc_script.specs.Marking.{Marking, is_lower, raise_key, raise_slot, raise_each, count_lower, to_do, AreRaised}
 use Rattle.cc_script.proofs.Keys.{object_at-among, object_at-key, object_at-map, changed_at, changed_at-key, changed_at-same}
-use Rattle.cc_script.proofs.Colours.{raised-key, raised-slots, raised-enough, raised-keeps}
+use Rattle.cc_script.proofs.PlacesOf.{places-read, places-same}
+use Rattle.cc_script.proofs.Colours.{raised-key, raised-slots, raised-delegate, raised-enough, raised-keeps}
 
--- a change that keeps keys and slots keeps what is there, and its slots
+-- a change that keeps keys keeps what is there,
+pub is_there-kept : (g : Object → Object) → ((o : Object) → (g o).key ≡ o.key) → (objects : List Object) (q : ℕ) → is_there (map g objects) q ≡ is_there objects q
+is_there-kept g keeps_key objects q = ap is_some (object_at-map g keeps_key objects q) ∙ is_some-map g (object_at objects q)
+
+-- and one that keeps slots, delegates or places too keeps those that stand there
+module _ (g : Object → Object) (keeps_key : (o : Object) → (g o).key ≡ o.key) (keeps_places : (o : Object) → places_of (g o) ≡ places_of o) (objects : List Object) (q : ℕ) where
+  pub places_at-kept : places_at (map g objects) q ≡ places_at objects q
+  places_at-kept = ap places_or_none (object_at-map g keeps_key objects q) ∙ go (object_at objects q)
+    where
+      go : (o : Option Object) → places_or_none (option_map g o) ≡ places_or_none o
+      go None = refl
+      go (Some o) = keeps_places o
+
+module _ (g : Object → Object) (keeps_key : (o : Object) → (g o).key ≡ o.key) (keeps_delegate : (o : Object) → (g o).delegate ≡ o.delegate) (objects : List Object) (q : ℕ) where
+  pub delegate_at-kept : delegate_at (map g objects) q ≡ delegate_at objects q
+  delegate_at-kept = ap (option_and_then (λ (o : Object). o.delegate)) (object_at-map g keeps_key objects q) ∙ go (object_at objects q)
+    where
+      go : (o : Option Object) → option_and_then (λ (z : Object). z.delegate) (option_map g o) ≡ option_and_then (λ (z : Object). z.delegate) o
+      go None = refl
+      go (Some o) = keeps_delegate o
+
 module _ (g : Object → Object) (keeps_key : (o : Object) → (g o).key ≡ o.key) (keeps_slots : (o : Object) → (g o).slots ≡ o.slots) (objects : List Object) (q : ℕ) where
-  pub is_there-kept : is_there (map g objects) q ≡ is_there objects q
-  is_there-kept = ap is_some (object_at-map g keeps_key objects q) ∙ is_some-map g (object_at objects q)
-
   pub slots_at-kept : slots_at (map g objects) q ≡ slots_at objects q
   slots_at-kept = ap slots_or_none (object_at-map g keeps_key objects q) ∙ go (object_at objects q)
     where
@@ -60,11 +78,20 @@ module _ (to : Colour) (key : ℕ) where
   pub one_raised-slots : (o : Object) → (one_raised o).slots ≡ o.slots
   one_raised-slots o = changed_where-either (λ z. z.slots ≡ o.slots) (λ z. z.key == key) (raised to) o (λ e. raised-slots to o) refl
 
+  pub one_raised-delegate : (o : Object) → (one_raised o).delegate ≡ o.delegate
+  one_raised-delegate o = changed_where-either (λ z. z.delegate ≡ o.delegate) (λ z. z.key == key) (raised to) o (λ e. raised-delegate to o) refl
+
+  pub one_raised-places : (o : Object) → places_of (one_raised o) ≡ places_of o
+  one_raised-places o = places-same (one_raised o) o (one_raised-slots o) (one_raised-delegate o)
+
   pub raise_key-there : (m : Marking) (q : ℕ) → is_there (raise_key to key m).objects q ≡ is_there m.objects q
-  raise_key-there m q = raise_key-cases to key m (λ z. is_there z.objects q ≡ is_there m.objects q) (λ e. is_there-kept one_raised one_raised-key one_raised-slots m.objects q) (λ e. refl)
+  raise_key-there m q = raise_key-cases to key m (λ z. is_there z.objects q ≡ is_there m.objects q) (λ e. is_there-kept one_raised one_raised-key m.objects q) (λ e. refl)
 
   pub raise_key-slots : (m : Marking) (q : ℕ) → slots_at (raise_key to key m).objects q ≡ slots_at m.objects q
   raise_key-slots m q = raise_key-cases to key m (λ z. slots_at z.objects q ≡ slots_at m.objects q) (λ e. slots_at-kept one_raised one_raised-key one_raised-slots m.objects q) (λ e. refl)
+
+  pub raise_key-delegate : (m : Marking) (q : ℕ) → delegate_at (raise_key to key m).objects q ≡ delegate_at m.objects q
+  raise_key-delegate m q = raise_key-cases to key m (λ z. delegate_at z.objects q ≡ delegate_at m.objects q) (λ e. delegate_at-kept one_raised one_raised-key one_raised-delegate m.objects q) (λ e. refl)
 
   -- one object less is lower then
   abbrev lower : Object → Bool
@@ -91,6 +118,29 @@ raise_slot-there to (Some key) m q = raise_key-there to key m q
 pub raise_slot-slots : (to : Colour) (x : Option ℕ) (m : Marking) (q : ℕ) → slots_at (raise_slot to x m).objects q ≡ slots_at m.objects q
 raise_slot-slots to None m q = refl
 raise_slot-slots to (Some key) m q = raise_key-slots to key m q
+
+-- so of many
+pub raise_each-there : (to : Colour) (xs : List (Option ℕ)) (m : Marking) (q : ℕ) → is_there (raise_each to xs m).objects q ≡ is_there m.objects q
+raise_each-there to [] m q = refl
+raise_each-there to (x ∷ xs) m q = raise_each-there to xs (raise_slot to x m) q ∙ raise_slot-there to x m q
+
+pub raise_each-delegate : (to : Colour) (xs : List (Option ℕ)) (m : Marking) (q : ℕ) → delegate_at (raise_each to xs m).objects q ≡ delegate_at m.objects q
+raise_each-delegate to [] m q = refl
+raise_each-delegate to (None ∷ xs) m q = raise_each-delegate to xs m q
+raise_each-delegate to (Some key ∷ xs) m q = raise_each-delegate to xs (raise_key to key m) q ∙ raise_key-delegate to key m q
+
+-- one after others
+pub raise_each-append : (to : Colour) (xs ys : List (Option ℕ)) (m : Marking) → raise_each to (xs ++ ys) m ≡ raise_each to ys (raise_each to xs m)
+raise_each-append to [] ys m = refl
+raise_each-append to (x ∷ xs) ys m = raise_each-append to xs ys (raise_slot to x m)
+
+-- the places of an object: its slots, and its delegate then
+pub raise_places : (to : Colour) (key : ℕ) (x : Option ℕ) (m : Marking) → is_there m.objects key ≡ true → delegate_at (raise_each to (slots_at m.objects key) m).objects key ≡ x →
+    raise_each to (places_at m.objects key) m ≡ raise_slot to x (raise_each to (slots_at m.objects key) m)
+raise_places to key x m live is =
+    ap (λ xs. raise_each to xs m) (places-read m.objects key live)
+    ∙ (raise_each-append to (slots_at m.objects key) (delegate_at m.objects key ∷ []) m
+    ∙ ap (λ d. raise_slot to d (raise_each to (slots_at m.objects key) m)) (sym (raise_each-delegate to (slots_at m.objects key) m key) ∙ is))
 
 -- a slot more
 pub raise_each-more : (to : Colour) (slots : List (Option ℕ)) (i : ℕ) (m : Marking) → i < length slots →

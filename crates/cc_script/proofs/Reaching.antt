@@ -5,7 +5,7 @@ use Rattle.std.specs.Option.{option_to_list}
 use Rattle.cc_lists.specs.Members.{Among}
 use Rattle.cc_lists.proofs.Members.{Among-map, Among-map_cases, Among-flat_map, Among-flat_map_cases}
 use Rattle.cc_lists.proofs.Least.{derived-within, derive-root, derive-along}
-use Rattle.cc_script.specs.Objects.{Object}
+use Rattle.cc_script.specs.Objects.{Object, places_of}
 use Rattle.cc_script.specs.Walking.{slot_edges, edges, IsReachedOverSlots}
 
 -- what slots hold
@@ -18,26 +18,26 @@ pub among-held : {X : Type 0} (slots : List (Option X)) (x : X) → Among (Some 
 among-held slots x m = Among-flat_map option_to_list (Some x) x slots m (inl refl)
 
 -- an edge is a slot
-pub slot-edge : (objects : List Object) (o : Object) (q : ℕ) → Among o objects → Among (Some q) o.slots → Among (o.key, q) (edges objects)
-slot-edge objects o q m s = Among-flat_map slot_edges o (o.key, q) objects m (Among-map (λ (r : ℕ). (o.key, r)) q (flat_map option_to_list o.slots) (among-held o.slots q s))
+pub slot-edge : (objects : List Object) (o : Object) (q : ℕ) → Among o objects → Among (Some q) (places_of o) → Among (o.key, q) (edges objects)
+slot-edge objects o q m s = Among-flat_map slot_edges o (o.key, q) objects m (Among-map (λ (r : ℕ). (o.key, r)) q (flat_map option_to_list (places_of o)) (among-held (places_of o) q s))
 
-pub edge-slot : (objects : List Object) (x y : ℕ) → Among (x, y) (edges objects) → (o : Object) × Among o objects × (o.key ≡ x) × Among (Some y) o.slots
+pub edge-slot : (objects : List Object) (x y : ℕ) → Among (x, y) (edges objects) → (o : Object) × Among o objects × (o.key ≡ x) × Among (Some y) (places_of o)
 edge-slot objects x y m =
     let k = Among-flat_map_cases slot_edges objects (x, y) m in
-    let h = Among-map_cases (λ (r : ℕ). (k.0.key, r)) (flat_map option_to_list k.0.slots) (x, y) k.2 in
-    (k.0, k.1, ap (λ (e : ℕ × ℕ). e.0) h.2, subst (λ z. Among (Some z) k.0.slots) (ap (λ (e : ℕ × ℕ). e.1) h.2) (held-among k.0.slots h.0 h.1))
+    let h = Among-map_cases (λ (r : ℕ). (k.0.key, r)) (flat_map option_to_list (places_of k.0)) (x, y) k.2 in
+    (k.0, k.1, ap (λ (e : ℕ × ℕ). e.0) h.2, subst (λ z. Among (Some z) (places_of k.0)) (ap (λ (e : ℕ × ℕ). e.1) h.2) (held-among (places_of k.0) h.0 h.1))
 
 -- the start is reached, and what the slots of a reached object hold
 pub reached-root : (objects : List Object) (root : ℕ) → IsReachedOverSlots objects (root ∷ []) root
 reached-root objects root = derive-root (root ∷ []) (edges objects) [] root (inl refl)
 
-pub reached-slot : (objects : List Object) (root : ℕ) (o : Object) (q : ℕ) → Among o objects → Among (Some q) o.slots →
+pub reached-slot : (objects : List Object) (root : ℕ) (o : Object) (q : ℕ) → Among o objects → Among (Some q) (places_of o) →
     IsReachedOverSlots objects (root ∷ []) o.key → IsReachedOverSlots objects (root ∷ []) q
 reached-slot objects root o q m s r = derive-along (root ∷ []) (edges objects) [] o.key q (slot-edge objects o q m s) r
 
 -- induction over what is reached
 pub reached-within : (objects : List Object) (root : ℕ) (P : ℕ → Type 0) → P root →
-    ((o : Object) (q : ℕ) → Among o objects → Among (Some q) o.slots → P o.key → P q) →
+    ((o : Object) (q : ℕ) → Among o objects → Among (Some q) (places_of o) → P o.key → P q) →
     (k : ℕ) → IsReachedOverSlots objects (root ∷ []) k → P k
 reached-within objects root P first step = derived-within (root ∷ []) (edges objects) [] P
     (λ x m. ⊎_elim (λ e. subst P e first) (λ n. absurd n) m)

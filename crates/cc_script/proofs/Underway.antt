@@ -8,13 +8,13 @@ use Rattle.cc_lists.specs.Walks.{first_of}
 use Rattle.cc_lists.proofs.Members.{Among-append, Among-left, Among-right, Among-map_cases}
 use Rattle.cc_names.specs.declared.kind.Colour.{Colour}
 use Rattle.cc_names.specs.declared.kind.Colour.TheVariants.{White}
-use Rattle.cc_script.specs.Objects.{Object, AreWhole, object_at, is_there, colour_at, slots_at, slots_or_none, is_below, raised}
+use Rattle.cc_script.specs.Objects.{Object, AreWhole, object_at, is_there, colour_at, places_at, places_of, places_or_none, is_below, raised}
 use Rattle.cc_script.specs.ColourOrder.{HasColourOrder}
 use Rattle.cc_script.specs.Marking.{Marking, is_lower, raise_key, raise_each, to_do}
 use Rattle.cc_script.specs.Underway.{IsOrderedBut, IsMarked, with_first_looked_into}
 use Rattle.cc_script.proofs.Keys.{object_at-map, object_at-among, object_at-key, changed_at, changed_at-key, changed_at-same}
 use Rattle.cc_script.proofs.Colours.{raised-key, raised-same, raised-below, raised-enough, raised-keeps, not_below-self}
-use Rattle.cc_script.proofs.Raising.{raise_key-lower, raise_key-enough, raise_key-there, raise_each-spends, lower-some, raise_key-cases, one_raised-slots}
+use Rattle.cc_script.proofs.Raising.{raise_key-lower, raise_key-enough, raise_key-there, raise_each-spends, lower-some, raise_key-cases, one_raised-places}
 use Rattle.cc_script.proofs.Popping.{popped-does}
 
 -- an object after some were raised: not below what it was not below, and the same where it had the colour
@@ -81,7 +81,7 @@ module _ (to : Colour) (key : ℕ) where
           waits : (k : ℕ) → Among k (m.waiting ++ key ∷ []) → Among k (raise_key to key m).waiting
           waits k a = subst (λ (z : Marking). Among k z.waiting) (sym (raise_key-lower to key m e)) a
 
-          each : (o : Object) (q : ℕ) → is_below White o.colour ≡ true → Among (Some q) o.slots → (x : Object) → Among x m.objects → (b : Bool) → (x.key == key) ≡ b → one x ≡ o →
+          each : (o : Object) (q : ℕ) → is_below White o.colour ≡ true → Among (Some q) (places_of o) → (x : Object) → Among x m.objects → (b : Bool) → (x.key == key) ≡ b → one x ≡ o →
               (X o.key ⊎ Among o.key (raise_key to key m).waiting) ⊎ ((d : Object) × (object_at (raise_key to key m).objects q ≡ Some d) × (is_below d.colour o.colour ≡ false))
           each o q marked held x a true same f =
               let at : o.key ≡ key = ap (λ (z : Object). z.key) (sym f) ∙ (one-key x ∙ eqb-true x.key key same) in
@@ -147,32 +147,32 @@ started-marked to key m h = record {
 -- the first one looked into
 module _ (to : Colour) (m : Marking) (key : ℕ) (rest : List ℕ) (front : m.waiting ≡ key ∷ rest) where
   abbrev pub after : Marking
-  after = raise_each to (slots_at m.objects key) (record { objects = m.objects; waiting = rest })
+  after = raise_each to (places_at m.objects key) (record { objects = m.objects; waiting = rest })
 
   pub looked-marked : ((o : Object) → Among o after.objects → object_at after.objects o.key ≡ Some o) →
-      ((o : Object) (q : ℕ) → Among o m.objects → Among (Some q) o.slots → (d : Object) × (object_at m.objects q ≡ Some d)) →
+      ((o : Object) (q : ℕ) → Among o m.objects → Among (Some q) (places_of o) → (d : Object) × (object_at m.objects q ≡ Some d)) →
       ((k : ℕ) (d : Object) → object_at m.objects k ≡ Some d → Among d m.objects) → IsMarked to m → IsMarked to after
   looked-marked own there among h = record {
-    coloured = each-coloured to (slots_at m.objects key) (record { objects = m.objects; waiting = rest }) (λ k n. h.coloured k (subst (Among k) (sym front) (inr n)));
+    coloured = each-coloured to (places_at m.objects key) (record { objects = m.objects; waiting = rest }) (λ k n. h.coloured k (subst (Among k) (sym front) (inr n)));
     ordered = λ o q n marked held. ⊎_elim
         (λ s. ⊎_elim (λ same. inr (mine o q n held same (object_at m.objects key) refl (h.coloured key (subst (Among key) (sym front) (inl refl))))) (λ t. inl t) s)
         (λ t. inr t)
-        (each-ordered to (λ k. key ≡ k) (slots_at m.objects key) (record { objects = m.objects; waiting = rest })
+        (each-ordered to (λ k. key ≡ k) (places_at m.objects key) (record { objects = m.objects; waiting = rest })
         (λ o q n marked held. ⊎_elim (λ s. inl (subst (Among o.key) front s)) (λ t. inr t) (h.ordered o q n marked held)) o q n marked held);
   }
     where
-      mine : (o : Object) (q : ℕ) → Among o after.objects → Among (Some q) o.slots → key ≡ o.key → (x : Option Object) → object_at m.objects key ≡ x → option_map (λ (z : Object). z.colour) x ≡ Some to →
+      mine : (o : Object) (q : ℕ) → Among o after.objects → Among (Some q) (places_of o) → key ≡ o.key → (x : Option Object) → object_at m.objects key ≡ x → option_map (λ (z : Object). z.colour) x ≡ Some to →
           (d : Object) × (object_at after.objects q ≡ Some d) × (is_below d.colour o.colour ≡ false)
       mine o q n held same None at c = absurd (cc)
       mine o q n held same (Some x) at c =
           let colour : x.colour ≡ to = cc in
-          let s = each-at to (slots_at m.objects key) (record { objects = m.objects; waiting = rest }) key x at in
+          let s = each-at to (places_at m.objects key) (record { objects = m.objects; waiting = rest }) key x at in
           let kept : s.0 ≡ x = s.2.same (ap (λ z. is_below z to) colour ∙ not_below-self to) in
           let found : Some o ≡ Some s.0 = sym (own o n) ∙ (ap (object_at after.objects) (sym same) ∙ s.1) in
           let this : o ≡ x = (let e : o ≡ s.0 = cc in e) ∙ kept in
-          let inside : Among (Some q) x.slots = subst (λ (z : Object). Among (Some q) z.slots) this held in
+          let inside : Among (Some q) (places_of x) = subst (λ (z : Object). Among (Some q) (places_of z)) this held in
           let d = there x q (among key x at) inside in
-          let e = each-here to (slots_at m.objects key) (record { objects = m.objects; waiting = rest }) q d.0 (subst (Among (Some q)) (sym (ap slots_or_none at)) inside) d.1 in
+          let e = each-here to (places_at m.objects key) (record { objects = m.objects; waiting = rest }) q d.0 (subst (Among (Some q)) (sym (ap places_or_none at)) inside) d.1 in
           (e.0, e.1, subst (λ z. is_below e.0.colour z ≡ false) (sym (ap (λ (z : Object). z.colour) this ∙ colour)) e.2)
 
 -- at the end, and before the first
@@ -184,23 +184,26 @@ ordered-marked to m none h = record { coloured = λ k n. absurd (subst (Among k)
 
 -- What is there
 
-pub slots-there : (objects : List Object) (k q : ℕ) → AreWhole objects → Among (Some q) (slots_at objects k) → is_there objects q ≡ true
-slots-there objects k q whole n = go (object_at objects k) refl n
+pub there-some : (objects : List Object) (q : ℕ) → is_there objects q ≡ true → (d : Object) × (object_at objects q ≡ Some d)
+there-some objects q h = is_some-found (object_at objects q) h
+
+pub places-there : (objects : List Object) (k q : ℕ) → AreWhole objects → Among (Some q) (places_at objects k) → is_there objects q ≡ true
+places-there objects k q whole n = go (object_at objects k) refl n
   where
-    go : (o : Option Object) → object_at objects k ≡ o → Among (Some q) (slots_or_none o) → is_there objects q ≡ true
+    go : (o : Option Object) → object_at objects k ≡ o → Among (Some q) (places_or_none o) → is_there objects q ≡ true
     go None e m = absurd m
     go (Some o) e m = whole o q (object_at-among objects k o e) m
 
 -- which is the first
 pub first-looked : (to : Colour) (m : Marking) (key : ℕ) (rest : List ℕ) → m.waiting ≡ key ∷ rest →
-    with_first_looked_into to m ≡ raise_each to (slots_at m.objects key) (record { objects = m.objects; waiting = rest })
-first-looked to m key rest front = ap (λ (ks : List ℕ). elim ks [ [] ↦ m | k ∷ ks ↦ raise_each to (slots_at m.objects k) (record { objects = m.objects; waiting = ks }) ]) front
+    with_first_looked_into to m ≡ raise_each to (places_at m.objects key) (record { objects = m.objects; waiting = rest })
+first-looked to m key rest front = ap (λ (ks : List ℕ). elim ks [ [] ↦ m | k ∷ ks ↦ raise_each to (places_at m.objects k) (record { objects = m.objects; waiting = ks }) ]) front
 
 -- What is there stays, and slots hold what is there
 
 module _ (to : Colour) where
   pub whole-raised : (key : ℕ) (m : Marking) → AreWhole m.objects → AreWhole (raise_key to key m).objects
-  whole-raised key m h = raise_key-cases to key m (λ z. AreWhole z.objects) (λ e. whole-mapped (one to key) (one-key to key) (one_raised-slots to key) m.objects h) (λ e. h)
+  whole-raised key m h = raise_key-cases to key m (λ z. AreWhole z.objects) (λ e. whole-mapped (one to key) (one-key to key) (one_raised-places to key) m.objects h) (λ e. h)
 
   pub whole-each : (xs : List (Option ℕ)) (m : Marking) → AreWhole m.objects → AreWhole (raise_each to xs m).objects
   whole-each [] m h = h
@@ -213,21 +216,21 @@ module _ (to : Colour) where
   there-each (Some key ∷ xs) m q = there-each xs (raise_key to key m) q ∙ raise_key-there to key m q
 
   abbrev looked_by : Marking → List ℕ → Marking
-  looked_by m ks = elim ks [ [] ↦ m | k ∷ ks ↦ raise_each to (slots_at m.objects k) (record { objects = m.objects; waiting = ks }) ]
+  looked_by m ks = elim ks [ [] ↦ m | k ∷ ks ↦ raise_each to (places_at m.objects k) (record { objects = m.objects; waiting = ks }) ]
 
   pub whole-looked : (m : Marking) → AreWhole m.objects → AreWhole (with_first_looked_into to m).objects
   whole-looked m h = go m.waiting
     where
       go : (ks : List ℕ) → AreWhole (looked_by m ks).objects
       go [] = h
-      go (k ∷ ks) = whole-each (slots_at m.objects k) (record { objects = m.objects; waiting = ks }) h
+      go (k ∷ ks) = whole-each (places_at m.objects k) (record { objects = m.objects; waiting = ks }) h
 
   pub there-looked : (m : Marking) (q : ℕ) → is_there (with_first_looked_into to m).objects q ≡ is_there m.objects q
   there-looked m q = go m.waiting
     where
       go : (ks : List ℕ) → is_there (looked_by m ks).objects q ≡ is_there m.objects q
       go [] = refl
-      go (k ∷ ks) = there-each (slots_at m.objects k) (record { objects = m.objects; waiting = ks }) q
+      go (k ∷ ks) = there-each (places_at m.objects k) (record { objects = m.objects; waiting = ks }) q
 
   -- less is to be done then, and nothing is done where none waits
   pub looked-spends : (m : Marking) → is_some (first_of m.waiting) ≡ true → to_do to (with_first_looked_into to m) < to_do to m
@@ -235,7 +238,7 @@ module _ (to : Colour) where
     where
       go : (ks : List ℕ) → is_some (first_of ks) ≡ true → to_do to (looked_by m ks) < to_do to (record { objects = m.objects; waiting = ks })
       go [] some = absurd (true≢false (sym some))
-      go (k ∷ ks) some = omega (arith, popped-does to m.objects (k ∷ ks) ks k refl, raise_each-spends to (slots_at m.objects k) (record { objects = m.objects; waiting = ks }))
+      go (k ∷ ks) some = omega (arith, popped-does to m.objects (k ∷ ks) ks k refl, raise_each-spends to (places_at m.objects k) (record { objects = m.objects; waiting = ks }))
 
   pub looked-none : (m : Marking) → m.waiting ≡ [] → with_first_looked_into to m ≡ m
   looked-none m none = ap (looked_by m) none

@@ -11,15 +11,16 @@ use Rattle.cc_lists.proofs.ListWrites.{map-agree, changed_where-either}
 use Rattle.cc_lists.proofs.Numbers.{number-exact}
 use Rattle.cc_names.specs.declared.kind.Colour.{Colour}
 use Rattle.cc_names.specs.declared.kind.Colour.TheVariants.{White}
-use Rattle.cc_script.specs.Objects.{Object, object_at, slots_at, slots_or_none, change_object, is_below, raised, raised_among}
+use Rattle.cc_script.specs.Objects.{Object, object_at, places_at, places_of, places_or_none, change_object, is_below, raised, raised_among}
 use Rattle.cc_script.specs.Walking.{reach_rules, keys_reached, IsReachedOverSlots}
 use Rattle.cc_script.specs.ColourOrder.{HasColourOrder}
 use Rattle.cc_script.specs.Marking.{Marking, is_lower, raise_key, raise_each}
 use Rattle.cc_script.specs.Underway.{with_first_looked_into}
 use Rattle.cc_script.proofs.Keys.{object_at-among, object_at-key, object_at-map, changed_at, changed_at-same}
-use Rattle.cc_script.proofs.Colours.{not_below-trans, not_below-cases, not_below-white, raised-key, raised-slots, raised-again, raised-same}
+use Rattle.cc_script.proofs.Colours.{not_below-trans, not_below-cases, not_below-white, raised-key, raised-slots, raised-delegate, raised-again, raised-same}
+use Rattle.cc_script.proofs.PlacesOf.{places-same}
 use Rattle.cc_script.proofs.Reaching.{reached-root, reached-slot, reached-within}
-use Rattle.cc_script.proofs.Raising.{slots_at-kept, raise_key-cases}
+use Rattle.cc_script.proofs.Raising.{places_at-kept, raise_key-cases}
 
 -- Objects raised at some keys
 
@@ -31,6 +32,12 @@ risen-key keys to o = changed_where-either (λ z. z.key ≡ o.key) (λ z. has �
 
 pub risen-slots : (keys : List ℕ) (to : Colour) (o : Object) → (risen keys to o).slots ≡ o.slots
 risen-slots keys to o = changed_where-either (λ z. z.slots ≡ o.slots) (λ z. has ◌==◌ keys z.key) (raised to) o (λ e. raised-slots to o) refl
+
+pub risen-delegate : (keys : List ℕ) (to : Colour) (o : Object) → (risen keys to o).delegate ≡ o.delegate
+risen-delegate keys to o = changed_where-either (λ z. z.delegate ≡ o.delegate) (λ z. has ◌==◌ keys z.key) (raised to) o (λ e. raised-delegate to o) refl
+
+pub risen-places : (keys : List ℕ) (to : Colour) (o : Object) → places_of (risen keys to o) ≡ places_of o
+risen-places keys to o = places-same (risen keys to o) o (risen-slots keys to o) (risen-delegate keys to o)
 
 risen-in : (keys : List ℕ) (to : Colour) (o : Object) → has ◌==◌ keys o.key ≡ true → risen keys to o ≡ raised to o
 risen-in keys to o e = rw e refl
@@ -58,10 +65,10 @@ raised-more keys to k objects = map-map (changed_at k (raised to)) (risen keys t
         (eqb_tells k o.key)
 
 -- what the slots at a key hold, an object there holds
-slot-object : (objects : List Object) (k q : ℕ) → Among (Some q) (slots_at objects k) → (o : Object) × (object_at objects k ≡ Some o) × Among (Some q) o.slots
+slot-object : (objects : List Object) (k q : ℕ) → Among (Some q) (places_at objects k) → (o : Object) × (object_at objects k ≡ Some o) × Among (Some q) (places_of o)
 slot-object objects k q m = go (object_at objects k) refl m
   where
-    go : (a : Option Object) → object_at objects k ≡ a → Among (Some q) (slots_or_none a) → (o : Object) × (object_at objects k ≡ Some o) × Among (Some q) o.slots
+    go : (a : Option Object) → object_at objects k ≡ a → Among (Some q) (places_or_none a) → (o : Object) × (object_at objects k ≡ Some o) × Among (Some q) (places_of o)
     go None e n = absurd n
     go (Some o) e n = (o, e, n)
 
@@ -95,7 +102,7 @@ module _ (before : List Object) (root : ℕ) (to : Colour) where
     pub objects : m.objects ≡ raised_among keys to before
     pub reached : (k : ℕ) → Among k keys → IsReachedOverSlots before (root ∷ []) k
     pub waits : (k : ℕ) → Among k m.waiting → Among k keys
-    pub followed : (k q : ℕ) → Among k keys → Among (Some q) (slots_at before k) → (Among k hand ⊎ Among k m.waiting) ⊎ IsMet keys q
+    pub followed : (k q : ℕ) → Among k keys → Among (Some q) (places_at before k) → (Among k hand ⊎ Among k m.waiting) ⊎ IsMet keys q
 
   pub marking-start : IsMarking [] (record { objects = before; waiting = [] })
   marking-start = record {
@@ -107,8 +114,8 @@ module _ (before : List Object) (root : ℕ) (to : Colour) where
   }
 
   -- what stands in the list is as it was there
-  pub marking-slots : (hand : List ℕ) (m : Marking) → IsMarking hand m → (q : ℕ) → slots_at m.objects q ≡ slots_at before q
-  marking-slots hand m h q = ap (λ os. slots_at os q) h.objects ∙ slots_at-kept (risen h.keys to) (risen-key h.keys to) (risen-slots h.keys to) before q
+  pub marking-slots : (hand : List ℕ) (m : Marking) → IsMarking hand m → (q : ℕ) → places_at m.objects q ≡ places_at before q
+  marking-slots hand m h q = ap (λ os. places_at os q) h.objects ∙ places_at-kept (risen h.keys to) (risen-key h.keys to) (risen-places h.keys to) before q
 
   -- One object raised
 
@@ -124,7 +131,7 @@ module _ (before : List Object) (root : ℕ) (to : Colour) where
     more = λ k n. n;
   })
     where
-      mine : (j p : ℕ) → Among j (q ∷ h.keys) → Among (Some p) (slots_at before j) → (Among j hand ⊎ Among j (m.waiting ++ q ∷ [])) ⊎ IsMet (q ∷ h.keys) p
+      mine : (j p : ℕ) → Among j (q ∷ h.keys) → Among (Some p) (places_at before j) → (Among j hand ⊎ Among j (m.waiting ++ q ∷ [])) ⊎ IsMet (q ∷ h.keys) p
       mine j p w s = ⊎_elim
           (λ e. inl (inr (Among-right j m.waiting (q ∷ []) (inl e))))
           (λ t. ⊎_elim
@@ -145,7 +152,7 @@ module _ (before : List Object) (root : ℕ) (to : Colour) where
         more = λ k n. inr n;
       }
 
-  -- and what each of some slots holds  -- and what each of some slots holds
+  -- and what each of some slots holds
   pub record RaisesEach (hand keys : List ℕ) (xs : List (Option ℕ)) (new : Marking) : Type 0 where
     pub after : IsMarking hand new
     pub met : (q : ℕ) → Among (Some q) xs → IsMet after.keys q
@@ -204,17 +211,17 @@ module _ (before : List Object) (root : ℕ) (to : Colour) where
     walk-reached : IsReachedOverSlots before (root ∷ []) key
     walk-reached = w.marking.reached key stood
 
-    walk-slots : slots_at m.objects key ≡ slots_at before key
+    walk-slots : places_at m.objects key ≡ places_at before key
     walk-slots = marking-slots [] m w.marking key
 
-    walk-held : (q : ℕ) → Among (Some q) (slots_at m.objects key) → IsReachedOverSlots before (root ∷ []) q
+    walk-held : (q : ℕ) → Among (Some q) (places_at m.objects key) → IsReachedOverSlots before (root ∷ []) q
     walk-held q n =
         let f = slot-object before key q (subst (λ xs. Among (Some q) xs) walk-slots n) in
         reached-slot before root f.0 q (object_at-among before key f.0 f.1) f.2 (subst (IsReachedOverSlots before (root ∷ [])) (sym (object_at-key before key f.0 f.1)) walk-reached)
 
-    walk-next : IsWalk (raise_each to (slots_at m.objects key) (record { objects = m.objects; waiting = ks }))
+    walk-next : IsWalk (raise_each to (places_at m.objects key) (record { objects = m.objects; waiting = ks }))
     walk-next =
-        let s = raise_each-marks (key ∷ []) (slots_at m.objects key) rest taken walk-held in
+        let s = raise_each-marks (key ∷ []) (places_at m.objects key) rest taken walk-held in
         record {
           marking = record {
             keys = s.after.keys;
@@ -224,7 +231,7 @@ module _ (before : List Object) (root : ℕ) (to : Colour) where
             followed = λ k q n t. ⊎_elim
                 (λ x. ⊎_elim
                 (λ y. ⊎_elim
-                (λ e. inr (s.met q (subst (λ xs. Among (Some q) xs) (sym walk-slots) (subst (λ j. Among (Some q) (slots_at before j)) (sym e) t))))
+                (λ e. inr (s.met q (subst (λ xs. Among (Some q) xs) (sym walk-slots) (subst (λ j. Among (Some q) (places_at before j)) (sym e) t))))
                 (λ z. absurd z) y)
                 (λ y. inl (inr y)) x)
                 (λ x. inr x)
@@ -236,7 +243,7 @@ module _ (before : List Object) (root : ℕ) (to : Colour) where
   pub walk-looked : (m : Marking) → IsWalk m → IsWalk (with_first_looked_into to m)
   walk-looked m w = go m.waiting refl
     where
-      go : (ks : List ℕ) → m.waiting ≡ ks → IsWalk (elim ks [ [] ↦ m | k ∷ ks ↦ raise_each to (slots_at m.objects k) (record { objects = m.objects; waiting = ks }) ])
+      go : (ks : List ℕ) → m.waiting ≡ ks → IsWalk (elim ks [ [] ↦ m | k ∷ ks ↦ raise_each to (places_at m.objects k) (record { objects = m.objects; waiting = ks }) ])
       go [] e = w
       go (k ∷ ks) e = walk-next m w k ks e
 
@@ -246,7 +253,7 @@ module _ (before : List Object) (root : ℕ) (to : Colour) where
     keys = w.marking.keys
 
     -- an object that has the colour holds only such
-    enough : (o : Object) (q : ℕ) → Among o before → Among (Some q) o.slots → is_below o.colour to ≡ false → is_lower to (object_at before q) ≡ false
+    enough : (o : Object) (q : ℕ) → Among o before → Among (Some q) (places_of o) → is_below o.colour to ≡ false → is_lower to (object_at before q) ≡ false
     enough o q n s e = ⊎_elim
         (λ white. go white (object_at before q))
         (λ above. let f = ordered.held o q n above s in ap (is_lower to) f.1 ∙ not_below-trans f.0.colour o.colour to f.2 e)
@@ -256,12 +263,12 @@ module _ (before : List Object) (root : ℕ) (to : Colour) where
         go white None = refl
         go white (Some d) = ap (is_below d.colour) white ∙ not_below-white d.colour
 
-    step : (o : Object) (q : ℕ) → Among o before → Among (Some q) o.slots → IsMet keys o.key → IsMet keys q
+    step : (o : Object) (q : ℕ) → Among o before → Among (Some q) (places_of o) → IsMet keys o.key → IsMet keys q
     step o q n s t = ⊎_elim
         (λ there. ⊎_elim
         (λ x. ⊎_elim (λ y. absurd y) (λ y. absurd (subst (Among o.key) emptied y)) x)
         (λ x. x)
-        (w.marking.followed o.key q there (subst (λ a. Among (Some q) (slots_or_none a)) (sym (own o n)) s)))
+        (w.marking.followed o.key q there (subst (λ a. Among (Some q) (places_or_none a)) (sym (own o n)) s)))
         (λ e. inr (enough o q n s (ap (is_lower to) (sym (own o n)) ∙ e))) t
 
     met : (k : ℕ) → IsReachedOverSlots before (root ∷ []) k → IsMet keys k

@@ -5,7 +5,7 @@ use Rattle.std.proofs.lemmas.Simd.{map-map}
 use Rattle.cc_lists.proofs.ListWrites.{map-agree}
 use Rattle.cc_names.specs.declared.kind.Colour.TheVariants.{White}
 use Rattle.cc_names.specs.Sizes.{most_slots}
-use Rattle.cc_script.specs.Objects.{FitsKind, with_colour, whitened}
+use Rattle.cc_script.specs.Objects.{FitsKind, FitsDelegate, with_colour, whitened}
 use Rattle.cc_script.specs.Lists.{Placed, Lists, cell_at, painted, placed_or_nothing, with_key, shown_at, objects_of, IsPlaced}
 
 -- the objects by key, all white
@@ -39,4 +39,5 @@ module _ (l : Lists) (cells : List (Option Placed)) (e : cells ≡ all_white l.c
     once = p.once;
     small = λ key c f. let w = was key c f in subst (λ (d : Placed). length d.slots ≤ most_slots) (sym w.1.1) (p.small key w.0 w.1.0);
     reflected = λ key c f. let w = was key c f in subst (λ (d : Placed). FitsKind d.kind d.native) (sym w.1.1) (p.reflected key w.0 w.1.0);
+    delegated = λ key c f. let w = was key c f in subst (λ (d : Placed). FitsDelegate d.kind d.delegate) (sym w.1.1) (p.delegated key w.0 w.1.0);
   }

@@ -5,10 +5,11 @@ use Rattle.cc_lists.specs.Members.{Among}
 use Rattle.cc_lists.proofs.Members.{Among-append, Among-map_cases}
 use Rattle.cc_names.specs.declared.kind.Colour.{Colour}
 use Rattle.cc_names.specs.declared.kind.Colour.TheVariants.{White}
-use Rattle.cc_script.specs.Objects.{Object, object_at, is_there, with_colour, whitened, raised_among, AreWhole}
+use Rattle.cc_script.specs.Objects.{Object, object_at, is_there, with_colour, places_of, whitened, raised_among, AreWhole}
 use Rattle.cc_script.proofs.InOrder.{object_at-left, no-slots}
+use Rattle.cc_script.proofs.PlacesOf.{place-cases}
 use Rattle.cc_script.proofs.Raising.{is_there-kept}
-use Rattle.cc_script.proofs.Walks.{risen, risen-key, risen-slots}
+use Rattle.cc_script.proofs.Walks.{risen, risen-key, risen-places}
 
 -- what is there is found
 pub there-object : (objects : List Object) (key : ℕ) → is_there objects key ≡ true → (o : Object) × (object_at objects key ≡ Some o)
@@ -19,29 +20,34 @@ there-object objects key live = is_some-found (object_at objects key) live
 pub there-left : (objects others : List Object) (q : ℕ) → is_there objects q ≡ true → is_there (objects ++ others) q ≡ true
 there-left objects others q live = let f = there-object objects q live in ap is_some (object_at-left objects others q f.0 f.1)
 
-pub whole-made : (objects : List Object) (o : Object) (n : ℕ) → o.slots ≡ replicate n None → AreWhole objects → AreWhole (objects ++ o ∷ [])
-whole-made objects o n empty whole z q m s = ⊎_elim
+pub whole-made : (objects : List Object) (o : Object) (n : ℕ) → o.slots ≡ replicate n None → ((q : ℕ) → o.delegate ≡ Some q → is_there objects q ≡ true) → AreWhole objects → AreWhole (objects ++ o ∷ [])
+whole-made objects o n empty delegate whole z q m s = ⊎_elim
     (λ t. there-left objects (o ∷ []) q (whole z q t s))
-    (λ t. ⊎_elim (λ e. absurd (no-slots n q (subst (λ xs. Among (Some q) xs) (ap (λ (y : Object). y.slots) (sym e) ∙ empty) s))) (λ x. absurd x) t)
+    (λ t. ⊎_elim
+    (λ e. ⊎_elim
+    (λ y. absurd (no-slots n q (subst (λ xs. Among (Some q) xs) empty y)))
+    (λ y. there-left objects (o ∷ []) q (delegate q y))
+    (place-cases o q (subst (λ (y : Object). Among (Some q) (places_of y)) (sym e) s)))
+    (λ x. absurd x) t)
     (Among-append z objects (o ∷ []) m)
 
 -- Colours changed
 
-module _ (g : Object → Object) (keeps_key : (o : Object) → (g o).key ≡ o.key) (keeps_slots : (o : Object) → (g o).slots ≡ o.slots) (objects : List Object) where
+module _ (g : Object → Object) (keeps_key : (o : Object) → (g o).key ≡ o.key) (keeps_places : (o : Object) → places_of (g o) ≡ places_of o) (objects : List Object) where
   pub whole-mapped : AreWhole objects → AreWhole (map g objects)
   whole-mapped whole o q m s =
       let k = Among-map_cases g objects o m in
-      is_there-kept g keeps_key keeps_slots objects q
-      ∙ whole k.0 q k.1 (subst (λ xs. Among (Some q) xs) (ap (λ (z : Object). z.slots) (sym k.2) ∙ keeps_slots k.0) s)
+      is_there-kept g keeps_key objects q
+      ∙ whole k.0 q k.1 (subst (λ xs. Among (Some q) xs) (ap places_of (sym k.2) ∙ keeps_places k.0) s)
 
 pub there-whitened : (objects : List Object) (q : ℕ) → is_there (whitened objects) q ≡ is_there objects q
-there-whitened objects q = is_there-kept (with_colour White) (λ o. refl) (λ o. refl) objects q
+there-whitened objects q = is_there-kept (with_colour White) (λ o. refl) objects q
 
 pub whole-whitened : (objects : List Object) → AreWhole objects → AreWhole (whitened objects)
 whole-whitened objects = whole-mapped (with_colour White) (λ o. refl) (λ o. refl) objects
 
 pub there-raised : (keys : List ℕ) (to : Colour) (objects : List Object) (q : ℕ) → is_there (raised_among keys to objects) q ≡ is_there objects q
-there-raised keys to objects q = is_there-kept (risen keys to) (risen-key keys to) (risen-slots keys to) objects q
+there-raised keys to objects q = is_there-kept (risen keys to) (risen-key keys to) objects q
 
 pub whole-raised : (keys : List ℕ) (to : Colour) (objects : List Object) → AreWhole objects → AreWhole (raised_among keys to objects)
-whole-raised keys to objects = whole-mapped (risen keys to) (risen-key keys to) (risen-slots keys to) objects
+whole-raised keys to objects = whole-mapped (risen keys to) (risen-key keys to) (risen-places keys to) objects

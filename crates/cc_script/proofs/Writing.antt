@@ -15,7 +15,7 @@ module _ (l : Lists) (p : IsPlaced l) (key : ℕ) (c : Placed) (at : cell_at l.c
   lists = ap (λ cs. record { cells = cs; order = l.order }) (sym (e ∙ ap (λ o. set l.cells key (option_map (written i x) o)) at))
 
   pub IsPlaced-written : IsPlaced (record { cells = cells; order = l.order })
-  IsPlaced-written = subst IsPlaced lists (IsPlaced-changed l p key c (written i x c) at (subst (λ n. n ≤ most_slots) (sym (length-set c.slots i x)) (p.small key c at)) (p.reflected key c at))
+  IsPlaced-written = subst IsPlaced lists (IsPlaced-changed l p key c (written i x c) at (subst (λ n. n ≤ most_slots) (sym (length-set c.slots i x)) (p.small key c at)) (p.reflected key c at) (p.delegated key c at))
 
   pub objects-written : objects_of (record { cells = cells; order = l.order }) ≡ change_object (objects_of l) key (with_slot i x)
   objects-written = ap objects_of (sym lists) ∙ objects-changed l p key c (written i x c) at (with_slot i x) refl

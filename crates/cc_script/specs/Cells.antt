@@ -6,6 +6,7 @@ use Rattle.cc_names.specs.declared.name.Name.{Name}
 use Rattle.cc_names.specs.declared.kind.Kind.{Kind}
 use Rattle.cc_names.specs.declared.kind.Colour.{Colour}
 use Rattle.cc_names.specs.declared.kind.Colour.TheVariants.{White, Gray}
+use Rattle.cc_names.specs.Places.{where_set}
 use Rattle.cc_chain.specs.declared.link.Link.{Link}
 use Rattle.cc_chain.specs.Links.{Links}
 use Rattle.cc_chain.specs.Stores.{slot_at}
@@ -22,6 +23,7 @@ pub record Bare : Type 0 where
   pub name : Name
   pub kind : Kind
   pub native : Option ℕ
+  pub delegate : Option ℕ
   pub slots : List (Option ℕ)
   pub order : Option Link
   pub waiting : Option Link
@@ -31,20 +33,24 @@ pub record Label : Type 0 where
   pub name : Name
   pub kind : Kind
   pub native : Option ℕ
+  pub delegate : Option ℕ
   pub order : Option Link
 
 pub record Content : Type 0 where
   pub slots : List (Option ℕ)
+  pub is_proxy : Bool
   pub waiting : Option Link
 
 abbrev pub nothing : Content
-nothing = record { slots = []; waiting = None }
+nothing = record { slots = []; is_proxy = false; waiting = None }
 
+-- the delegate stands with the label, and counts where the content says so
 abbrev pub filled : Content → Label → Bare
 filled content label = record {
   name = label.name;
   kind = label.kind;
   native = label.native;
+  delegate = where_set content.is_proxy label.delegate;
   slots = content.slots;
   order = label.order;
   waiting = content.waiting;
@@ -52,7 +58,7 @@ filled content label = record {
 
 abbrev pub in_colour : Colour → Bare → Linked
 in_colour colour b = record {
-  placed = record { name = b.name; kind = b.kind; native = b.native; slots = b.slots; colour = colour };
+  placed = record { name = b.name; kind = b.kind; native = b.native; delegate = b.delegate; slots = b.slots; colour = colour };
   order = b.order;
   waiting = b.waiting;
 }

@@ -2,7 +2,7 @@
 use Rattle.std.specs.Prelude.{◌≡◌, true, false, ℕ, List, Some}
 use Rattle.cc_lists.specs.Members.{Among}
 use Rattle.cc_names.specs.declared.kind.Colour.TheVariants.{White}
-use Rattle.cc_script.specs.Objects.{Object, object_at, is_below, places_of}
+use Rattle.cc_script.specs.Objects.{Object, object_at, places_of, is_below}
 
 -- no object that isn't white holds one that is not there or has a lower colour
 pub record HasColourOrder (objects : List Object) : Type 0 where

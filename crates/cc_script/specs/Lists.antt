@@ -8,13 +8,14 @@ use Rattle.cc_names.specs.declared.kind.Colour.{Colour}
 use Rattle.cc_names.specs.declared.kind.Colour.TheVariants.{White}
 use Rattle.cc_names.specs.Names.{object}
 use Rattle.cc_names.specs.Sizes.{most_slots}
-use Rattle.cc_script.specs.Objects.{Object, FitsKind}
+use Rattle.cc_script.specs.Objects.{Object, FitsKind, FitsDelegate}
 
--- an object as it stands at its key: what its slots hold by keys
+-- an object as it stands at its key: what its slots hold, and its delegate, by keys
 pub record Placed : Type 0 where
   pub name : Name
   pub kind : Kind
   pub native : Option ℕ
+  pub delegate : Option ℕ
   pub slots : List (Option ℕ)
   pub colour : Colour
 
@@ -37,7 +38,7 @@ written i x c = record c { slots = slice_set c.slots i x }
 
 -- what is read where there is no object
 abbrev pub nothing_placed : Placed
-nothing_placed = record { name = object 0; kind = Plain; native = None; slots = []; colour = White }
+nothing_placed = record { name = object 0; kind = Plain; native = None; delegate = None; slots = []; colour = White }
 
 abbrev pub placed_or_nothing : Option Placed → Placed
 placed_or_nothing None = nothing_placed
@@ -49,7 +50,7 @@ slots_placed o = (placed_or_nothing o).slots
 
 -- an object with its key
 abbrev pub with_key : ℕ → Placed → Object
-with_key key c = record { key = key; name = c.name; kind = c.kind; native = c.native; slots = c.slots; colour = c.colour }
+with_key key c = record { key = key; name = c.name; kind = c.kind; native = c.native; delegate = c.delegate; slots = c.slots; colour = c.colour }
 
 abbrev pub shown_at : List (Option Placed) → ℕ → Object
 shown_at cells key = with_key key (placed_or_nothing (cell_at cells key))
@@ -58,14 +59,15 @@ shown_at cells key = with_key key (placed_or_nothing (cell_at cells key))
 abbrev pub objects_of : Lists → List Object
 objects_of l = map (shown_at l.cells) l.order
 
--- THE LISTS FIT TOGETHER: the order has the keys of the objects, each once, no object has more slots than are allowed, and exactly
--- reflectors have a native
+-- THE LISTS FIT TOGETHER: the order has the keys of the objects, each once, no object has more slots than are allowed, exactly
+-- reflectors have a native, and exactly proxies have a delegate
 pub record IsPlaced (l : Lists) : Type 0 where
   pub in_order : (key : ℕ) → Among key l.order → (c : Placed) × (cell_at l.cells key ≡ Some c)
   pub ordered : (key : ℕ) (c : Placed) → cell_at l.cells key ≡ Some c → Among key l.order
   pub once : (key : ℕ) → count_by (λ k. k == key) l.order ≤ 1
   pub small : (key : ℕ) (c : Placed) → cell_at l.cells key ≡ Some c → length c.slots ≤ most_slots
   pub reflected : (key : ℕ) (c : Placed) → cell_at l.cells key ≡ Some c → FitsKind c.kind c.native
+  pub delegated : (key : ℕ) (c : Placed) → cell_at l.cells key ≡ Some c → FitsDelegate c.kind c.delegate
 
 -- the keys but for one
 abbrev pub without_key : ℕ → List ℕ → List ℕ

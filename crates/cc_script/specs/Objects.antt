@@ -1,21 +1,23 @@
 -- THE SCRIPT OBJECTS AS A LIST, in order of making; each stands at a key, and its slots hold keys. A reflector has the
--- key of its native, which stands in a heap of its own.
+-- key of its native, which stands in a heap of its own, and a proxy has the key of its delegate, a script object.
 use Rattle.std.specs.Prelude.{◌≡◌, ◌↔◌, IsSome, IsTrue, ℕ, ◌==◌, Bool, true, false, not, List, [], map, filter, find, replicate, Option, Some, None, is_some, option_map, option_and_then, slice_set, if◌then◌else◌}
 use Rattle.cc_names.specs.Places.{script_places}
 use Rattle.cc_lists.specs.Members.{Among, has}
 use Rattle.cc_lists.specs.Walks as walks
 use Rattle.cc_names.specs.declared.name.Name.{Name}
 use Rattle.cc_names.specs.declared.kind.Kind.{Kind}
-use Rattle.cc_names.specs.declared.kind.Kind.TheVariants.{Plain, Reflector, Map}
+use Rattle.cc_names.specs.declared.kind.Kind.TheVariants.{Plain, Reflector, Map, Proxy}
 use Rattle.cc_names.specs.declared.kind.Colour.{Colour}
 use Rattle.cc_names.specs.declared.kind.Colour.TheVariants.{White, Gray, Black}
 use Rattle.cc_names.specs.Names.{object, reflector}
+use Rattle.cc_names.specs.Places.{script_places}
 
 pub record Object : Type 0 where
   pub key : ℕ
   pub name : Name
   pub kind : Kind
   pub native : Option ℕ
+  pub delegate : Option ℕ
   pub slots : List (Option ℕ)
   pub colour : Colour
 
@@ -23,17 +25,25 @@ pub record Object : Type 0 where
 abbrev pub FitsKind : Kind → Option ℕ → Type 0
 FitsKind kind native = IsSome native ↔ (kind ≡ Reflector)
 
+-- EXACTLY A PROXY has a delegate
+abbrev pub FitsDelegate : Kind → Option ℕ → Type 0
+FitsDelegate kind delegate = IsSome delegate ↔ (kind ≡ Proxy)
+
 -- an object as it is made: black, so many slots empty
-abbrev pub new_object : ℕ → Name → Kind → Option ℕ → ℕ → Object
-new_object key name kind native slots = record { key = key; name = name; kind = kind; native = native; slots = replicate slots None; colour = Black }
+abbrev pub new_object : ℕ → Name → Kind → Option ℕ → Option ℕ → ℕ → Object
+new_object key name kind native delegate slots = record { key = key; name = name; kind = kind; native = native; delegate = delegate; slots = replicate slots None; colour = Black }
 
 -- a plain object with its number
 abbrev pub plain_object : ℕ → ℕ → ℕ → Object
-plain_object key number slots = new_object key (object number) Plain None slots
+plain_object key number slots = new_object key (object number) Plain None None slots
 
 -- a weak map with its number; it has no slots
 abbrev pub map_object : ℕ → ℕ → Object
-map_object key number = new_object key (object number) Map None 0
+map_object key number = new_object key (object number) Map None None 0
+
+-- a proxy with its number and the key of its delegate; it has no slots
+abbrev pub proxy_object : ℕ → ℕ → ℕ → Object
+proxy_object key number delegate = new_object key (object number) Proxy None (Some delegate) 0
 
 -- how many slots a reflector has
 abbrev pub slots_of_reflector : ℕ
@@ -41,7 +51,7 @@ slots_of_reflector = 4
 
 -- the reflector of the native of a number, which stands at a key of the counted heap
 abbrev pub reflector_object : ℕ → ℕ → ℕ → Object
-reflector_object key native number = new_object key (reflector number) Reflector (Some native) slots_of_reflector
+reflector_object key native number = new_object key (reflector number) Reflector (Some native) None slots_of_reflector
 
 -- Reading
 
@@ -72,6 +82,22 @@ slots_or_none (Some o) = o.slots
 abbrev pub slots_at : List Object → ℕ → List (Option ℕ)
 slots_at objects key = slots_or_none (object_at objects key)
 
+-- the key of the delegate of a proxy
+abbrev pub delegate_at : List Object → ℕ → Option ℕ
+delegate_at objects key = option_and_then (λ o. o.delegate) (object_at objects key)
+
+-- THE PLACES of an object, over which walks go: its slots, and one for its delegate
+abbrev pub places_of : Object → List (Option ℕ)
+places_of o = script_places o.slots o.delegate
+
+abbrev pub places_or_none : Option Object → List (Option ℕ)
+places_or_none None = []
+places_or_none (Some o) = places_of o
+
+-- those of the object at a key; none where there is no object
+abbrev pub places_at : List Object → ℕ → List (Option ℕ)
+places_at objects key = places_or_none (object_at objects key)
+
 -- the key of the object that was made first
 abbrev pub first_key : List Object → Option ℕ
 first_key objects = walks.first_key (λ o. o.key) objects
@@ -80,15 +106,7 @@ first_key objects = walks.first_key (λ o. o.key) objects
 abbrev pub key_after : List Object → ℕ → Option ℕ
 key_after objects key = walks.next_key (λ o. o.key) objects key
 
--- the places of an object over which marking goes
-abbrev pub places_of : Object → List (Option ℕ)
-places_of o = script_places o.slots
-
--- so by its key
-abbrev pub places_at : List Object → ℕ → List (Option ℕ)
-places_at objects key = script_places (slots_at objects key)
-
--- each place holds an object that is there
+-- what each place has is an object that is there: what a slot holds, and a delegate
 abbrev pub AreWhole : List Object → Type 0
 AreWhole objects = (o : Object) (q : ℕ) → Among o objects → Among (Some q) (places_of o) → IsTrue (is_there objects q)
 

@@ -3,7 +3,7 @@ use Rattle.std.specs.Prelude.{◌≡◌, ◌⊎◌, true, false, ℕ, List, [], 
 use Rattle.cc_lists.specs.Members.{Among}
 use Rattle.cc_names.specs.declared.kind.Colour.{Colour}
 use Rattle.cc_names.specs.declared.kind.Colour.TheVariants.{White}
-use Rattle.cc_script.specs.Objects.{Object, object_at, colour_at, places_of, places_at, is_below}
+use Rattle.cc_script.specs.Objects.{Object, object_at, colour_at, places_at, places_of, is_below}
 use Rattle.cc_script.specs.Marking.{Marking, raise_key, raise_each}
 
 -- the objects, the marking list by keys, and the colour
@@ -22,7 +22,7 @@ with_marks u m = record { objects = m.objects; waiting = m.waiting; to = u.to }
 abbrev pub started : ℕ → Underway → Underway
 started key u = with_marks u (raise_key u.to key (marks_of u))
 
--- the first leaves the list, and what its places hold is started, in their order
+-- the first leaves the list, and what its slots hold is started, in rising order, and its delegate then
 abbrev pub with_first_looked_into : Colour → Marking → Marking
 with_first_looked_into to m = elim m.waiting [
   | [] ↦ m

@@ -1,4 +1,4 @@
--- WHAT AN OBJECT REACHES OVER SLOTS, by keys: a set by rules, and the same as a list.
+-- WHAT AN OBJECT REACHES OVER SLOTS, and from proxies to their delegates, by keys: a set by rules, and the same as a list.
 use Rattle.std.specs.Prelude.{ℕ, ◌==◌, List, [], map, flat_map, option_to_list}
 use Rattle.cc_lists.specs.Least.{Rule, Least, system, closure}
 use Rattle.cc_script.specs.Objects.{Object, places_of}
@@ -10,7 +10,7 @@ slot_edges o = map (λ q. (o.key, q)) (flat_map option_to_list (places_of o))
 abbrev pub edges : List Object → List (ℕ × ℕ)
 edges objects = flat_map slot_edges objects
 
--- from these keys over slots
+-- from these keys over these places
 abbrev pub reach_rules : List Object → List ℕ → List (Rule ℕ)
 reach_rules objects keys = system keys (edges objects) []
 

@@ -1,14 +1,16 @@
 //! What an object is.
 ghost use Rattle.std.specs.Prelude.{◌≡◌};
-ghost use Rattle.cc_script.specs.Beings.{kind_of, name_of, native_of};
+ghost use Rattle.cc_script.specs.Beings.{delegate_of, kind_of, name_of, native_of};
 
-use cc_names::{Kind, NKey, Name, NativeNo, ScriptNo};
+use cc_names::{Kind, NKey, Name, NativeNo, SKey, ScriptNo};
 
-/// What an object is, with its number, and where the native of a reflector stands: its kind, name and native in 12 bytes.
+/// What an object is, with its number, and where the native of a reflector or the delegate of a proxy stands: its kind, its
+/// name and these in 12 bytes.
 #[derive(Clone, Copy, Drop)]
 pub(crate) enum Being {
     Plain(ScriptNo),
     Map(ScriptNo),
+    Proxy(ScriptNo, SKey),
     Reflector(NativeNo, NKey),
 }
 
@@ -18,7 +20,7 @@ impl Being {
         ensures { result ≡ name_of self.now }
     {
         match *self {
-            Being::Plain(no) | Being::Map(no) => Name::Script(no),
+            Being::Plain(no) | Being::Map(no) | Being::Proxy(no, _) => Name::Script(no),
             Being::Reflector(no, _) => Name::Reflector(no),
         }
     }
@@ -30,6 +32,7 @@ impl Being {
         match *self {
             Being::Plain(_) => Kind::Plain,
             Being::Map(_) => Kind::Map,
+            Being::Proxy(_, _) => Kind::Proxy,
             Being::Reflector(_, _) => Kind::Reflector,
         }
     }
@@ -39,8 +42,18 @@ impl Being {
         ensures { result ≡ native_of self.now }
     {
         match *self {
-            Being::Plain(_) | Being::Map(_) => None,
+            Being::Plain(_) | Being::Map(_) | Being::Proxy(_, _) => None,
             Being::Reflector(_, native) => Some(native),
+        }
+    }
+
+    /// Its delegate, of a proxy.
+    pub(crate) fn delegate(&self) -> Option<SKey>
+        ensures { result ≡ delegate_of self.now }
+    {
+        match *self {
+            Being::Plain(_) | Being::Map(_) | Being::Reflector(_, _) => None,
+            Being::Proxy(_, delegate) => Some(delegate),
         }
     }
 }

@@ -22,7 +22,7 @@ pub(crate) struct Cell {
 const _: () = prove!(size_of::<Cell>() == 24);
 
 impl Model for Cell {
-    ghost use Rattle.cc_script.specs.Beings.{kind_of, name_of, native_key_of};
+    ghost use Rattle.cc_script.specs.Beings.{delegate_key_of, kind_of, name_of, native_key_of};
     ghost use Rattle.cc_script.specs.Cells.{Label};
 
     ghost Value = { Label };
@@ -31,6 +31,7 @@ impl Model for Cell {
       name = name_of c.being;
       kind = kind_of c.being;
       native = native_key_of c.being;
+      delegate = delegate_key_of c.being;
       order = c.order;
     } };
 }
@@ -40,6 +41,8 @@ impl Model for Cell {
 pub(crate) struct Body {
     /// As many as it was made with, and no room for more.
     pub(crate) slots: Vec<Option<SKey>>,
+    /// Whether it is a proxy, which leads to its delegate too: so a walk asks of no other object what it is.
+    pub(crate) is_proxy: bool,
     /// Its neighbours among those that a walk has yet to look into, while it is one of them.
     pub(crate) waiting: Neighbours,
 }
@@ -55,6 +58,7 @@ impl Model for Body {
 
     ghost view = { λ b. record {
       slots = map (option_map (λ k. k.0)) b.slots.items;
+      is_proxy = b.is_proxy;
       waiting = b.waiting;
     } };
 
@@ -69,6 +73,7 @@ impl Body {
     {
         Body {
             slots: Vec::new(alloc),
+            is_proxy: false,
             waiting: Neighbours::of(None),
         }
     }

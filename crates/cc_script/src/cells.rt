@@ -126,6 +126,19 @@ impl Cells {
         self.colours[key as usize]
     }
 
+    /// The delegate of the object at a key, where it is a proxy.
+    // of what is none, what it is isn't read: only what a walk looks at
+    pub(crate) fn delegate(&self, key: u32) -> Option<SKey>
+        requires { ContainsKey self.now key }
+        ensures { option_map (λ c. c.placed.delegate) (get self.now key) ≡ Some (option_map (λ k. k.0) result) }
+    {
+        if self.bodies[key as usize].is_proxy {
+            self.slab[key as usize].being.delegate()
+        } else {
+            None
+        }
+    }
+
     /// Gives the object at a key a colour.
     pub(crate) fn paint(&mut self, key: SKey, colour: Colour)
         requires live { IsSome (cell_at (cells_of self.old.slots) key.0) }

@@ -6,7 +6,8 @@ ghost use Rattle.cc_names.specs.declared.kind.Colour.{Colour};
 ghost use Rattle.cc_script.specs.Objects.{Object, raised, raised_among};
 ghost use Rattle.cc_script.specs.Walking.{IsReachedOverSlots, keys_reached};
 
-/// What these keys reach over slots is the least set that has them and is closed under slots. So `mark_from` and `expose`
+/// What these keys reach over slots is the least set that has them and is closed under slots, and from proxies to their
+/// delegates. So `mark_from` and `expose`
 /// raise each object that is reached, to at least their colour, and leave every other one as it was.
 pub fn raised_is_least()
     ensures list { (objects : List Object) (keys : List ℕ) (key : ℕ) →

@@ -1,13 +1,15 @@
-//! The script heap: plain objects, reflectors and weak maps with slots and colours, in order of making.
+//! The script heap: plain objects, reflectors, weak maps and proxies with slots and colours, in order of making.
 //!
 //! An object stands at a key, which comes back for another one once it is gone; its name never does. Slots hold
 //! keys. Exactly a reflector has the key of a native, which stands in a heap of its own: this heap only keeps it, and
 //! whether that native is there is for those above to say. A weak map has no slots here; its entries stand in a crate of
-//! their own, so no walk of this heap goes over them.
+//! their own, so no walk of this heap goes over them. A
+//! proxy has no slots either, and a delegate for good: the object that it stands for. Walks go from a proxy to its delegate
+//! as over a slot.
 //!
 //! Script marking makes all objects white (`clear_marks`) and raises what is reached from roots, at once (`mark_from`) or
 //! one object after another (`start_marking`, with a type of its own); between markings `expose` makes black what script
-//! touches, with all that it reaches over slots. What stays white is removed, one object after another.
+//! touches, with all that it reaches so. What stays white is removed, one object after another.
 //!
 //! No object that isn't white holds one of a lower colour. So a walk may stop at each object that has the colour to which
 //! it raises.

@@ -66,8 +66,8 @@ impl Marking {
         self.parts.raise(key, self.to);
     }
 
-    /// Takes the first object off the list, and starts what its slots hold, in rising order. None exactly where the list is
-    /// empty.
+    /// Takes the first object off the list, and starts what its slots hold, in rising order, and its delegate then. None
+    /// exactly where the list is empty.
     pub fn next_marked(&mut self) -> Option<SKey>
         requires whole { AreWhole self.old.objects }
         ensures first { option_map (λ k. k.0) result ≡ first_of self.old.waiting }

@@ -2,10 +2,10 @@
 ghost use Rattle.std.specs.Prelude.{◌≡◌, ◌↔◌, ℕ, ◌<◌, ◌≤◌, false, List, [], ◌∷◌, ◌++◌, length, Some, None, IfOk, IfSome, IsTrue, OnErr, option_map, replicate, slice_index_or, vec_capacity};
 ghost use Rattle.cc_lists.specs.Members.{Among};
 ghost use Rattle.cc_names.specs.declared.kind.Colour.{Colour};
-ghost use Rattle.cc_names.specs.declared.kind.Colour.TheVariants.{White};
+ghost use Rattle.cc_names.specs.declared.kind.Colour.TheVariants.{White, Black};
 ghost use Rattle.cc_names.specs.Sizes.{most_slots};
-ghost use Rattle.cc_script.specs.Beings.{kind_of, name_of, native_key_of};
-ghost use Rattle.cc_script.specs.Objects.{Object, AreWhole, IsNotBelow, change_object, colour_at, first_key, is_there, key_after, new_object, raised_among, slots_at, whitened, with_slot, without_object};
+ghost use Rattle.cc_script.specs.Beings.{delegate_key_of, kind_of, name_of, native_key_of};
+ghost use Rattle.cc_script.specs.Objects.{Object, AreWhole, IsNotBelow, change_object, colour_at, first_key, is_there, key_after, new_object, places_at, raised_among, slots_at, whitened, with_slot, without_object};
 ghost use Rattle.cc_lists.specs.Walks.{first_of};
 ghost use Rattle.cc_script.specs.Underway.{with_first_looked_into};
 ghost use Rattle.cc_script.specs.Walking.{keys_reached};
@@ -47,7 +47,7 @@ impl ScriptParts {
         }
     }
 
-    /// Makes a black object with so many empty slots, which goes last.
+    /// Makes a black object with so many empty slots, which goes last. The delegate of a proxy is black.
     pub(crate) fn create(
         &mut self,
         alloc: Global,
@@ -56,18 +56,21 @@ impl ScriptParts {
     ) -> Result<SKey, NoMemory>
         requires at_rest { IsAtRest self.old }
         requires slots { slots ≤ most_slots }
-        ensures made { IfOk result (λ key. shows self.new ≡ shows self.old ++ new_object key.0 (name_of being) (kind_of being) (native_key_of being) slots ∷ []) }
+        requires delegate { (q : ℕ) → delegate_key_of being ≡ Some q → colour_at (shows self.old) q ≡ Some Black }
+        ensures made { IfOk result (λ key. shows self.new ≡ shows self.old ++ new_object key.0 (name_of being) (kind_of being) (native_key_of being) (delegate_key_of being) slots ∷ []) }
         ensures vacant { IfOk result (λ key. is_there (shows self.old) key.0 ≡ false) }
         ensures err { OnErr result (shows self.new ≡ shows self.old) }
         ensures at_rest { IsAtRest self.new }
     {
         let empty = empty_slots(alloc, slots)?;
+        let is_proxy = being.delegate().is_some();
         let cell = Cell {
             being,
             order: Neighbours::of(None),
         };
         let body = Body {
             slots: empty,
+            is_proxy,
             waiting: Neighbours::of(None),
         };
         let key = self.cells.insert(cell, body, Colour::Black)?;
@@ -100,6 +103,15 @@ impl ScriptParts {
         ensures { option_map (λ c. c.colour) (cell_at (lists_of self.now).cells key.0) ≡ Some result }
     {
         self.cells.colour(key.0)
+    }
+
+    /// Its delegate, where it is a proxy.
+    pub(crate) fn delegate(&self, key: SKey) -> Option<SKey>
+        requires placed { IsPlaced (lists_of self.now) }
+        requires live { IsTrue (is_there (shows self.now) key.0) }
+        ensures { option_map (λ c. c.delegate) (cell_at (lists_of self.now).cells key.0) ≡ Some (option_map (λ k. k.0) result) }
+    {
+        self.cells.delegate(key.0)
     }
 
     /// Whether there is an object of this colour.
@@ -211,7 +223,22 @@ impl ScriptParts {
         }
     }
 
-    /// Takes out the first of those that wait, and raises in the same way what its slots hold; none exactly where none waits.
+    /// Raises in the same way what each place of the object at a key leads to: what its slots hold, and its delegate then.
+    fn raise_places(&mut self, key: SKey, to: Colour)
+        requires under_way { IsUnderWay to self.old }
+        requires live { IsTrue (is_there (shows self.old) key.0) }
+        requires held { (q : ℕ) → Among (Some q) (places_at (shows self.old) key.0) → IsTrue (is_there (shows self.old) q) }
+        ensures raises { marking_of self.new ≡ raise_each to (places_at (shows self.old) key.0) (marking_of self.old) }
+        ensures under_way { IsUnderWay to self.new }
+        ensures memory { TakesNoMemory self.old self.new }
+    {
+        self.raise_each(key, to);
+        if let Some(delegate) = self.delegate(key) {
+            self.raise(delegate, to);
+        }
+    }
+
+    /// Takes out the first of those that wait, and raises in the same way what it leads to; none exactly where none waits.
     pub(crate) fn look_into_first(&mut self, to: Colour) -> Option<SKey>
         requires begun { IsBegun to self.old }
         requires whole { AreWhole (shows self.old) }
@@ -221,11 +248,11 @@ impl ScriptParts {
         ensures memory { TakesNoMemory self.old self.new }
     {
         let key = self.waiting.pop_front(&mut self.cells)?;
-        self.raise_each(SKey(key), to);
+        self.raise_places(SKey(key), to);
         Some(SKey(key))
     }
 
-    /// Raises the object at a key, and all that it reaches over slots, to at least the colour `to`.
+    /// Raises the object at a key, and all that it reaches over slots and delegates, to at least the colour `to`.
     pub(crate) fn mark_from(&mut self, key: SKey, to: Colour)
         requires at_rest { IsAtRest self.old }
         requires live { IsTrue (is_there (shows self.old) key.0) }

@@ -2,9 +2,9 @@
 ghost use Rattle.std.specs.Prelude.{◌≡◌, ◌↔◌, ◌<◌, ◌≤◌, false, List, [], ◌∷◌, ◌++◌, length, Some, None, option_map, slice_index_or, IsSome, IsTrue, IfSome, IfOk, OnOk, OnErr};
 ghost use Rattle.cc_lists.specs.Members.{Among};
 ghost use Rattle.cc_names.specs.declared.kind.Colour.TheVariants.{White, Black};
-ghost use Rattle.cc_names.specs.declared.kind.Kind.TheVariants.{Reflector};
+ghost use Rattle.cc_names.specs.declared.kind.Kind.TheVariants.{Proxy, Reflector};
 ghost use Rattle.cc_names.specs.Sizes.{most_slots};
-ghost use Rattle.cc_script.specs.Objects.{Object, AreWhole, HaveOwnKeys, change_object, colour_at, first_key, is_there, key_after, kind_at, map_object, name_at, native_at, plain_object, reflector_object, raised_among, slots_at, whitened, with_slot, without_object, IsNotBelow};
+ghost use Rattle.cc_script.specs.Objects.{Object, AreWhole, HaveOwnKeys, change_object, colour_at, delegate_at, first_key, is_there, key_after, kind_at, map_object, name_at, native_at, plain_object, proxy_object, reflector_object, raised_among, slots_at, whitened, with_slot, without_object, IsNotBelow};
 ghost use Rattle.cc_script.specs.Walking.{keys_reached};
 
 use crate::being::Being;
@@ -48,7 +48,7 @@ impl Scripts {
 
     /// Makes a plain object with `slots` empty slots (0 to 64) and the number `no`. It is black, and goes last.
     ///
-    /// `NoMemory` changes nothing. Beside the three calls that make an object none takes memory.
+    /// `NoMemory` changes nothing. Beside the four calls that make an object none takes memory.
     pub fn create_plain(&mut self, no: ScriptNo, slots: SlotNo) -> Result<SKey, NoMemory>
         requires slots { slots ≤ most_slots }
         ensures made { IfOk result (λ key. self.new ≡ self.old ++ plain_object key.0 no.0 slots ∷ []) }
@@ -82,6 +82,19 @@ impl Scripts {
         self.parts.create(self.alloc, Being::Map(no), 0)
     }
 
+    /// Makes a proxy with the number `no`, which stands for its delegate for good. It has no slots, is black, and goes last.
+    /// The delegate is there, and black.
+    ///
+    /// `NoMemory` changes nothing.
+    pub fn create_proxy(&mut self, no: ScriptNo, delegate: SKey) -> Result<SKey, NoMemory>
+        requires black { colour_at self.old delegate.0 ≡ Some Black }
+        ensures made { IfOk result (λ key. self.new ≡ self.old ++ proxy_object key.0 no.0 delegate.0 ∷ []) }
+        ensures vacant { IfOk result (λ key. is_there self.old key.0 ≡ false) }
+        ensures err { OnErr result (self.new ≡ self.old) }
+    {
+        self.parts.create(self.alloc, Being::Proxy(no, delegate), 0)
+    }
+
     /// What an object is.
     pub fn kind(&self, key: SKey) -> Kind
         requires live { IsTrue (is_there self.now key.0) }
@@ -105,6 +118,15 @@ impl Scripts {
         ensures exactly { IsSome result ↔ (kind_at self.now key.0 ≡ Some Reflector) }
     {
         self.parts.cell(key).being.native()
+    }
+
+    /// The delegate of a proxy; none exactly of what is no proxy.
+    pub fn delegate(&self, key: SKey) -> Option<SKey>
+        requires live { IsTrue (is_there self.now key.0) }
+        ensures delegate { option_map (λ k. k.0) result ≡ delegate_at self.now key.0 }
+        ensures exactly { IsSome result ↔ (kind_at self.now key.0 ≡ Some Proxy) }
+    {
+        self.parts.delegate(key)
     }
 
     /// The colour of an object.
@@ -175,7 +197,7 @@ impl Scripts {
         self.parts.clear_marks();
     }
 
-    /// Raises an object, and all that it reaches over slots, to at least the colour `to`.
+    /// Raises an object, and all that it reaches over slots and from proxies to their delegates, to at least the colour `to`.
     pub fn mark_from(&mut self, key: SKey, to: Colour)
         requires live { IsTrue (is_there self.old key.0) }
         requires whole { AreWhole self.old }
@@ -202,7 +224,7 @@ impl Scripts {
         self.parts = marking.into_parts();
     }
 
-    /// Makes an object black that script touches, with all that it reaches over slots.
+    /// Makes an object black that script touches, with all that it reaches over slots and from proxies to their delegates.
     pub fn expose(&mut self, key: SKey)
         requires live { IsTrue (is_there self.old key.0) }
         requires whole { AreWhole self.old }

@@ -7,7 +7,7 @@ use Rattle.std.proofs.lemmas.Option.{slice_get-get_or, slice_get_within}
 use Rattle.cc_lists.specs.Members.{Among}
 use Rattle.cc_lists.proofs.Places.{among-place}
 use Rattle.cc_weakmaps.specs.Entries.{KeyedEntry, is_entry_of}
-use Rattle.cc_weakmaps.specs.Index.{has_object, IsPlaceOf, place_below}
+use Rattle.cc_weakmaps.specs.Index.{has_object, is_it, IsPlaceOf, place_below}
 use Rattle.cc_weakmaps.proofs.OneEach.{same-map}
 
 -- a place within the list tells whether its entry has the object
@@ -128,11 +128,21 @@ below-alike es fs k (suc n) h =
     ap (λ o. elim o [ None ↦ place_below fs k n | Some b ↦ elim b [ true ↦ Some n | false ↦ place_below fs k n ] ]) (h n (omega arith))
     ∙ ap (λ r. elim (option_map (has_object k) (slice_get es n)) [ None ↦ r | Some b ↦ elim b [ true ↦ Some n | false ↦ r ] ]) (below-alike es fs k n (λ j l. h j (omega (arith, l))))
 
+pub or-true : (b : Bool) → (b || true) ≡ true
+or-true true = refl
+or-true false = refl
+
+pub or-false : (b : Bool) → (b || false) ≡ b
+or-false true = refl
+or-false false = refl
+
 -- the entry of a map and a key has both
 pub entry-has : (m k : ℕ) (e : KeyedEntry) → is_entry_of m k e ≡ true → (has_object m e ≡ true) × (has_object k e ≡ true)
 entry-has m k e is =
-    let both = same-map m k e is in
-    (ap (λ b. b || e.key == m) (eq-eqb e.the_map m both.0), ap (λ b. e.the_map == k || b) (eq-eqb e.key k both.1) ∙ or_right (e.the_map == k) true refl)
+    let both = same-map m k e is in (
+      ap (λ b. (b || e.key == m) || is_it m e.delegate) (eq-eqb e.the_map m both.0),
+      ap (λ b. (e.the_map == k || b) || is_it k e.delegate) (eq-eqb e.key k both.1) ∙ ap (λ b. b || is_it k e.delegate) (or-true (e.the_map == k)),
+    )
 
 -- so one that lacks either is another's
 pub other-map : (m k : ℕ) (e : KeyedEntry) → has_object m e ≡ false → is_entry_of m k e ≡ false

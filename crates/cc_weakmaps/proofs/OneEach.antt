@@ -1,5 +1,5 @@
 -- AT MOST ONE ENTRY for each map and key, as entries are set and taken out.
-use Rattle.std.proofs.Common.{◌≡◌, ℕ, ◌+◌, ◌≤◌, ◌==◌, zero, suc, Bool, true, false, cond, List, [], ◌∷◌, refl, sym, ◌∙◌, ap, subst, arith, count_by}
+use Rattle.std.proofs.Common.{◌≡◌, ℕ, ◌+◌, ◌≤◌, ◌==◌, zero, suc, Bool, true, false, cond, List, [], ◌∷◌, Option, refl, sym, ◌∙◌, ap, subst, arith, count_by}
 use Rattle.std.specs.List.{items_where_true, remove}
 use Rattle.std.proofs.lemmas.Bool.{and_parts, eqb-true}
 use Rattle.cc_lists.proofs.Counting.{count_by-cons}
@@ -10,46 +10,46 @@ pub same-map : (m k : ℕ) (e : KeyedEntry) → is_entry_of m k e ≡ true → (
 same-map m k e is = let both = and_parts (e.the_map == m) (e.key == k) is in (eqb-true e.the_map m both.0, eqb-true e.key k both.1)
 
 -- so another value in its place is counted where it is
-same-count : (n j m k v : ℕ) (e : KeyedEntry) → is_entry_of m k e ≡ true → is_entry_of n j (entry m k v) ≡ is_entry_of n j e
-same-count n j m k v e is = let both = same-map m k e is in sym (ap (λ a. is_entry_of n j (entry a e.key v)) both.0 ∙ ap (λ a. is_entry_of n j (entry m a v)) both.1)
+same-count : (n j m k : ℕ) (d : Option ℕ) (v : ℕ) (e : KeyedEntry) → is_entry_of m k e ≡ true → is_entry_of n j (entry m k d v) ≡ is_entry_of n j e
+same-count n j m k d v e is = let both = same-map m k e is in sym (ap (λ a. is_entry_of n j (entry a e.key d v)) both.0 ∙ ap (λ a. is_entry_of n j (entry m a d v)) both.1)
 
-module _ (n j m k v : ℕ) where
+module _ (n j m k : ℕ) (d : Option ℕ) (v : ℕ) where
   -- where it is not the entry that is counted, as many are counted as before
-  set-other : is_entry_of n j (entry m k v) ≡ false → (es : List KeyedEntry) → count_by (is_entry_of n j) (with_entry es m k v) ≡ count_by (is_entry_of n j) es
-  set-other other [] = rw (count_by-cons (is_entry_of n j) (entry m k v) [], other) refl
+  set-other : is_entry_of n j (entry m k d v) ≡ false → (es : List KeyedEntry) → count_by (is_entry_of n j) (with_entry es m k d v) ≡ count_by (is_entry_of n j) es
+  set-other other [] = rw (count_by-cons (is_entry_of n j) (entry m k d v) [], other) refl
   set-other other (e ∷ es) = go (set-other other es) (is_entry_of m k e) refl
     where
-      go : count_by (is_entry_of n j) (with_entry es m k v) ≡ count_by (is_entry_of n j) es → (b : Bool) → is_entry_of m k e ≡ b →
-          count_by (is_entry_of n j) (elim b [ true ↦ entry m k v ∷ es | false ↦ e ∷ with_entry es m k v ]) ≡ count_by (is_entry_of n j) (e ∷ es)
-      go ih true is = rw (count_by-cons (is_entry_of n j) (entry m k v) es, count_by-cons (is_entry_of n j) e es, same-count n j m k v e is) refl
-      go ih false is = rw (count_by-cons (is_entry_of n j) e (with_entry es m k v), count_by-cons (is_entry_of n j) e es, ih) refl
+      go : count_by (is_entry_of n j) (with_entry es m k d v) ≡ count_by (is_entry_of n j) es → (b : Bool) → is_entry_of m k e ≡ b →
+          count_by (is_entry_of n j) (elim b [ true ↦ entry m k d v ∷ es | false ↦ e ∷ with_entry es m k d v ]) ≡ count_by (is_entry_of n j) (e ∷ es)
+      go ih true is = rw (count_by-cons (is_entry_of n j) (entry m k d v) es, count_by-cons (is_entry_of n j) e es, same-count n j m k d v e is) refl
+      go ih false is = rw (count_by-cons (is_entry_of n j) e (with_entry es m k d v), count_by-cons (is_entry_of n j) e es, ih) refl
 
 -- and of the entry that is set there is one
-set-same : (m k v : ℕ) (es : List KeyedEntry) → count_by (is_entry_of m k) es ≤ 1 → count_by (is_entry_of m k) (with_entry es m k v) ≤ 1
-set-same m k v [] h = go (is_entry_of m k (entry m k v)) refl
+set-same : (m k : ℕ) (d : Option ℕ) (v : ℕ) (es : List KeyedEntry) → count_by (is_entry_of m k) es ≤ 1 → count_by (is_entry_of m k) (with_entry es m k d v) ≤ 1
+set-same m k d v [] h = go (is_entry_of m k (entry m k d v)) refl
   where
-    go : (b : Bool) → is_entry_of m k (entry m k v) ≡ b → count_by (is_entry_of m k) (entry m k v ∷ []) ≤ 1
-    go true is = rw (count_by-cons (is_entry_of m k) (entry m k v) [], is) (omega arith)
-    go false is = rw (count_by-cons (is_entry_of m k) (entry m k v) [], is) (omega arith)
-set-same m k v (e ∷ es) h = go (set-same m k v es) (is_entry_of m k e) refl
+    go : (b : Bool) → is_entry_of m k (entry m k d v) ≡ b → count_by (is_entry_of m k) (entry m k d v ∷ []) ≤ 1
+    go true is = rw (count_by-cons (is_entry_of m k) (entry m k d v) [], is) (omega arith)
+    go false is = rw (count_by-cons (is_entry_of m k) (entry m k d v) [], is) (omega arith)
+set-same m k d v (e ∷ es) h = go (set-same m k d v es) (is_entry_of m k e) refl
   where
-    go : (count_by (is_entry_of m k) es ≤ 1 → count_by (is_entry_of m k) (with_entry es m k v) ≤ 1) → (b : Bool) → is_entry_of m k e ≡ b →
-        count_by (is_entry_of m k) (elim b [ true ↦ entry m k v ∷ es | false ↦ e ∷ with_entry es m k v ]) ≤ 1
-    go ih true is = subst (λ c. c ≤ 1) (sym (count_by-cons (is_entry_of m k) (entry m k v) es ∙ (ap (λ b. cond b 1 0 + count_by (is_entry_of m k) es) (same-count m k m k v e is) ∙ sym (count_by-cons (is_entry_of m k) e es)))) h
+    go : (count_by (is_entry_of m k) es ≤ 1 → count_by (is_entry_of m k) (with_entry es m k d v) ≤ 1) → (b : Bool) → is_entry_of m k e ≡ b →
+        count_by (is_entry_of m k) (elim b [ true ↦ entry m k d v ∷ es | false ↦ e ∷ with_entry es m k d v ]) ≤ 1
+    go ih true is = subst (λ c. c ≤ 1) (sym (count_by-cons (is_entry_of m k) (entry m k d v) es ∙ (ap (λ b. cond b 1 0 + count_by (is_entry_of m k) es) (same-count m k m k d v e is) ∙ sym (count_by-cons (is_entry_of m k) e es)))) h
     go ih false is =
         let none : ◌≡◌ {A = ℕ} (cond (is_entry_of m k e) 1 0) 0 = ap (λ b. cond b 1 0) is in
-        let rest : count_by (is_entry_of m k) (with_entry es m k v) ≤ 1 = ih (omega (arith, h, none, count_by-cons (is_entry_of m k) e es)) in
-        omega (arith, none, rest, count_by-cons (is_entry_of m k) e (with_entry es m k v))
+        let rest : count_by (is_entry_of m k) (with_entry es m k d v) ≤ 1 = ih (omega (arith, h, none, count_by-cons (is_entry_of m k) e es)) in
+        omega (arith, none, rest, count_by-cons (is_entry_of m k) e (with_entry es m k d v))
 
-pub HasOneEach-set : (es : List KeyedEntry) (m k v : ℕ) → HasOneEach es → HasOneEach (with_entry es m k v)
-HasOneEach-set es m k v h = record { at_most = λ n j. go n j (is_entry_of n j (entry m k v)) refl }
+pub HasOneEach-set : (es : List KeyedEntry) (m k : ℕ) (d : Option ℕ) (v : ℕ) → HasOneEach es → HasOneEach (with_entry es m k d v)
+HasOneEach-set es m k d v h = record { at_most = λ n j. go n j (is_entry_of n j (entry m k d v)) refl }
   where
-    go : (n j : ℕ) (b : Bool) → is_entry_of n j (entry m k v) ≡ b → count_by (is_entry_of n j) (with_entry es m k v) ≤ 1
+    go : (n j : ℕ) (b : Bool) → is_entry_of n j (entry m k d v) ≡ b → count_by (is_entry_of n j) (with_entry es m k d v) ≤ 1
     go n j true is =
-        let both = same-map n j (entry m k v) is in
-        subst (λ a. count_by (is_entry_of a j) (with_entry es m k v) ≤ 1) both.0
-        (subst (λ a. count_by (is_entry_of m a) (with_entry es m k v) ≤ 1) both.1 (set-same m k v es (h.at_most m k)))
-    go n j false other = subst (λ c. c ≤ 1) (sym (set-other n j m k v other es)) (h.at_most n j)
+        let both = same-map n j (entry m k d v) is in
+        subst (λ a. count_by (is_entry_of a j) (with_entry es m k d v) ≤ 1) both.0
+        (subst (λ a. count_by (is_entry_of m a) (with_entry es m k d v) ≤ 1) both.1 (set-same m k d v es (h.at_most m k)))
+    go n j false other = subst (λ c. c ≤ 1) (sym (set-other n j m k d v other es)) (h.at_most n j)
 
 -- A part of the entries
 

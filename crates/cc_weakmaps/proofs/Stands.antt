@@ -23,10 +23,10 @@ stands-value (e ∷ es) m k zero d s = rw (value_in, s) refl
 stands-value (e ∷ es) m k (suc place) d s = rw (value_in, s.0) (stands-value es m k place d s.1)
 
 -- an entry that is set is written there
-pub stands-set : (es : List KeyedEntry) (m k place v : ℕ) → StandsAt es m k place → with_entry es m k v ≡ set es place (entry m k v)
-stands-set [] m k place v s = absurd s
-stands-set (e ∷ es) m k zero v s = rw (with_entry, s) refl
-stands-set (e ∷ es) m k (suc place) v s = rw (with_entry, s.0, stands-set es m k place v s.1) refl
+pub stands-set : (es : List KeyedEntry) (m k place : ℕ) (x : Option ℕ) (v : ℕ) → StandsAt es m k place → with_entry es m k x v ≡ set es place (entry m k x v)
+stands-set [] m k place x v s = absurd s
+stands-set (e ∷ es) m k zero x v s = rw (with_entry, s) refl
+stands-set (e ∷ es) m k (suc place) x v s = rw (with_entry, s.0, stands-set es m k place x v s.1) refl
 
 -- the first place that has the entry is where it stands
 pub stands-first : (es : List KeyedEntry) (m k place : ℕ) (d : KeyedEntry) → has_value_in (take place es) m k ≡ false → place < length es → is_entry_of m k (get_or es place d) ≡ true → StandsAt es m k place
@@ -61,11 +61,11 @@ absent-value es m k h = go (value_in es m k) h
     go (Some v) h = absurd (true≢false h)
 
 -- and its entry goes last
-pub absent-set : (es : List KeyedEntry) (m k v : ℕ) → has_value_in es m k ≡ false → with_entry es m k v ≡ es ++ entry m k v ∷ []
-absent-set [] m k v h = refl
-absent-set (e ∷ es) m k v h = go (absent-set es m k v) (is_entry_of m k e) h
+pub absent-set : (es : List KeyedEntry) (m k : ℕ) (x : Option ℕ) (v : ℕ) → has_value_in es m k ≡ false → with_entry es m k x v ≡ es ++ entry m k x v ∷ []
+absent-set [] m k x v h = refl
+absent-set (e ∷ es) m k x v h = go (absent-set es m k x v) (is_entry_of m k e) h
   where
-    go : (has_value_in es m k ≡ false → with_entry es m k v ≡ es ++ entry m k v ∷ []) → (b : Bool) → is_some (elim b [ true ↦ Some e.value | false ↦ value_in es m k ]) ≡ false → elim b [ true ↦ entry m k v ∷ es | false ↦ e ∷ with_entry es m k v ] ≡ e ∷ es ++ entry m k v ∷ []
+    go : (has_value_in es m k ≡ false → with_entry es m k x v ≡ es ++ entry m k x v ∷ []) → (b : Bool) → is_some (elim b [ true ↦ Some e.value | false ↦ value_in es m k ]) ≡ false → elim b [ true ↦ entry m k x v ∷ es | false ↦ e ∷ with_entry es m k x v ] ≡ e ∷ es ++ entry m k x v ∷ []
     go ih true h = absurd (true≢false h)
     go ih false h = ap (λ xs. e ∷ xs) (ih h)
 

@@ -1,14 +1,15 @@
 -- THE ENTRIES OF ALL WEAK MAPS AS A LIST, by the keys of script objects, in the order in which they were first set.
 use Rattle.std.specs.Prelude.{ℕ, ◌≤◌, ◌==◌, Bool, true, false, not, ◌&&◌, List, [], ◌∷◌, filter, count_by, Option, Some, None, is_some}
 
--- a key has a value in a map
+-- a key has a value in a map; where the key is a proxy, its delegate stands with it
 pub record KeyedEntry : Type 0 where
   pub the_map : ℕ
   pub key : ℕ
+  pub delegate : Option ℕ
   pub value : ℕ
 
-abbrev pub entry : ℕ → ℕ → ℕ → KeyedEntry
-entry m k v = record { the_map = m; key = k; value = v }
+abbrev pub entry : ℕ → ℕ → Option ℕ → ℕ → KeyedEntry
+entry m k d v = record { the_map = m; key = k; delegate = d; value = v }
 
 -- whether it is the entry of a map and a key
 abbrev pub is_entry_of : ℕ → ℕ → KeyedEntry → Bool
@@ -23,10 +24,10 @@ value_in (e ∷ es) m k = elim (is_entry_of m k e) [ true ↦ Some e.value | fal
 abbrev pub has_value_in : List KeyedEntry → ℕ → ℕ → Bool
 has_value_in es m k = is_some (value_in es m k)
 
--- a replaced value keeps the entry's place; a new entry goes last
-abbrev pub with_entry : List KeyedEntry → ℕ → ℕ → ℕ → List KeyedEntry
-with_entry [] m k v = entry m k v ∷ []
-with_entry (e ∷ es) m k v = elim (is_entry_of m k e) [ true ↦ entry m k v ∷ es | false ↦ e ∷ with_entry es m k v ]
+-- an entry that is set again keeps its place, and has the delegate of now; a new entry goes last
+abbrev pub with_entry : List KeyedEntry → ℕ → ℕ → Option ℕ → ℕ → List KeyedEntry
+with_entry [] m k d v = entry m k d v ∷ []
+with_entry (e ∷ es) m k d v = elim (is_entry_of m k e) [ true ↦ entry m k d v ∷ es | false ↦ e ∷ with_entry es m k d v ]
 
 -- later ones close up
 abbrev pub without_entry : List KeyedEntry → ℕ → ℕ → List KeyedEntry

@@ -2,12 +2,12 @@
 ghost use Rattle.std.specs.Prelude.{◌≡◌, ◌↔◌, ◌+◌, ◌<◌, ◌≤◌, ◌++◌, ◌∷◌, length, max, remove, take, vec_capacity, false, [], Some, option_map, slice_get, IfNone, IfSome, IsOk, IsTrue, OnErr, OnOk};
 ghost use Rattle.cc_weakmaps.specs.Entries.{HasOneEach, entry, has_value_in, value_in, with_entry, without_entry};
 ghost use Rattle.cc_weakmaps.specs.Living.{AreLiving, MayBeAsked, StayBefore};
-ghost use Rattle.cc_weakmaps.specs.Index.{IsPlaceOf, place_below};
+ghost use Rattle.cc_weakmaps.specs.Index.{IsPlaceOf, greatest, place_below};
 ghost use Rattle.cc_weakmaps.specs.Kept.{TakesNoMemory};
 ghost use Rattle.cc_weakmaps.specs.Places.{StandsAt};
 
 use crate::entry::Entry;
-use crate::index::{put_in, put_in_from, take_out_from};
+use crate::index::{know, put_in, put_in_from, take_out_from};
 use crate::lasts::Lasts;
 use crate::links::Links;
 use cc_names::{NoMemory, SKey};
@@ -21,9 +21,12 @@ use std::marker::Model;
 #[derive(Drop)]
 pub(crate) struct EntryList {
     entries: Vec<Entry>,
-    // of each entry, where those before it stand that have its map or its key
+    // of each entry, where those before it stand that have its map, its key or its delegate
     links: Vec<Links>,
     lasts: Lasts,
+    // cleared where an entry is set again with another delegate, for whose place there may be no room; entries are looked for
+    // one by one then. Where a delegate is for good, it is never cleared
+    has_index: bool,
 }
 
 impl Model for EntryList {
@@ -39,7 +42,7 @@ impl Model for EntryList {
       room = vec_capacity w.entries + vec_capacity w.links + vec_capacity w.lasts.places;
     } };
 
-    ghost invariant = { λ w. IsKept w.entries.items w.links.items w.lasts.places.items };
+    ghost invariant = { λ w. IsKept w.entries.items w.links.items w.lasts.places.items w.has_index };
 }
 
 impl EntryList {
@@ -51,27 +54,37 @@ impl EntryList {
             entries: Vec::new(alloc),
             links: Vec::new(alloc),
             lasts: Lasts::new(alloc),
+            has_index: true,
         }
     }
 
-    /// A key has a value in a map from then on: its entry keeps its place, or goes last where there was none.
+    /// A key has a value in a map from then on: its entry keeps its place, or goes last where there was none. It has the
+    /// delegate of the key.
     ///
     /// `NoMemory` changes no entry, and comes only where there was none. Where there was one, no memory is taken.
     #[tactic(auto, using(crate::proofs::Stands::stands))]
-    pub(crate) fn set(&mut self, the_map: SKey, key: SKey, value: SKey) -> Result<(), NoMemory>
-        ensures entries { OnOk result (self.new.entries ≡ with_entry self.old.entries the_map.0 key.0 value.0) }
+    pub(crate) fn set(
+        &mut self,
+        the_map: SKey,
+        key: SKey,
+        delegate: Option<SKey>,
+        value: SKey,
+    ) -> Result<(), NoMemory>
+        ensures entries { OnOk result (self.new.entries ≡ with_entry self.old.entries the_map.0 key.0 (option_map (λ k. k.0) delegate) value.0) }
         ensures err { OnErr result (self.new.entries ≡ self.old.entries) }
         ensures in_place { IsTrue (has_value_in self.old.entries the_map.0 key.0) → IsOk result × TakesNoMemory self.old self.new }
-        ensures known { self.new.known ≤ max self.old.known (max the_map.0 key.0 + 1) }
+        ensures known { self.new.known ≤ max self.old.known (greatest the_map.0 key.0 (option_map (λ k. k.0) delegate) + 1) }
         ensures at_most_one { HasOneEach self.new.entries }
     {
+        let entry = Entry {
+            the_map,
+            key,
+            delegate,
+            value,
+        };
         match self.place_of(the_map, key) {
-            Some(place) => self.entries[place].value = value,
-            None => self.add(Entry {
-                the_map,
-                key,
-                value,
-            })?,
+            Some(place) => self.renew(place, entry),
+            None => self.add(entry)?,
         }
         Ok(())
     }
@@ -114,22 +127,25 @@ impl EntryList {
         self.entries.is_empty()
     }
 
-    /// Map, key and value of the entry at a place, counted from 0.
-    pub(crate) fn entry(&self, i: usize) -> (SKey, SKey, SKey)
+    /// Map, key, the key's delegate and value of the entry at a place, counted from 0.
+    pub(crate) fn entry(&self, i: usize) -> (SKey, SKey, Option<SKey>, SKey)
         requires within { i < length self.now.entries }
-        ensures { slice_get self.now.entries i ≡ Some (entry result.0.0 result.1.0 result.2.0) }
+        ensures { slice_get self.now.entries i ≡ Some (entry result.0.0 result.1.0 (option_map (λ k. k.0) result.2) result.3.0) }
     {
         let entry = &self.entries[i];
-        (entry.the_map, entry.key, entry.value)
+        (entry.the_map, entry.key, entry.delegate, entry.value)
     }
 
-    /// The place of an entry that has an object for its map or its key: of the last one; none where there is none. From it
+    /// The place of an entry that has an object for its map, its key or its delegate: of the last one; none where there is none. From it
     /// `next_with` goes on to the others.
     pub(crate) fn first_with(&self, object: SKey) -> Option<usize>
         ensures place { result ≡ place_below self.now.entries object.0 (length self.now.entries) }
         ensures there { IfSome result (IsPlaceOf self.now.entries object.0) }
         ensures within { IfSome result (λ i. i < length self.now.entries) }
     {
+        if !self.has_index {
+            return last_below(self.entries.as_slice(), object, self.entries.len());
+        }
         widen(self.lasts.last(object.0))
     }
 
@@ -143,12 +159,18 @@ impl EntryList {
         ensures within { IfSome result (λ i. i < length self.now.entries) }
         ensures before { IfSome result (λ i. i < place) }
     {
-        let links = self.links[place];
-        if self.entries[place].the_map == object {
-            widen(links.by_map)
-        } else {
-            widen(links.by_key)
+        if !self.has_index {
+            return last_below(self.entries.as_slice(), object, place);
         }
+        let links = self.links[place];
+        let entry = &self.entries[place];
+        if entry.the_map == object {
+            return widen(links.by_map);
+        }
+        if entry.key == object {
+            return widen(links.by_key);
+        }
+        widen(links.by_delegate)
     }
 
     /// Drops each entry of which the map or the key does not live, and keeps the others in order.
@@ -160,6 +182,10 @@ impl EntryList {
         ensures at_most_one { HasOneEach self.new.entries }
         ensures memory { TakesNoMemory self.old self.new }
     {
+        if !self.has_index {
+            keep_living(&mut self.entries, 0, &alive);
+            return;
+        }
         let start = first_dead(self.entries.as_slice(), &alive);
         take_out_from(
             &mut self.lasts,
@@ -205,18 +231,23 @@ impl EntryList {
         requires { has_value_in self.old.entries entry.the_map entry.key ≡ false }
         ensures entries { OnOk result (self.new.entries ≡ self.old.entries ++ entry ∷ []) }
         ensures err { OnErr result (self.new.entries ≡ self.old.entries) }
-        ensures known { self.new.known ≤ max self.old.known (max entry.the_map entry.key + 1) }
+        ensures known { self.new.known ≤ max self.old.known (greatest entry.the_map entry.key entry.delegate + 1) }
         ensures at_most_one { HasOneEach self.new.entries }
     {
         let place = self.entries.len();
         u32::try_from(place).map_err(|_| NoMemory)?;
         self.entries.reserve(1)?;
+        if !self.has_index {
+            self.entries.push_reserved(entry);
+            return Ok(());
+        }
         self.links.reserve(1)?;
-        self.lasts.know_both(entry.the_map.0, entry.key.0)?;
+        know(&mut self.lasts, entry)?;
         self.entries.push_reserved(entry);
         self.links.push_reserved(Links {
             by_map: None,
             by_key: None,
+            by_delegate: None,
         });
         put_in(
             &mut self.lasts,
@@ -227,6 +258,18 @@ impl EntryList {
         Ok(())
     }
 
+    /// Writes the entry of a map and a key again, at the place where it stands. Takes no memory.
+    fn renew(&mut self, place: usize, entry: Entry)
+        requires { StandsAt self.old.entries entry.the_map entry.key place }
+        ensures entries { self.new.entries ≡ with_entry self.old.entries entry.the_map entry.key entry.delegate entry.value }
+        ensures at_most_one { HasOneEach self.new.entries }
+        ensures memory { TakesNoMemory self.old self.new }
+    {
+        let is_alike = self.entries[place].is_alike(entry);
+        self.has_index = keeps_index(self.has_index, is_alike);
+        self.entries[place] = entry;
+    }
+
     /// Takes out the entry at a place; later ones close up.
     fn remove(&mut self, place: usize)
         requires { place < length self.old.entries }
@@ -234,6 +277,10 @@ impl EntryList {
         ensures at_most_one { HasOneEach self.new.entries }
         ensures memory { TakesNoMemory self.old self.new }
     {
+        if !self.has_index {
+            self.entries.remove(place);
+            return;
+        }
         take_out_from(
             &mut self.lasts,
             self.links.as_slice(),
@@ -249,6 +296,28 @@ impl EntryList {
         );
         self.links.truncate(self.entries.len());
     }
+}
+
+/// Whether there is an index where an entry was written again: where there was one, and the entry has the delegate that it had.
+fn keeps_index(has_index: bool, is_alike: bool) -> bool
+    ensures { IsTrue result → IsTrue has_index × IsTrue is_alike }
+{
+    has_index && is_alike
+}
+
+/// The last place below another of an entry that has an object, by a look at one after another; none where none has.
+fn last_below(entries: &[Entry], object: SKey, end: usize) -> Option<usize>
+    requires within { end ≤ length entries.now }
+    ensures { result ≡ place_below entries.now object.0 end }
+{
+    let mut place = end;
+    while place > 0 {
+        place -= 1;
+        if entries[place].has(object) {
+            return Some(place);
+        }
+    }
+    None
 }
 
 /// A place that is kept in 32 bits, as places are told; none where there is none.

@@ -1,8 +1,8 @@
-//! Of each object, the last place at which an entry has it for its map or its key.
-ghost use Rattle.std.specs.Prelude.{◌≡◌, ℕ, ◌+◌, ◌<◌, ◌≤◌, ◌==◌, [], length, max, if◌then◌else◌, IsOk, OnOk, vec_capacity};
-ghost use Rattle.cc_weakmaps.specs.Index.{last_kept};
+//! Of each object, the last place at which an entry has it for its map, its key or its delegate.
+ghost use Rattle.std.specs.Prelude.{◌≡◌, ℕ, ◌+◌, ◌<◌, ◌≤◌, ◌==◌, [], length, max, if◌then◌else◌, IsOk, OnOk, option_map, vec_capacity};
+ghost use Rattle.cc_weakmaps.specs.Index.{IsBelow, kept_with, last_kept, last_of};
 
-use cc_names::NoMemory;
+use cc_names::{NoMemory, SKey};
 use std::alloc::Global;
 
 /// The last places by the objects' keys, up to the greatest key that was known. Places are kept in 32 bits. An object can
@@ -60,5 +60,26 @@ impl Lasts {
         ensures memory { KeepsRoom self.old self.new }
     {
         self.places[object as usize] = place;
+    }
+
+    /// The last place of an object that may be there; none where it is not, or has none.
+    pub(crate) fn last_of(&self, object: Option<SKey>) -> Option<u32>
+        ensures { result ≡ last_of self.now.places.items (option_map (λ k. k.0) object) }
+    {
+        match object {
+            Some(object) => self.last(object.0),
+            None => None,
+        }
+    }
+
+    /// The last place of an object that may be there is this from then on.
+    pub(crate) fn keep_of(&mut self, object: Option<SKey>, place: Option<u32>)
+        requires known { IsBelow (length self.old.places.items) (option_map (λ k. k.0) object) }
+        ensures places { (k : ℕ) → last_kept self.new.places.items k ≡ kept_with (option_map (λ k. k.0) object) place k (last_kept self.old.places.items k) }
+        ensures memory { KeepsRoom self.old self.new }
+    {
+        if let Some(object) = object {
+            self.keep(object.0, place);
+        }
     }
 }

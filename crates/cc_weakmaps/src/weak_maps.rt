@@ -34,18 +34,25 @@ impl WeakMaps {
         }
     }
 
-    /// A key has a value in a map from then on: its entry keeps its place, or goes last where there was none.
+    /// A key has a value in a map from then on: its entry keeps its place, or goes last where there was none. It has the
+    /// delegate of the key, where that is a proxy.
     ///
-    /// Memory is taken for a new entry, and for the places of all keys up to the greater of its two: keys are those of a slab,
-    /// so they lie close together. Places are kept in 32 bits, so `NoMemory` comes too where that of a new entry needs more.
+    /// Memory is taken for a new entry, and for the places of all keys up to the greatest of its map, its key and its delegate:
+    /// keys are those of a slab, so they lie close together. Places are kept in 32 bits, so `NoMemory` comes too where that of a new entry needs more.
     /// `NoMemory` changes nothing, and comes only where there was no entry.
-    pub fn set(&mut self, the_map: SKey, key: SKey, value: SKey) -> Result<(), NoMemory>
-        ensures entries { OnOk result (self.new ≡ with_entry self.old the_map.0 key.0 value.0) }
+    pub fn set(
+        &mut self,
+        the_map: SKey,
+        key: SKey,
+        delegate: Option<SKey>,
+        value: SKey,
+    ) -> Result<(), NoMemory>
+        ensures entries { OnOk result (self.new ≡ with_entry self.old the_map.0 key.0 (option_map (λ k. k.0) delegate) value.0) }
         ensures err { OnErr result (self.new ≡ self.old) }
         ensures in_place { IsTrue (has_value_in self.old the_map.0 key.0) → IsOk result }
         ensures at_most_one { HasOneEach self.new }
     {
-        self.list.set(the_map, key, value)
+        self.list.set(the_map, key, delegate, value)
     }
 
     /// A key has no value in a map from then on; later entries close up.
@@ -78,15 +85,15 @@ impl WeakMaps {
         self.list.is_empty()
     }
 
-    /// Map, key and value of the entry at a place, counted from 0.
-    pub fn entry(&self, i: usize) -> (SKey, SKey, SKey)
+    /// Map, key, the key's delegate and value of the entry at a place, counted from 0.
+    pub fn entry(&self, i: usize) -> (SKey, SKey, Option<SKey>, SKey)
         requires within { i < length self.now }
-        ensures { slice_get self.now i ≡ Some (entry result.0.0 result.1.0 result.2.0) }
+        ensures { slice_get self.now i ≡ Some (entry result.0.0 result.1.0 (option_map (λ k. k.0) result.2) result.3.0) }
     {
         self.list.entry(i)
     }
 
-    /// The place of an entry that has an object for its map or its key: of the last one; none where there is none. From it
+    /// The place of an entry that has an object for its map, its key or its delegate: of the last one; none where there is none. From it
     /// `next_with` goes on to the others.
     pub fn first_with(&self, object: SKey) -> Option<usize>
         ensures place { result ≡ place_below self.now object.0 (length self.now) }

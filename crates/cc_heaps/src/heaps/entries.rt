@@ -3,7 +3,7 @@ ghost use Rattle.std.specs.Prelude.{◌≡◌, ℕ, List, None, Some, IsOk, IsSo
 ghost use Rattle.cc_names.specs.declared.kind.Kind.TheVariants.{Map};
 ghost use Rattle.cc_model.specs.Checks.{value_at};
 ghost use Rattle.cc_model.specs.Entries.{with_entry};
-ghost use Rattle.cc_model.specs.Heap.{objects_of, preserve};
+ghost use Rattle.cc_model.specs.Heap.{delegate_at, objects_of, preserve};
 ghost use Rattle.cc_model.specs.Effects.{set_entry};
 ghost use Rattle.cc_model.specs.Graph as graph;
 ghost use Rattle.cc_script.specs.Objects.{is_there, kind_at, name_at};
@@ -24,7 +24,7 @@ impl Heaps {
         requires key { IsTrue (is_there self.old.scripts key.0) }
         requires value { IsTrue (is_there self.old.scripts value.0) }
         ensures heap { OnOk result (self.new.heap ≡ record self.old.heap {
-          entries = with_entry self.old.heap.entries (the_name_at self.old.scripts the_map.0) (the_name_at self.old.scripts key.0) (the_name_at self.old.scripts value.0);
+          entries = with_entry self.old.heap.entries (the_name_at self.old.scripts the_map.0) (the_name_at self.old.scripts key.0) (delegate_at self.old.heap (the_name_at self.old.scripts key.0)) (the_name_at self.old.scripts value.0);
         }) }
         ensures in_place { IsSome (value_at (objects_of self.old.heap) (name_at self.old.scripts the_map.0) (name_at self.old.scripts key.0)) → IsOk result }
         ensures natives { self.new.keys ≡ self.old.keys }
@@ -32,11 +32,11 @@ impl Heaps {
         ensures same { OnErr result (self.new ≡ self.old) }
         ensures order { (owned : List ℕ) → IsInOrder owned self.old → IsInOrder owned self.new }
     {
-        self.weak.set(the_map, key, value)
+        self.weak.set(the_map, key, self.scripts.delegate(key), value)
     }
 
     // A script object that is a reflector is preserved.
-    fn preserve(&mut self, key: SKey)
+    pub(crate) fn preserve(&mut self, key: SKey)
         requires order { (owned : List ℕ) × IsInOrder owned self.old }
         requires live { IsTrue (is_there self.old.scripts key.0) }
         ensures heap { self.new ≡ changed_to self.old (preserve self.old.heap (name_at self.old.scripts key.0)) }
@@ -47,8 +47,8 @@ impl Heaps {
         }
     }
 
-    /// A key has a value in a weak map from then on: its entry keeps its place, or goes last where there was none. A key that
-    /// is a reflector is preserved: one that is not preserved is the key of no entry, so that it can be made again.
+    /// A key has a value in a weak map from then on: its entry keeps its place, or goes last where there was none. Where the
+    /// key is a proxy, its entry has its delegate. A key that is a reflector is preserved: one that is not preserved is the key of no entry, so that it can be made again.
     ///
     /// `NoMemory` changes nothing, and comes only where there was no entry. A gray value would have an entry of which a
     /// snapshot knows nothing, and a gray reflector a holder: snapshots stay fresh where key and value are black.

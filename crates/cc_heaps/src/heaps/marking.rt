@@ -40,8 +40,9 @@ fn mark_uncounted<L: Ledger>(
 
 impl Heaps {
     /// Gives each script object its colour: black what a mark from the script registers comes to, gray what else one from
-    /// what natives hold comes to, white the rest. A mark goes over slots, and from a map and a key that are marked
-    /// together to the value of their entry. Takes no memory.
+    /// what natives hold comes to, white the rest. A mark goes over slots, from a proxy to its delegate, from a map and
+    /// a key that are marked together to the value of their entry, and from a map and the delegate of a key to that key. Takes no
+    /// memory.
     pub fn mark_scripts(&mut self)
         requires order { (owned : List ℕ) × IsInOrder owned self.old }
         ensures heap { self.new.heap ≡ marked self.old.heap }

@@ -5,33 +5,35 @@ ghost use Rattle.cc_names.specs.declared.kind.Kind.TheVariants.{Map, Plain};
 ghost use Rattle.cc_names.specs.declared.register.Reg.TheVariants.{S as s_register};
 ghost use Rattle.cc_names.specs.Names.{object};
 ghost use Rattle.cc_names.specs.Sizes.{most_slots};
-ghost use Rattle.cc_model.specs.Heap.{set_register, set_slot};
-ghost use Rattle.cc_model.specs.Effects.{hold_script, make_object, with_object};
+ghost use Rattle.cc_model.specs.Heap.{preserve, set_register, set_slot};
+ghost use Rattle.cc_model.specs.Effects.{hold_script, make_object, make_proxy, with_object};
 ghost use Rattle.cc_model.specs.Exposure.{exposed};
 ghost use Rattle.cc_model.specs.declared.command.Command.TheVariants as command;
 ghost use Rattle.cc_model.specs.Graph as graph;
 ghost use Rattle.cc_script.specs.Objects.{colour_at, is_there, name_at, slots_at};
-ghost use Rattle.cc_heaps.specs.Keyed.{IsInOrder};
-ghost use Rattle.cc_heaps.specs.Making.{kind_to_make, command_to_make, object_to_make, slots_to_make};
+ghost use Rattle.cc_heaps.specs.Keyed.{IsInOrder, changed_to};
+ghost use Rattle.cc_heaps.specs.Making.{IsDelegateThere, MayBeMade, delegate_name, kind_to_make, made_in, object_to_make, slots_to_make};
 ghost use Rattle.cc_heaps.specs.Changes.{IsScriptThere, KeepsKeys, script_name};
 ghost use Rattle.cc_heaps.specs.Standing.{IsReached, IsReachedOrReflects, MayHold, StandsAfter, StillStands};
 ghost use Rattle.cc_heaps.specs.Keeping.{KeepsAll};
 
 use crate::heaps::Heaps;
+use crate::heaps::to_make::ToMake;
 use crate::make_stop::MakeStop;
 use cc_names::{Name, NoMemory, RegNo, SKey, ScriptNo, SlotNo};
 use cc_script::Scripts;
 
-// Makes a plain object with so many empty slots, or, where no number is given, a weak map; its key.
-fn create(scripts: &mut Scripts, number: ScriptNo, slots: Option<SlotNo>) -> Result<SKey, NoMemory>
-    requires { IfSome slots (λ n. n ≤ most_slots) }
-    ensures made { IfOk result (λ key. scripts.new ≡ scripts.old ++ object_to_make key.0 number.0 slots ∷ []) }
+// Makes a script object; its key.
+fn create(scripts: &mut Scripts, number: ScriptNo, what: ToMake) -> Result<SKey, NoMemory>
+    requires { MayBeMade scripts.old what }
+    ensures made { IfOk result (λ key. scripts.new ≡ scripts.old ++ object_to_make key.0 number.0 what ∷ []) }
     ensures vacant { IfOk result (λ key. is_there scripts.old key.0 ≡ false) }
     ensures err { OnErr result (scripts.new ≡ scripts.old) }
 {
-    match slots {
-        Some(slots) => scripts.create_plain(number, slots),
-        None => scripts.create_map(number),
+    match what {
+        ToMake::Plain(slots) => scripts.create_plain(number, slots),
+        ToMake::Map => scripts.create_map(number),
+        ToMake::Proxy(delegate) => scripts.create_proxy(number, delegate),
     }
 }
 
@@ -64,44 +66,60 @@ impl Heaps {
         }
     }
 
-    // A plain object with the next number and so many empty slots, or a weak map; its key.
-    fn add_object(&mut self, slots: Option<SlotNo>) -> Result<SKey, NoMemory>
+    // A script object with the next number; its key.
+    fn add_object(&mut self, what: ToMake) -> Result<SKey, NoMemory>
         requires order { (owned : List ℕ) × IsInOrder owned self.old }
-        requires slots { IfSome slots (λ n. n ≤ most_slots) }
+        requires may { MayBeMade self.old.scripts what }
         requires room { self.old.heap.scripts_made < self.old.heap.limits.scripts }
         ensures made { OnOk result (self.new.heap.scripts_made ≡ self.old.heap.scripts_made + 1) }
-        ensures heap { OnOk result (self.new.heap ≡ with_object self.old.heap (kind_to_make slots) (slots_to_make slots)) }
+        ensures heap { OnOk result (self.new.heap ≡ with_object self.old.heap (kind_to_make what) (slots_to_make what) (delegate_name self.old what)) }
         ensures name { IfOk result (λ key. name_at self.new.scripts key.0 ≡ Some (object (self.old.heap.scripts_made + 1))) }
+        ensures delegate { OnOk result (delegate_name self.new what ≡ delegate_name self.old what) }
+        ensures there { OnOk result (IsDelegateThere self.new.scripts what) }
         ensures natives { self.new.keys ≡ self.old.keys }
         ensures keys { KeepsKeys self.old self.new }
         ensures same { OnErr result (self.new ≡ self.old) }
         ensures order { (owned : List ℕ) → IsInOrder owned self.old → IsInOrder owned self.new }
     {
         let number = ScriptNo(self.scripts_made + 1);
-        let key = create(&mut self.scripts, number, slots)?;
+        let key = create(&mut self.scripts, number, what)?;
         self.scripts_made += 1;
         Ok(key)
     }
 
-    // A plain object with so many empty slots, or a weak map, made and held by a register. Its name.
-    fn new_object(&mut self, r: RegNo, slots: Option<SlotNo>) -> Result<Name, MakeStop>
+    // The delegate of what is made is preserved, where it is a reflector.
+    fn preserve_delegate(&mut self, what: ToMake)
         requires order { (owned : List ℕ) × IsInOrder owned self.old }
-        requires slots { IfSome slots (λ n. n ≤ most_slots) }
+        requires there { IsDelegateThere self.old.scripts what }
+        ensures heap { self.new ≡ changed_to self.old (preserve self.old.heap (delegate_name self.old what)) }
+        ensures order { (owned : List ℕ) → IsInOrder owned self.old → IsInOrder owned self.new }
+    {
+        if let ToMake::Proxy(delegate) = what {
+            self.preserve(delegate);
+        }
+    }
+
+    // A script object made and held by a register. Its name.
+    fn new_object(&mut self, r: RegNo, what: ToMake) -> Result<Name, MakeStop>
+        requires order { (owned : List ℕ) × IsInOrder owned self.old }
+        requires may { MayBeMade self.old.scripts what }
         ensures full { result ≡ Err MakeStop.Full → self.old.heap.limits.scripts ≤ self.old.heap.scripts_made }
         ensures full_always { self.old.heap.limits.scripts ≤ self.old.heap.scripts_made → result ≡ Err MakeStop.Full }
         ensures name { IfOk result (λ x. x ≡ object (self.old.heap.scripts_made + 1)) }
-        ensures heap { OnOk result (self.new.heap ≡ make_object self.old.heap r (kind_to_make slots) (slots_to_make slots)) }
+        ensures heap { OnOk result (self.new.heap ≡ make_object (preserve self.old.heap (delegate_name self.old what)) r (kind_to_make what) (slots_to_make what) (delegate_name self.old what)) }
         ensures natives { self.new.keys ≡ self.old.keys }
         ensures kept { KeepsAll self.old self.new }
         ensures same { OnErr result (self.new ≡ self.old) }
-        ensures stands { OnOk result (StandsAfter self.old.heap self.new.heap (λ g. graph.step g (command_to_make r slots))) }
+        ensures stands { OnOk result (IsReached self.old.heap (delegate_name self.old what) →
+            StandsAfter self.old.heap self.new.heap (λ g. made_in g r what (delegate_name self.old what))) }
     {
         if self.scripts_made >= self.limits.scripts() {
             return Err(MakeStop::Full);
         }
         let name = Name::Script(ScriptNo(self.scripts_made + 1));
-        match self.add_object(slots) {
+        match self.add_object(what) {
             Ok(key) => {
+                self.preserve_delegate(what);
                 self.write_script_reg(r, Some(key));
                 Ok(name)
             }
@@ -111,7 +129,7 @@ impl Heaps {
 
     /// Makes a plain script object with `slots` empty slots (0 to 64), which register `r` holds from then on. Its name.
     ///
-    /// `Full` exactly where as many plain objects and weak maps as the limit were ever made; `NoMemory` at any other
+    /// `Full` exactly where as many plain objects, weak maps and proxies as the limit were ever made; `NoMemory` at any other
     /// time. Neither changes anything.
     pub fn new_plain(&mut self, r: RegNo, slots: SlotNo) -> Result<Name, MakeStop>
         requires order { (owned : List ℕ) × IsInOrder owned self.old }
@@ -119,35 +137,56 @@ impl Heaps {
         ensures full { result ≡ Err MakeStop.Full → self.old.heap.limits.scripts ≤ self.old.heap.scripts_made }
         ensures full_always { self.old.heap.limits.scripts ≤ self.old.heap.scripts_made → result ≡ Err MakeStop.Full }
         ensures name { IfOk result (λ x. x ≡ object (self.old.heap.scripts_made + 1)) }
-        ensures heap { OnOk result (self.new.heap ≡ make_object self.old.heap r Plain slots) }
+        ensures heap { OnOk result (self.new.heap ≡ make_object self.old.heap r Plain slots None) }
         ensures natives { self.new.keys ≡ self.old.keys }
         ensures kept { KeepsAll self.old self.new }
         ensures same { OnErr result (self.new ≡ self.old) }
         ensures stands { OnOk result (StandsAfter self.old.heap self.new.heap (λ g. graph.step g (command.Script r slots))) }
     {
-        self.new_object(r, Some(slots))
+        self.new_object(r, ToMake::Plain(slots))
     }
 
     /// Makes a weak map without entries, which register `r` holds from then on. Its name.
     ///
-    /// `Full` exactly where as many plain objects and weak maps as the limit were ever made; `NoMemory` at any other
+    /// `Full` exactly where as many plain objects, weak maps and proxies as the limit were ever made; `NoMemory` at any other
     /// time. Neither changes anything.
     pub fn new_map(&mut self, r: RegNo) -> Result<Name, MakeStop>
         requires order { (owned : List ℕ) × IsInOrder owned self.old }
         ensures full { result ≡ Err MakeStop.Full → self.old.heap.limits.scripts ≤ self.old.heap.scripts_made }
         ensures full_always { self.old.heap.limits.scripts ≤ self.old.heap.scripts_made → result ≡ Err MakeStop.Full }
         ensures name { IfOk result (λ x. x ≡ object (self.old.heap.scripts_made + 1)) }
-        ensures heap { OnOk result (self.new.heap ≡ make_object self.old.heap r Map 0) }
+        ensures heap { OnOk result (self.new.heap ≡ make_object self.old.heap r Map 0 None) }
         ensures natives { self.new.keys ≡ self.old.keys }
         ensures kept { KeepsAll self.old self.new }
         ensures same { OnErr result (self.new ≡ self.old) }
         ensures stands { OnOk result (StandsAfter self.old.heap self.new.heap (λ g. graph.step g (command.WeakMap r))) }
     {
-        self.new_object(r, None)
+        self.new_object(r, ToMake::Map)
+    }
+
+    /// Makes a proxy of a black script object, its delegate for good, which register `r` holds from then on. Its name. A
+    /// delegate that is a reflector is preserved.
+    ///
+    /// `Full` exactly where as many plain objects, weak maps and proxies as the limit were ever made; `NoMemory` at any other
+    /// time. Neither changes anything.
+    pub fn new_proxy(&mut self, r: RegNo, delegate: SKey) -> Result<Name, MakeStop>
+        requires order { (owned : List ℕ) × IsInOrder owned self.old }
+        requires black { colour_at self.old.scripts delegate.0 ≡ Some Black }
+        ensures full { result ≡ Err MakeStop.Full → self.old.heap.limits.scripts ≤ self.old.heap.scripts_made }
+        ensures full_always { self.old.heap.limits.scripts ≤ self.old.heap.scripts_made → result ≡ Err MakeStop.Full }
+        ensures name { IfOk result (λ x. x ≡ object (self.old.heap.scripts_made + 1)) }
+        ensures heap { OnOk result (self.new.heap ≡ make_proxy self.old.heap r (name_at self.old.scripts delegate.0)) }
+        ensures natives { self.new.keys ≡ self.old.keys }
+        ensures kept { KeepsAll self.old self.new }
+        ensures same { OnErr result (self.new ≡ self.old) }
+        ensures stands { OnOk result (IsReached self.old.heap (name_at self.old.scripts delegate.0) →
+            StandsAfter self.old.heap self.new.heap (λ g. graph.with_proxy g r (name_at self.old.scripts delegate.0))) }
+    {
+        self.new_object(r, ToMake::Proxy(delegate))
     }
 
     /// Register `r` holds a script object from then on, or nothing. What comes into it is exposed: it is black, with all
-    /// that it reaches over slots. Takes no memory.
+    /// that it reaches over slots and from proxies to their delegates. Takes no memory.
     pub fn set_script_reg(&mut self, r: RegNo, content: Option<SKey>)
         requires order { (owned : List ℕ) × IsInOrder owned self.old }
         requires there { IsScriptThere self.old content }
@@ -181,8 +220,8 @@ impl Heaps {
         self.scripts.set_slot(key, i, content);
     }
 
-    /// A script object that script touches is black from then on, with all that it reaches over slots: neither through
-    /// natives nor over anything else. Takes no memory.
+    /// A script object that script touches is black from then on, with all that it reaches over slots and from proxies to
+    /// their delegates: neither through natives nor over anything else. Takes no memory.
     pub fn expose(&mut self, key: SKey)
         requires order { (owned : List ℕ) × IsInOrder owned self.old }
         requires live { IsTrue (is_there self.old.scripts key.0) }

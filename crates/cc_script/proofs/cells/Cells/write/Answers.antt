@@ -54,7 +54,7 @@ returns c =
     let colours = c.self.inside.colours.items in
     let colour = get_or colours c.args.key.0 White in
     let x = held_key c.args.item in
-    let content : List (Option _) → Content = λ ys. record { slots = ys; waiting = c.body.inside.waiting } in
+    let content : List (Option _) → Content = λ ys. record { slots = ys; is_proxy = c.body.inside.is_proxy; waiting = c.body.inside.waiting } in
     let new = content (map held_key (set c.body.inside.slots.items c.args.i c.args.item)) in
     let b = filled (get_or contents c.args.key.0 nothing) there.0 in
     let d = filled new there.0 in

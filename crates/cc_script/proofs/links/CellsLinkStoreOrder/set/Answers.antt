@@ -6,7 +6,8 @@ use Rattle.slab.specs.Slab.{Slab, get}
 use Rattle.cc_names.specs.declared.kind.Colour.TheVariants.{White}
 use Rattle.cc_chain.specs.declared.link.Link.{Link}
 use Rattle.cc_chain.specs.Links.{with_link}
-use Rattle.cc_script.specs.Beings.{kind_of, name_of, native_key_of}
+use Rattle.cc_chain.proofs.Slots.{some-map}
+use Rattle.cc_script.specs.Beings.{delegate_key_of, kind_of, name_of, native_key_of}
 use Rattle.cc_script.specs.Paired.{paired}
 use Rattle.cc_script.specs.Cells.{Bare, Label, Linked, beside_order, coloured_slab, filled, filled_slab, in_colour, nothing, order_links}
 use Rattle.cc_script.proofs.Linking.{beside-same}
@@ -29,7 +30,7 @@ returns-clause-links c =
     let colours = c.self.inside.colours.items in
     let content = get_or contents c.args.key nothing in
     let inside = c.behind-self.inside in
-    let label : Label = record { name = name_of inside.being; kind = kind_of inside.being; native = native_key_of inside.being; order = c.of.result } in
+    let label : Label = record { name = name_of inside.being; kind = kind_of inside.being; native = native_key_of inside.being; delegate = delegate_key_of inside.being; order = c.of.result } in
     ap (λ (slots : List (Option Bare)). order_links (paired in_colour White slots colours)) (paired-set filled nothing s.slots contents c.args.key (Some label))
     ∙ (link-set (filled_slab s contents) colours c.args.self.now c.self.view_is c.args.key (λ (z : Linked). z.order) (filled content c.index_mut.result.now) (filled content label)
     (read-filled s contents c.args.key c.index_mut.result.now c.index_mut.ensures.value)
@@ -45,7 +46,7 @@ returns-clause-rest c =
     let colour = get_or colours c.args.key White in
     let content = get_or contents c.args.key nothing in
     let inside = c.behind-self.inside in
-    let label : Label = record { name = name_of inside.being; kind = kind_of inside.being; native = native_key_of inside.being; order = c.of.result } in
+    let label : Label = record { name = name_of inside.being; kind = kind_of inside.being; native = native_key_of inside.being; delegate = delegate_key_of inside.being; order = c.of.result } in
     let b = filled content c.index_mut.result.now in
     let d = filled content label in
     let at = read-filled s contents c.args.key c.index_mut.result.now c.index_mut.ensures.value in
