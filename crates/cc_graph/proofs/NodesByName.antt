@@ -6,6 +6,7 @@ use Rattle.cc_names.specs.declared.name.Name.TheVariants.{Native, Script, Reflec
 use Rattle.cc_names.specs.declared.number.NativeNo.{NativeNo}
 use Rattle.cc_names.specs.declared.number.ScriptNo.{ScriptNo}
 use Rattle.cc_names.specs.Names.{native, same_name}
+use Rattle.cc_names.proofs.NameTests.{same_name-true}
 use Rattle.cc_pages.specs.declared.pages.Pages.{Pages}
 use Rattle.cc_pages.specs.Values.{value_at}
 use Rattle.cc_graph.specs.declared.numbers.Numbers.{Numbers}
@@ -66,6 +67,14 @@ pub numbers-none : (ns : Numbers) → ((n : ℕ) → value_at ns.natives n ≡ N
 numbers-none ns natives scripts reflectors (Native n) = natives n.0
 numbers-none ns natives scripts reflectors (Script n) = scripts n.0
 numbers-none ns natives scripts reflectors (Reflector n) = reflectors n.0
+
+-- a name that has a number may be given it
+pub numbers-found : (ns : Numbers) (name : Name) (n : ℕ) → number_at ns name ≡ Some n → IsChangedAt ns ns (Some n) name
+numbers-found ns name n has x = go (same_name name x) refl
+  where
+    go : (b : Bool) → same_name name x ≡ b → number_at ns x ≡ (if b then Some n else number_at ns x)
+    go true e = ap (number_at ns) (sym (same_name-true name x e)) ∙ has
+    go false e = refl
 
 -- The natives by rising number
 
