@@ -1,7 +1,7 @@
 -- CONTENTS BY NAMES: of one kind, and by kind.
 use Rattle.std.proofs.Common.{◌≡◌, ℕ, true, List, Option, Some, None, is_some, option_map, IsTrue, refl, sym, ◌∙◌, ap, arith}
 use Rattle.std.proofs.lemmas.Bool.{false≢true}
-use Rattle.cc_counted.specs.Scripts.{is_script}
+use Rattle.cc_counted.specs.Scripts.{is_script as is_script_held}
 use Rattle.cc_names.specs.declared.name.Name.{Name}
 use Rattle.cc_names.specs.declared.number.NKey.{NKey}
 use Rattle.cc_names.specs.declared.number.SKey.{SKey}
@@ -48,7 +48,7 @@ module _ (owned : List ℕ) (v : Keyed) (order : IsInOrder owned v) where
   native-held x there = grind (arith, false≢true, script-is)
 
   -- and a script object where it is a script object
-  script-held_there : (x : Option Held) → IsThere v x → is_script_there (held_name v x) ≡ is_script x
+  script-held_there : (x : Option Held) → IsThere v x → is_script_there (held_name v x) ≡ is_script_held x
   script-held_there None there = refl
   script-held_there (Some (held.Native key)) there = go (number_at v key.0) there
     where
@@ -61,5 +61,5 @@ module _ (owned : List ℕ) (v : Keyed) (order : IsInOrder owned v) where
   pub is_native_held-named : (x : Option Held) (y : Option Name) → held_name v x ≡ y → IsThere v x → is_native_held x ≡ is_native_there y
   is_native_held-named x y name there = sym (native-held x there) ∙ ap is_native_there name
 
-  pub is_script_held-named : (x : Option Held) (y : Option Name) → held_name v x ≡ y → IsThere v x → is_script x ≡ is_script_there y
+  pub is_script_held-named : (x : Option Held) (y : Option Name) → held_name v x ≡ y → IsThere v x → is_script_held x ≡ is_script_there y
   is_script_held-named x y name there = sym (script-held_there x there) ∙ ap is_script_there name
