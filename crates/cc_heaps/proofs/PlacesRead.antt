@@ -48,6 +48,10 @@ use Rattle.cc_heaps.specs.Places.{places_at}
 use Rattle.cc_heaps.proofs.Content.{held-named}
 use Rattle.cc_heaps.proofs.Naming.{name_in}
 
+-- a script object has at most 64 slots: a reflector has four
+pub fits-few : (x : Name) (kind : Kind) (slots : Slots) → FitsName x kind slots → length slots ≤ 64
+fits-few x kind slots f = grind arith
+
 -- what is there stands at its key
 pub native-live : {v w : Keyed} {x : Held} {key : NKey} → w ≡ v → x ≡ held.Native key → IsThere v (Some x) → is_some (number_at w key.0) ≡ true
 native-live {v} {w} {x} {key} e is there = subst (λ y. IsThere w (Some y)) is (subst (λ u. IsThere u (Some x)) (sym e) there)
@@ -167,19 +171,10 @@ module _ (p : Inside) (owned : List ℕ) (l : IsLinked p) (o : IsInOrder owned (
     pub script_slots-few : length own_slots ≤ most_slots
     script_slots-few = omega (
       arith,
-      fit q.name q.kind (map (name_held p.scripts) q.slots) (o.sound.well_formed.kinds (named_object p.scripts q) (Among-map (named_object p.scripts) q p.scripts q-there)),
+      fits-few q.name q.kind (map (name_held p.scripts) q.slots) (o.sound.well_formed.kinds (named_object p.scripts q) (Among-map (named_object p.scripts) q p.scripts q-there)),
       length-map q.slots (name_held p.scripts),
       ap length slots-are,
     )
-      where
-        fit : (x : Name) (kind : Kind) (slots : Slots) → FitsName x kind slots → length slots ≤ most_slots
-        fit (name.Native j) kind slots f = absurd f
-        fit (name.Script j) Plain slots f = f
-        fit (name.Script j) Map slots f = subst (λ ss. length ss ≤ most_slots) (sym f) (omega arith)
-        fit (name.Script j) Reflector slots f = absurd f
-        fit (name.Reflector j) Reflector slots f = omega (arith, f)
-        fit (name.Reflector j) Plain slots f = absurd f
-        fit (name.Reflector j) Map slots f = absurd f
 
     -- WHAT A SLOT HOLDS has the name that stands at its place,
     pub slot-named : (i : ℕ) (x : Option SKey) → i < length own_slots → option_map (λ (r : SKey). r.0) x ≡ get_or own_slots i None →
