@@ -27,6 +27,7 @@ use Rattle.cc_names.specs.declared.number.SKey.{SKey}
 use Rattle.cc_names.specs.Names.{native, object, reflector, same_name, is_native}
 use Rattle.cc_names.proofs.NameTests.{same_name-refl}
 use Rattle.cc_names.specs.Sizes.{most_slots}
+use Rattle.cc_names.specs.Sizes.{most_slots}
 use Rattle.cc_model.specs.Slots.{Slots}
 use Rattle.cc_model.specs.Checks.{slots_or_none, native_of}
 use Rattle.cc_model.specs.Places.{places_in, places_of_native, places_of_script}
@@ -49,7 +50,7 @@ use Rattle.cc_heaps.proofs.Content.{held-named}
 use Rattle.cc_heaps.proofs.Naming.{name_in}
 
 -- a script object has at most 64 slots: a reflector has four
-pub fits-few : (x : Name) (kind : Kind) (slots : Slots) → FitsName x kind slots → length slots ≤ 64
+pub fits-few : (x : Name) (kind : Kind) (slots : Slots) → FitsName x kind slots → length slots ≤ most_slots
 fits-few x kind slots f = grind arith
 
 -- what is there stands at its key
