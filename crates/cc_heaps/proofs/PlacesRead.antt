@@ -27,7 +27,6 @@ use Rattle.cc_names.specs.declared.number.SKey.{SKey}
 use Rattle.cc_names.specs.Names.{native, object, reflector, same_name, is_native}
 use Rattle.cc_names.proofs.NameTests.{same_name-refl}
 use Rattle.cc_names.specs.Sizes.{most_slots}
-use Rattle.cc_names.specs.Sizes.{most_slots}
 use Rattle.cc_model.specs.Slots.{Slots}
 use Rattle.cc_model.specs.Checks.{slots_or_none, native_of}
 use Rattle.cc_model.specs.Places.{places_in, places_of_native, places_of_script}
