@@ -4,6 +4,7 @@ use Rattle.std.specs.Option.{option_to_list}
 use Rattle.std.proofs.Math.ListN.{get_or-map}
 use Rattle.std.proofs.lemmas.Bool.{false≢true}
 use Rattle.std.proofs.lemmas.List.{length-map}
+use Rattle.cc_heaps.proofs.PlacesRead.{fits-few}
 use Rattle.cc_lists.specs.Members.{Among}
 use Rattle.cc_lists.proofs.Filtering.{find-among}
 use Rattle.cc_lists.proofs.ListWrites.{only-member}
@@ -55,10 +56,6 @@ is_map_kind-some kind e = search
 -- a weak map has none, and what is no weak map has its own
 kind-slots : (x : Name) (kind : Kind) (slots : Slots) → FitsName x kind slots → slots_or_none (slots_of_kind kind slots) ≡ slots
 kind-slots x kind slots f = grind arith
-
--- at most 64 of them: a reflector has four
-fits-few : (x : Name) (kind : Kind) (slots : Slots) → FitsName x kind slots → length slots ≤ most_slots
-fits-few x kind slots f = grind arith
 
 module _ (owned : List ℕ) (v : Keyed) (order : IsInOrder owned v) where
   -- the slots of a script object that is there
