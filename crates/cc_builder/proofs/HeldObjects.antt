@@ -2,6 +2,7 @@
 use Rattle.std.proofs.Common.{◌≡◌, ℕ, Bool, true, false, ◌||◌, List, [], Option, Some, None, IsSome, IsTrue, is_some, option_map, option_and_then, refl, sym, ◌∙◌, ap, subst, find, ◌==◌}
 use Rattle.std.specs.List.{filter}
 use Rattle.std.proofs.lemmas.Bool.{false≢true, true≢false, not-true}
+use Rattle.cc_heaps.proofs.GrayNames.{gray-named}
 use denote.Enum.Bare.{sameb}
 use Rattle.cc_lists.specs.Members.{Among}
 use Rattle.cc_lists.proofs.Members.{Among-map, Among-filter, Among-filtered, Among-passes}
@@ -116,30 +117,6 @@ object-places v key s =
     ap (λ (o : Option Object). slots_or_none (option_and_then (places_in v.heap) (option_map (λ p. p.name) o))) s.at
     ∙ ap slots_or_none (places_in-script v.heap s.body.name s.kind)
     ∙ ap (λ (o : Option HeapScript). slots_or_none (option_map places_of_script o)) s.found
-
--- its colour is that of its name
-gray-named : (h : Heap) (o : HeapScript) → IsWellFormed h → Among o h.scripts → is_gray_in h o.name ≡ is_gray_colour o.colour
-gray-named h o well m = by_colour (is_gray_colour o.colour) refl
-  where
-    gray : HeapScript → Bool
-    gray p = is_gray_colour p.colour
-
-    named : List HeapScript
-    named = filter (λ p. same_name p.name o.name) h.scripts
-
-    none : (f : Option HeapScript) → find gray named ≡ f → gray o ≡ false → is_some f ≡ false
-    none None e n = refl
-    none (Some p) e n =
-        let there : Among p named = find-among gray named p e in
-        let same : o ≡ p = only-member (λ q. same_name q.name o.name) h.scripts o p (scripts-once h well o.name) m (same_name-refl o.name)
-        (Among-filtered (λ q. same_name q.name o.name) p h.scripts there) (Among-passes (λ q. same_name q.name o.name) p h.scripts there) in
-        absurd (false≢true (sym n ∙ ap gray same ∙ find-passes gray named p e))
-
-    by_colour : (b : Bool) → gray o ≡ b → is_some (find gray named) ≡ b
-    by_colour true e =
-        let f = find-some gray named o (Among-filter (λ p. same_name p.name o.name) o h.scripts m (same_name-refl o.name)) e in
-        ap is_some f.1
-    by_colour false e = none (find gray named) refl e
 
 -- the test of gray
 gray-same : (colour : Colour) → sameb the_type colour Gray ≡ is_gray_colour colour

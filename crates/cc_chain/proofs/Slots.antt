@@ -5,6 +5,7 @@ use Rattle.std.specs.Option.{option_flatten}
 use Rattle.std.proofs.Math.ListN.{get_or-map}
 use Rattle.std.proofs.Math.Seq.{map-set_same}
 use Rattle.std.proofs.lemmas.List.{map-set}
+use Rattle.cc_lists.proofs.Held.{is_some-map}
 use Rattle.cc_lists.specs.Members.{Among}
 use Rattle.cc_lists.specs.Walks.{first_of, first_key, next_key}
 use Rattle.cc_chain.specs.declared.link.Link.{Link}
@@ -32,13 +33,9 @@ pub parts-kept : {X Y : Type 0} (part : X → Y) (slots : List (Option X)) (key 
 parts-kept part slots key x y e same = map-set_same (option_map part) slots key (Some x) None (ap Some same ∙ ap (option_map part) (sym e))
 
 -- a value stands there where its part does
-pub some-map : {X Y : Type 0} (part : X → Y) (o : Option X) → is_some (option_map part o) ≡ is_some o
-some-map part None = refl
-some-map part (Some x) = refl
-
 pub parts-held : {X Y : Type 0} (part : X → Y) (slots : List (Option X)) (key : ℕ) →
     is_some (slice_index_or (map (option_map part) slots) key None) ≡ is_some (slice_index_or slots key None)
-parts-held part slots key = ap is_some (parts-read part slots key) ∙ some-map part (slice_index_or slots key None)
+parts-held part slots key = ap is_some (parts-read part slots key) ∙ is_some-map part (slice_index_or slots key None)
 
 -- THE LINKS IN SLOTS
 module _ {X : Type 0} (part : X → Option Link) where
@@ -76,7 +73,7 @@ module _ {X : Type 0} (part : X → Option Link) where
 
   -- a key at which a value stands is live
   pub held-live : (slots : List (Option X)) (key : ℕ) → IsTrue (is_some (slice_index_or slots key None)) → IsTrue (is_live (slot_at part slots) key)
-  held-live slots key held = some-map part (slice_index_or slots key None) ∙ held
+  held-live slots key held = is_some-map part (slice_index_or slots key None) ∙ held
 
 -- WHAT A CHAIN SAYS OF A KEY: one of its list is linked,
 module _ {R : Type 0} (links : Links) (chain : Chain R) (keys : List ℕ) (c : IsChain links chain keys) (key : ℕ) where

@@ -1,7 +1,8 @@
 -- A NATIVE MADE at a key that held nothing.
-use Rattle.std.proofs.Common.{◌≡◌, ◌≢◌, ◌<◌, ◌≤◌, ℕ, zero, suc, List, [], ◌∷◌, ◌++◌, map, length, replicate, Option, Some, None, true, false, refl, sym, ◌∙◌, ap, subst, ⊎_elim, ◌⊎◌, inl, inr, arith}
+use Rattle.std.proofs.Common.{◌≡◌, ◌≢◌, ◌<◌, ◌≤◌, ℕ, zero, suc, List, [], ◌∷◌, ◌++◌, map, length, replicate, Option, Some, None, true, false, sym, ◌∙◌, ap, subst, ⊎_elim, ◌⊎◌, inl, inr, arith}
 use Rattle.std.proofs.lemmas.Bool.Decides.{eqb_tells}
 use Rattle.std.proofs.lemmas.List.{map-append, length-map, length-replicate}
+use Rattle.cc_lists.proofs.Held.{map-replicate}
 use Rattle.cc_lists.specs.Members.{Among}
 use Rattle.cc_lists.proofs.Members.{Among-append, Among-left, Among-right, Among-map_cases}
 use Rattle.cc_model.specs.Slots.{empty_slots}
@@ -34,11 +35,6 @@ HasKeys-placed l p = record {
       one_key l p a b c.0 d.0 c.1 d.1 (c.2 ∙ sym d.2);
   rising = natives-rising l p;
 }
-
--- a function over a list of one value
-map-replicate : {X Y : Type 0} (f : X → Y) (n : ℕ) (x : X) → map f (replicate n x) ≡ replicate n (f x)
-map-replicate f zero x = refl
-map-replicate f (suc n) x = ap (λ ys. f x ∷ ys) (map-replicate f n x)
 
 module _ (l : Lists) (p : IsPlaced l) (key : ℕ) (d : Placed) (cells : List (Option Placed)) (vacant : cell_at l.cells key ≡ None) (at : cell_at cells key ≡ Some d)
     (others : (k : ℕ) → k ≢ key → cell_at cells k ≡ cell_at l.cells k)

@@ -6,6 +6,7 @@ use Rattle.std.proofs.lemmas.Bool.{cases_lt, eq-eqb, lt-ltb, ltb-true, ltb-false
 use Rattle.std.proofs.lemmas.Bool.Decides.{eqb_tells}
 use Rattle.std.proofs.lemmas.List.{get_or-set_same, get_or-set_other}
 use Rattle.std.proofs.lemmas.List.Sums.{count_by-le-length, sum_by-cons}
+use Rattle.cc_counted.proofs.Changing.{cell-within}
 use Rattle.cc_lists.specs.Members.{Among}
 use Rattle.cc_lists.specs.Walks.{is_above}
 use Rattle.cc_lists.proofs.Members.{Among-map}
@@ -18,7 +19,7 @@ use Rattle.cc_holders.specs.declared.entry.Entry.TheVariants.{Unknown, Known}
 use Rattle.cc_holders.specs.declared.holders.Holders.{Holders}
 use Rattle.cc_holders.specs.Entries.{IsFirst, behind, count_of, key_of, one_if, with_key}
 use Rattle.cc_holders.specs.Known.{entry_at, key_at}
-use Rattle.cc_holders.proofs.Counting.{counted, past}
+use Rattle.cc_holders.proofs.Counting.{counted}
 use Rattle.cc_holders.proofs.Known.{entries-kept}
 use Rattle.cc_counted.specs.declared.held.Held.{Held}
 use Rattle.cc_counted.specs.declared.held.Held.TheVariants as held
@@ -29,10 +30,6 @@ use Rattle.cc_counted.specs.Scripts.{AreKnown, HasNoHolder, HasNonePlaced, IsNex
 use Rattle.cc_counted.proofs.Places.{number_at-cell, number_at-found, shown-number, the_number-cell}
 use Rattle.cc_counted.proofs.Reading.{slots_of-cell}
 use Rattle.cc_counted.proofs.Reflecting.{preserved_of-cell, reflector_at-cell}
-
--- a native that is there stands within the list
-cell-inside : (cells : List (Option Placed)) (key : ℕ) (c : Placed) → cell_at cells key ≡ Some c → key < length cells
-cell-inside cells key c at = ⊎_elim (λ l. l) (λ over. let none : None ≡ Some c = sym (past cells key None over) ∙ at in absurd (cc)) (cases_lt key (length cells))
 
 -- what is chosen of a number itself, and of another
 chosen : (m : ℕ) (x y : Entry) → (if m == m then x else y) ≡ x
@@ -95,7 +92,7 @@ module _ (cells : List (Option Placed)) (h : Holders) (k : AreKnown cells h) whe
   }
     where
       here : (q : ℕ) → q ≡ key → cell_at (set cells key (Some d)) q ≡ Some d
-      here q t = ap (cell_at (set cells key (Some d))) t ∙ get_or-set_same cells key (Some d) None (cell-inside cells key c at)
+      here q t = ap (cell_at (set cells key (Some d))) t ∙ get_or-set_same cells key (Some d) None (cell-within cells key c at)
 
   -- and refers to as many
   pub known-counted : (key : ℕ) (c d : Placed) → cell_at cells key ≡ Some c → d.number ≡ c.number → length d.slots ≤ most_slots → scripts_of d ≡ scripts_of c → AreKnown (set cells key (Some d)) h
@@ -145,7 +142,7 @@ module _ (cells : List (Option Placed)) (h : Holders) (k : AreKnown cells h) whe
   }
     where
       gone : (q : ℕ) → q ≡ key → cell_at (set cells key None) q ≡ None
-      gone q t = ap (cell_at (set cells key None)) t ∙ get_or-set_same cells key None None (cell-inside cells key c at)
+      gone q t = ap (cell_at (set cells key None)) t ∙ get_or-set_same cells key None None (cell-within cells key c at)
 
   -- A number that no native has is unknown,
   unknown-fresh : (m : ℕ) → ((key : ℕ) (c : Placed) → cell_at cells key ≡ Some c → c.number ≢ m) → entry_at h m ≡ Unknown
@@ -258,7 +255,7 @@ module _ (s t : Stored) (h : Holders) (k : AreKnown s.lists.cells h) (key : ℕ)
   cells-then = ap (λ (u : Stored). u.lists.cells) e ∙ ap (λ o. set s.lists.cells key (option_map f o)) at
 
   there-then : cell_at t.lists.cells key ≡ Some (f c)
-  there-then = ap (λ cs. cell_at cs key) cells-then ∙ get_or-set_same s.lists.cells key (Some (f c)) None (cell-inside s.lists.cells key c at)
+  there-then = ap (λ cs. cell_at cs key) cells-then ∙ get_or-set_same s.lists.cells key (Some (f c)) None (cell-within s.lists.cells key c at)
 
   pub live-then : is_some (cell_at t.lists.cells key) ≡ true
   live-then = ap (λ (o : Option Placed). is_some o) there-then

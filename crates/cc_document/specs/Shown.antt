@@ -14,15 +14,12 @@ use Rattle.cc_laws_run.specs.Doomed.{IsSuspectedNow}
 use Rattle.cc_heaps.specs.Keyed.{Keyed}
 use Rattle.cc_builder.specs.Building.{Built}
 use Rattle.cc_collector.specs.Kept.{RunsIn, machine_of}
+use Rattle.cc_document.specs.declared.parts.Parts.{Parts}
 use Rattle.cc_document.specs.declared.variable.Variable.{Variable}
 use Rattle.cc_document.specs.Told.{AreMade}
 use Rattle.cc_document.specs.Words.{element_slots, elements, parent_slot, listener_slot, child_slot, spoken_slot, data_register, closure_register, wrapper_register}
 
 -- the heaps, and the running collection
-pub record Parts : Type 0 where
-  pub heaps : Keyed
-  pub running : Option Built
-
 abbrev pub parts : Keyed → Option Built → Parts
 parts v c = record { heaps = v; running = c }
 

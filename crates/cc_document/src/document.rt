@@ -20,9 +20,8 @@ ghost use Rattle.cc_heaps.specs.Leaving.{NothingLeft, TellsWhatIsFreed};
 ghost use Rattle.cc_document.specs.Told.{AreMade};
 
 use crate::error::DocumentError;
-use crate::reading::{data_of, element_at, element_in, listener_of, place_of};
+use crate::parts::Parts;
 use crate::variable::{CHILDREN, CLOSURE, DATA, PARENT, SLOTS, Variable};
-use crate::writing::{close_over, empty, enter, hand_over, visit, write};
 use cc_collector::{Collector, Ended, Steps};
 use cc_heaps::Heaps;
 use cc_model::Notices;
@@ -34,18 +33,18 @@ use std::sync::ledger::{Blank, Ledger};
 /// A document: the two heaps with its elements, listeners and data, and their collector.
 #[derive(Drop)]
 pub struct Document {
-    heaps: Heaps,
-    collector: Collector,
+    parts: Parts,
 }
 
 impl Model for Document {
-    ghost use Rattle.cc_document.specs.Shown.{Parts, IsKept, parts};
+    ghost use Rattle.cc_document.specs.declared.parts.Parts.{Parts};
+    ghost use Rattle.cc_document.specs.Shown.{IsKept};
 
     ghost Value = { Parts };
 
-    ghost view = { λ d. parts d.heaps d.collector };
+    ghost view = { λ d. d.parts };
 
-    ghost invariant = { λ d. IsKept (parts d.heaps d.collector) };
+    ghost invariant = { λ d. IsKept d.parts };
 }
 
 impl Document {
@@ -63,9 +62,9 @@ impl Document {
         }
         let mut heaps = Heaps::new(alloc, limits)?;
         heaps.new_map(DATA)?;
+        let running = Collector::new(alloc);
         Ok(Document {
-            heaps,
-            collector: Collector::new(alloc),
+            parts: Parts { heaps, running },
         })
     }
 
@@ -73,14 +72,14 @@ impl Document {
     pub fn element(&self, at: Variable) -> Option<NativeNo>
         ensures { (g : Graph) → Shows self.now g → option_map (λ n. n.0) result ≡ element_of (in_variable (objects_of g) at.0) }
     {
-        element_in(&self.heaps, at)
+        self.parts.element_in(at)
     }
 
     /// The parent of the element in a variable.
     pub fn parent(&self, of: Variable) -> Option<NativeNo>
         ensures { (g : Graph) → Shows self.now g → option_map (λ n. n.0) result ≡ parent_of (objects_of g) (in_variable (objects_of g) of.0) }
     {
-        element_at(&self.heaps, &self.collector, of, PARENT)
+        self.parts.element_at(of, PARENT)
     }
 
     /// The child at a place, 0 to 7, of the element in a variable.
@@ -88,21 +87,21 @@ impl Document {
         requires within { place < places }
         ensures { (g : Graph) → Shows self.now g → option_map (λ n. n.0) result ≡ child_of (objects_of g) (in_variable (objects_of g) of.0) place }
     {
-        element_at(&self.heaps, &self.collector, of, place + CHILDREN)
+        self.parts.element_at(of, place + CHILDREN)
     }
 
     /// The element of which the listener of the element in a variable speaks; none where it has no listener.
     pub fn listener(&self, of: Variable) -> Option<NativeNo>
         ensures { (g : Graph) → Shows self.now g → option_map (λ n. n.0) result ≡ listener_of (objects_of g) (in_variable (objects_of g) of.0) }
     {
-        listener_of(&self.heaps, &self.collector, of)
+        self.parts.listener_of(of)
     }
 
     /// The element of which the data of the element in a variable speaks; none where it has no data.
     pub fn data(&self, of: Variable) -> Option<NativeNo>
         ensures { (g : Graph) → Shows self.now g → option_map (λ n. n.0) result ≡ data_of (objects_of g) (in_variable (objects_of g) of.0) }
     {
-        data_of(&self.heaps, &self.collector, of)
+        self.parts.data_of(of)
     }
 
     /// Makes an element, which a variable holds from then on: without parent, children, listener or data. Its number.
@@ -122,7 +121,7 @@ impl Document {
         ensures same { OnErr result (self.new ≡ self.old) }
         ensures tells { TellsWhatIsFreed self.old.heaps.heap self.new.heaps.heap (N.telling out.old) (N.telling out.new) }
     {
-        match self.heaps.new_native(into.0, SLOTS, out)? {
+        match self.parts.heaps.new_native(into.0, SLOTS, out)? {
             Name::Native(number) => Ok(number),
             Name::Script(_) | Name::Reflector(_) => unreachable!(),
         }
@@ -154,9 +153,8 @@ impl Document {
         let Some(place) = self.place(parent, None) else {
             return Err(DocumentError::NoPlace);
         };
-        let Document { heaps, collector } = self;
-        write(heaps, collector, child, PARENT, Some(parent), out);
-        write(heaps, collector, parent, place + CHILDREN, Some(child), out);
+        self.parts.write(child, PARENT, Some(parent), out);
+        self.parts.write(parent, place + CHILDREN, Some(child), out);
         Ok(())
     }
 
@@ -185,9 +183,8 @@ impl Document {
         let Some(place) = self.place(parent, removed) else {
             return Err(DocumentError::NoChild);
         };
-        let Document { heaps, collector } = self;
-        write(heaps, collector, child, PARENT, None, out);
-        write(heaps, collector, parent, place + CHILDREN, None, out);
+        self.parts.write(child, PARENT, None, out);
+        self.parts.write(parent, place + CHILDREN, None, out);
         Ok(())
     }
 
@@ -216,10 +213,9 @@ impl Document {
         if self.element(to).is_none() || self.element(about).is_none() {
             return Err(DocumentError::Empty);
         }
-        let Document { heaps, collector } = self;
-        close_over(heaps, collector, about)?;
-        hand_over(heaps, collector, to, out);
-        empty(heaps, collector, CLOSURE);
+        self.parts.close_over(about)?;
+        self.parts.hand_over(to, out);
+        self.parts.empty(CLOSURE);
         Ok(())
     }
 
@@ -241,13 +237,12 @@ impl Document {
         if self.element(of).is_none() || self.element(about).is_none() {
             return Err(DocumentError::Empty);
         }
-        let Document { heaps, collector } = self;
-        close_over(heaps, collector, about)?;
-        if let Err(stop) = enter(heaps, collector, of) {
-            empty(heaps, collector, CLOSURE);
+        self.parts.close_over(about)?;
+        if let Err(stop) = self.parts.enter(of) {
+            self.parts.empty(CLOSURE);
             return Err(stop);
         }
-        empty(heaps, collector, CLOSURE);
+        self.parts.empty(CLOSURE);
         Ok(())
     }
 
@@ -258,8 +253,7 @@ impl Document {
         ensures makes { Makes 0 0 self.old self.new }
         ensures tells { TellsWhatIsFreed self.old.heaps.heap self.new.heaps.heap (N.telling out.old) (N.telling out.new) }
     {
-        let Document { heaps, collector } = self;
-        visit(heaps, collector, into, of, place + CHILDREN, out);
+        self.parts.visit(into, of, place + CHILDREN, out);
     }
 
     /// A variable holds the parent of the element in another, or nothing where it has none.
@@ -268,8 +262,7 @@ impl Document {
         ensures makes { Makes 0 0 self.old self.new }
         ensures tells { TellsWhatIsFreed self.old.heaps.heap self.new.heaps.heap (N.telling out.old) (N.telling out.new) }
     {
-        let Document { heaps, collector } = self;
-        visit(heaps, collector, into, of, PARENT, out);
+        self.parts.visit(into, of, PARENT, out);
     }
 
     /// A variable holds nothing from then on.
@@ -278,14 +271,14 @@ impl Document {
         ensures makes { Makes 0 0 self.old self.new }
         ensures tells { TellsWhatIsFreed self.old.heaps.heap self.new.heaps.heap (N.telling out.old) (N.telling out.new) }
     {
-        self.heaps.set_native_reg(variable.0, None, out);
+        self.parts.heaps.set_native_reg(variable.0, None, out);
     }
 
     /// Whether a collection runs.
     pub fn is_collecting(&self) -> bool
         ensures { result ≡ is_some self.now.running }
     {
-        self.collector.running()
+        self.parts.running.running()
     }
 
     /// Traces the script objects, and frees those that nothing leads to: see `Collector::gc`. To be called now and then
@@ -298,7 +291,7 @@ impl Document {
         ensures tells { TellsWhatLeaves self.old.heaps.heap self.new.heaps.heap (N.telling out.old) (N.telling out.new) }
         ensures swept { IsSwept (machine_of self.old.heaps.heap self.old.running) (machine_of self.new.heaps.heap self.new.running) (N.telling out.old) (N.telling out.new) }
     {
-        self.collector.gc(&mut self.heaps, out);
+        self.parts.running.gc(&mut self.parts.heaps, out);
     }
 
     /// A few units of a collection, to be called in each frame of the host: see `Collector::slice`.
@@ -313,8 +306,7 @@ impl Document {
         ensures sliced { (steps : ℕ) × IsSliced units (machine_of self.old.heaps.heap self.old.running) (machine_of self.new.heaps.heap self.new.running)
             (progress_of result) 0 steps (N.telling out.old) (N.telling out.new) }
     {
-        let Document { heaps, collector } = self;
-        slice::<Brand, N>(heaps, collector, units, out, Blank::new(1))
+        slice::<Brand, N>(&mut self.parts, units, out, Blank::new(1))
     }
 
     /// Leaves in the heaps exactly what the variables lead to, with the weak map of all data, which is all that script
@@ -331,7 +323,7 @@ impl Document {
         ensures keeps { KeepsWhatIsReached self.old.heaps.heap self.new.heaps.heap }
         ensures tells { TellsWhatLeaves self.old.heaps.heap self.new.heaps.heap (N.telling out.old) (N.telling out.new) }
     {
-        self.collector.settle(&mut self.heaps, out)
+        self.parts.running.settle(&mut self.parts.heaps, out)
     }
 
     /// Lists each element by rising number, then each script object in order of making, whether anything leads to them or
@@ -340,7 +332,7 @@ impl Document {
         ensures told { Tells (N.telling out.old) (N.telling out.new) (map Listed (census_names self.now.heaps.heap)) }
         ensures count { result ≡ length (census_names self.now.heaps.heap) }
     {
-        self.heaps.census(out)
+        self.parts.heaps.census(out)
     }
 
     /// The lowest place of the element in a variable that has this child, or none.
@@ -353,30 +345,31 @@ impl Document {
         ensures none { result ≡ None → (g : Graph) → Shows self.now g → (place : ℕ) → place < places →
             child_of (objects_of g) (in_variable (objects_of g) parent.0) place ≢ option_map (λ n. n.0) child }
     {
-        place_of(&self.heaps, &self.collector, parent, child)
+        self.parts.place_of(parent, child)
     }
 }
 
 /// Units of a collection that nobody counts.
 fn slice<L: Ledger, N: Notices>(
-    heaps: &mut Heaps,
-    collector: &mut Collector,
+    parts: &mut Parts,
     units: u32,
     out: &mut N,
     blank: Blank,
 ) -> Result<Ended, NoMemory>
-    requires runs { RunsIn heaps.old collector.old }
+    requires runs { RunsIn parts.old.heaps parts.old.running }
     requires name { blank.name ≡ L.name }
     requires parts { blank.parts ≡ L.parts }
     requires some { 0 < L.parts }
-    ensures sliced { (steps : ℕ) × IsSliced units (machine_of heaps.old.heap collector.old) (machine_of heaps.new.heap collector.new)
+    ensures sliced { (steps : ℕ) × IsSliced units (machine_of parts.old.heaps.heap parts.old.running) (machine_of parts.new.heaps.heap parts.new.running)
         (progress_of result) 0 steps (N.telling out.old) (N.telling out.new) }
-    ensures keeps { KeepsWhatIsReached heaps.old.heap heaps.new.heap }
-    ensures tells { TellsWhatLeaves heaps.old.heap heaps.new.heap (N.telling out.old) (N.telling out.new) }
-    ensures stands { StillStands heaps.old.heap heaps.new.heap }
-    ensures suspected { IsSuspectedNow (machine_of heaps.old.heap collector.old) → IsSuspectedNow (machine_of heaps.new.heap collector.new) }
-    ensures runs { RunsIn heaps.new collector.new }
+    ensures keeps { KeepsWhatIsReached parts.old.heaps.heap parts.new.heaps.heap }
+    ensures tells { TellsWhatLeaves parts.old.heaps.heap parts.new.heaps.heap (N.telling out.old) (N.telling out.new) }
+    ensures stands { StillStands parts.old.heaps.heap parts.new.heaps.heap }
+    ensures suspected { IsSuspectedNow (machine_of parts.old.heaps.heap parts.old.running) → IsSuspectedNow (machine_of parts.new.heaps.heap parts.new.running) }
+    ensures runs { RunsIn parts.new.heaps parts.new.running }
 {
     let mut steps = Steps::<L>::new(blank);
-    collector.slice(heaps, units, out, &mut steps)
+    parts
+        .running
+        .slice(&mut parts.heaps, units, out, &mut steps)
 }

@@ -16,6 +16,7 @@
 
 mod document;
 mod error;
+mod parts;
 mod reading;
 mod variable;
 mod writing;

@@ -1,7 +1,7 @@
 -- A REFLECTOR PRESERVED that is there: the heaps stand for the graph in which it is, the colour invariant stays, every
 -- snapshot that was fresh is fresh where it is not gray, and no unreached native is forgotten.
 use Rattle.cc_laws_snapshot.proofs.Face.{flag_written-fresh, flag_written-suspected, gray-tested, native-edge, reached-kept}
-use Rattle.std.proofs.Common.{arith, ◌≡◌, ℕ, ◌==◌, Bool, true, false, List, [], ◌∷◌, Option, Some, None, option_map, refl, sym, ◌∙◌, ap, subst, ⊎_elim}
+use Rattle.std.proofs.Common.{arith, ◌≡◌, ℕ, ◌==◌, Bool, true, false, List, [], ◌∷◌, Some, refl, sym, ◌∙◌, subst, ⊎_elim}
 use Rattle.std.specs.List.{flat_map}
 use Rattle.std.proofs.lemmas.Bool.{true≢false}
 use Rattle.cc_lists.specs.Members.{Among}
@@ -12,7 +12,7 @@ use Rattle.cc_names.specs.Names.{native, reflector}
 use Rattle.cc_model.specs.Slots.{from_to}
 use Rattle.cc_model.specs.Graph as graph
 use Rattle.cc_model.specs.Graph.{as_preserved}
-use Rattle.cc_model.specs.Heap.{Heap, HeapNative, native_at, set_preserved, is_gray_in}
+use Rattle.cc_model.specs.Heap.{Heap, HeapNative, set_preserved, is_gray_in}
 use Rattle.cc_model.specs.View.{view, slot_edges, native_edges, script_edges, ReachedIn}
 use Rattle.cc_model.proofs.Places.{preserved_edge, native_edges-split}
 use Rattle.cc_model.specs.WellFormed.{script_names}

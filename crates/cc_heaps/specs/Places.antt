@@ -1,5 +1,5 @@
 -- THE PLACES OF AN OBJECT BY ITS KEY: where it may refer to another.
-use Rattle.std.specs.Prelude.{Option, Some, option_and_then}
+use Rattle.std.specs.Prelude.{Some, option_and_then}
 use Rattle.cc_model.specs.Slots.{Slots}
 use Rattle.cc_model.specs.Checks.{slots_or_none}
 use Rattle.cc_model.specs.Places.{places_in}

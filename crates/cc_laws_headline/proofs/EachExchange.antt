@@ -2,6 +2,7 @@
 -- quiet there.
 use Rattle.std.proofs.Common.{◌≡◌, suc, Bool, true, false, List, [], ◌∷◌, ◌++◌, length, Option, Some, None, refl, sym, ◌∙◌, ap, subst, inl, inr, ◌⊎◌, ⊎_elim}
 use Rattle.std.proofs.lemmas.Bool.{true≢false}
+use Rattle.cc_laws_run.specs.Missing.{asks_nothing}
 use Rattle.cc_lists.specs.Members.{Among}
 use Rattle.cc_names.specs.Allowance.{Allowance}
 use Rattle.cc_names.specs.declared.name.Name.{Name}
@@ -22,7 +23,7 @@ use Rattle.cc_model.specs.Quiet as quiet
 use Rattle.cc_laws_run.specs.Running.{state_after}
 use Rattle.cc_laws_run.proofs.FreedListed.{census_order-listed}
 use Rattle.cc_laws_run.proofs.PlainQuiet.{listed-census_order}
-use Rattle.cc_laws_headline.specs.Exchanges.{Exchange, IsExchangeOf, before, is_blank, spoken, HasJustCollected}
+use Rattle.cc_laws_headline.specs.Exchanges.{Exchange, IsExchangeOf, before, spoken, HasJustCollected}
 use Rattle.cc_laws_headline.specs.Headline.{CommandReplyIs, ReplyIs, ListsWhatIsThere, SparesReached, CensusIsExact, TellsOfAGraph}
 
 -- Lawful
@@ -96,7 +97,7 @@ rows_after-append row [] us = refl
 rows_after-append row (t ∷ ts) us = rows_after-append (row_after row t.0 t.1) ts us
 
 -- a blank line leaves it
-blank-leaves : (row : Row) (ask : Ask) (a : Answer) → is_blank ask ≡ true → row_after row ask a ≡ row
+blank-leaves : (row : Row) (ask : Ask) (a : Answer) → asks_nothing ask ≡ true → row_after row ask a ≡ row
 blank-leaves row long a e = absurd (true≢false (sym e))
 blank-leaves row bad a e = absurd (true≢false (sym e))
 blank-leaves row (taken Nothing) a e = refl
@@ -118,9 +119,9 @@ quiet-turn row s [] [] ask a later more e q = q.0
 quiet-turn row s [] (b ∷ told) ask a later more e q = absurd (cc)
 quiet-turn row s (c ∷ asked) [] ask a later more e q = absurd (cc)
 quiet-turn row s (c ∷ asked) (b ∷ told) ask a later more e q =
-    go (quiet-turn (row_after row c b) (next s c b) asked told ask a later more (cc) q.1) (is_blank c) refl
+    go (quiet-turn (row_after row c b) (next s c b) asked told ask a later more (cc) q.1) (asks_nothing c) refl
   where
-    go : CensusIsQuiet (rows_after (row_after row c b) (spoken asked told)) (state_after (next s c b) asked told) ask → (blank : Bool) → is_blank c ≡ blank →
+    go : CensusIsQuiet (rows_after (row_after row c b) (spoken asked told)) (state_after (next s c b) asked told) ask → (blank : Bool) → asks_nothing c ≡ blank →
         CensusIsQuiet (rows_after row (elim blank as (λ _. List (Ask × Answer)) [ true ↦ spoken asked told | false ↦ (c, b) ∷ spoken asked told ]))
         (state_after (next s c b) asked told) ask
     go rest true is = subst (λ (r : Row). CensusIsQuiet (rows_after r (spoken asked told)) (state_after (next s c b) asked told) ask) (blank-leaves row c b is) rest

@@ -1,7 +1,8 @@
 -- ONE LINE OF A TRANSCRIPT, with what was asked and answered before it.
-use Rattle.std.specs.Prelude.{◌≡◌, Bool, true, false, List, [], ◌∷◌, ◌++◌, length, Some}
+use Rattle.std.specs.Prelude.{◌≡◌, true, false, List, [], ◌∷◌, ◌++◌, length, Some}
+use Rattle.cc_laws_run.specs.Missing.{asks_nothing}
 use Rattle.cc_names.specs.Allowance.{Allowance}
-use Rattle.cc_model.specs.declared.command.Command.TheVariants.{Nothing, Collect, Gc}
+use Rattle.cc_model.specs.declared.command.Command.TheVariants.{Collect, Gc}
 use Rattle.cc_model.specs.declared.item.Reply.TheVariants.{Done}
 use Rattle.cc_model.specs.Answers.{Answer}
 use Rattle.cc_model.specs.Asks.{Ask, taken}
@@ -30,16 +31,11 @@ before limits t = state_after (start limits) t.asked t.told
 abbrev pub after : Allowance → Exchange → State
 after limits t = next (before limits t) t.ask t.answer
 
--- a blank line or a comment
-abbrev pub is_blank : Ask → Bool
-is_blank (taken Nothing) = true
-is_blank ask = false
-
 -- asks and their answers, without blank lines and comments
 abbrev pub spoken : List Ask → List Answer → List (Ask × Answer)
 spoken [] answers = []
 spoken (ask ∷ asks) [] = []
-spoken (ask ∷ asks) (a ∷ answers) = elim (is_blank ask) [ true ↦ spoken asks answers | false ↦ (ask, a) ∷ spoken asks answers ]
+spoken (ask ∷ asks) (a ∷ answers) = elim (asks_nothing ask) [ true ↦ spoken asks answers | false ↦ (ask, a) ∷ spoken asks answers ]
 
 -- the last three asks, blank lines and comments aside, were `gc`, a `collect` that was answered `= ok`, and `gc`
 pub record HasJustCollected (asks : List Ask) (answers : List Answer) : Type 0 where

@@ -1,5 +1,5 @@
 -- A COLLECTION THAT BEGINS RIGHT AFTER A SCRIPT COLLECTION DOOMS ALL GARBAGE.
-use Rattle.std.proofs.Common.{arith, ◌≡◌, Bool, true, false, not, List, [], ◌∷◌, ◌++◌, map, Some, None, sym, ◌∙◌, ap, subst, inl, inr, ◌⊎◌, ⊎_elim}
+use Rattle.std.proofs.Common.{arith, ◌≡◌, Bool, true, false, not, List, [], ◌++◌, map, Some, None, sym, ◌∙◌, ap, subst, inl, inr, ◌⊎◌, ⊎_elim}
 use Rattle.std.specs.List.{filter, flat_map}
 use Rattle.std.proofs.lemmas.Bool.{false≢true}
 use Rattle.cc_model.specs.Places.{places_of_native, script_places_of}
@@ -7,17 +7,17 @@ use Rattle.cc_model.proofs.Places.{behind_edges, script_edges-split}
 use Rattle.cc_lists.specs.Members.{Among, has}
 use Rattle.cc_lists.specs.Least.{Least, system}
 use Rattle.cc_lists.proofs.Members.{Among-map, Among-map_cases, Among-left, Among-right, Among-append, Among-filter, Among-filtered, Among-passes, Among-flat_map, Among-flat_map_cases}
-use Rattle.cc_lists.proofs.Least.{derive-root, derive-along, derive-jointly, derived-within}
+use Rattle.cc_lists.proofs.Least.{derive-root, derive-along, derived-within}
 use Rattle.cc_lists.proofs.Closure.{closure-decides, closure-derived}
 use Rattle.cc_names.specs.declared.name.Name.{Name}
 use Rattle.cc_names.specs.declared.kind.Colour.TheVariants.{Black}
 use Rattle.cc_names.specs.Names.{native, same_name, is_script}
 use Rattle.cc_names.proofs.NameTests.{same_name-exact}
 use Rattle.cc_model.specs.Slots.{contents, from_to}
-use Rattle.cc_model.specs.Entries.{Entry, joint, joints, rules_of, Joint}
+use Rattle.cc_model.specs.Entries.{joints, rules_of, Joint}
 use Rattle.cc_model.specs.Heap.{Heap, HeapNative, HeapScript, Buffered, is_black_colour, is_gray_in}
 use Rattle.cc_model.specs.View.{view, buffered, native_edges, script_edges, script_slot_edges, view_rules, ReachedIn, reached_in, scripts_there}
-use Rattle.cc_model.specs.WellFormed.{HasMembers, native_names, script_names, names_there}
+use Rattle.cc_model.specs.WellFormed.{native_names, script_names, names_there}
 use Rattle.cc_model.specs.Exposure.{slots_of_scripts}
 use Rattle.cc_model.specs.Colours.{HasColourInvariant, HasColours, IsBlack, black_rules, black_names, marked_names, IsMarked, scripts_held_by, scripts_held}
 use Rattle.cc_model.specs.Snapshot.{Mapping, node_names}
@@ -30,7 +30,6 @@ use Rattle.cc_laws_heap.specs.Sound.{IsSound}
 use Rattle.cc_laws_heap.proofs.Marking.{colour_of-black, black-decided}
 use Rattle.cc_laws_heap.proofs.MarkedKept.{marked-other}
 use Rattle.cc_laws_heap.proofs.CollectedColours.{collect_scripts-sound, collect_scripts-colours, collect_scripts-unmarked, collect_scripts-invariant}
-use Rattle.cc_laws_heap.proofs.ViewEdges.{native_edges-are}
 use Rattle.cc_laws_heap.proofs.Coloured.{is_black-true}
 use Rattle.cc_laws_heap.proofs.References.{native-there}
 use Rattle.cc_laws_snapshot.proofs.Edges.{edge-of}

@@ -1,20 +1,19 @@
 -- WHAT A SCRIPT COLLECTION LEAVES has all that registers and holding natives have, and that edges and entries pass on.
-use Rattle.std.proofs.Common.{◌≡◌, ◌≤◌, ℕ, List, [], ◌++◌, map, refl, sym, subst, arith, ⊎_elim, count_by}
+use Rattle.std.proofs.Common.{◌≡◌, ◌≤◌, ℕ, List, [], ◌++◌, refl, sym, subst, arith, ⊎_elim, count_by}
 use Rattle.std.proofs.lemmas.Bool.{cases_lt}
 use Rattle.cc_model.specs.Places.{places_of_native}
 use Rattle.cc_lists.specs.Members.{Among}
 use Rattle.cc_lists.proofs.Members.{Among-map, Among-map_cases, Among-right, Among-append, Among-filtered, Among-flat_map_cases}
 use Rattle.cc_lists.proofs.Counting.{counted_is}
-use Rattle.cc_lists.proofs.Least.{derived-within}
 use Rattle.cc_lists.proofs.Closure.{closure-derived}
 use Rattle.cc_names.specs.declared.name.Name.{Name}
 use Rattle.cc_names.specs.declared.name.Name.TheVariants as name
 use Rattle.cc_names.specs.Names.{native, same_name, is_script}
 use Rattle.cc_names.proofs.NameTests.{same_name-true, same_name-exact}
 use Rattle.cc_model.specs.Slots.{contents, from_to}
-use Rattle.cc_model.specs.Entries.{joints, rules_of, Joint}
+use Rattle.cc_model.specs.Entries.{joints, Joint}
 use Rattle.cc_model.specs.Heap.{Heap, HeapNative}
-use Rattle.cc_model.specs.View.{view, counted, to, native_edges}
+use Rattle.cc_model.specs.View.{view, counted, to}
 use Rattle.cc_model.specs.WellFormed.{native_names, script_names, names_there}
 use Rattle.cc_model.specs.Exposure.{slots_of_scripts}
 use Rattle.cc_model.specs.Colours.{HasColours, IsBlack, IsMarked, black_rules, black_names, scripts_held_by, scripts_held}
@@ -23,7 +22,6 @@ use Rattle.cc_model.proofs.Joints.{derived-by_joints}
 use Rattle.cc_laws_heap.specs.Sound.{IsSound}
 use Rattle.cc_laws_heap.proofs.MarkedKept.{marked-other}
 use Rattle.cc_laws_heap.proofs.CollectedColours.{collect_scripts-sound, collect_scripts-colours, collect_scripts-unmarked}
-use Rattle.cc_laws_heap.proofs.ViewEdges.{native_edges-are}
 use Rattle.cc_laws_snapshot.proofs.SoundView.{IsSound-view, script-place}
 use Rattle.cc_laws_snapshot.proofs.ReachedStays.{native-edge}
 use Rattle.cc_laws_run.proofs.DoomedBegin.{edge-there, slot-edge}

@@ -1,28 +1,29 @@
 -- WHAT IS LOST: garbage but for the reflectors of reached natives. A collection that dooms garbage dooms it.
-use Rattle.std.proofs.Common.{arith, ◌≡◌, ℕ, Bool, true, false, ◌&&◌, [], ◌∷◌, map, Option, Some, None, option_map, refl, sym, ◌∙◌, ap, subst, inl, inr, ◌⊎◌, ⊎_elim}
+use Rattle.std.proofs.Common.{arith, ◌≡◌, ℕ, Bool, true, false, ◌&&◌, [], ◌∷◌, map, Option, Some, None, option_map, refl, sym, ◌∙◌, ap, subst, inl, inr, ◌⊎◌, ⊎_elim, is_some}
 use Rattle.std.specs.Prelude.{option_and_then}
 use Rattle.std.specs.List.{list_all}
 use Rattle.std.proofs.lemmas.Bool.{true≢false, and_parts, and_from}
-use Rattle.cc_model.proofs.Places.{behind_edges, script_edges-split}
+use Rattle.cc_model.proofs.Places.{behind_edges, script_edges-split, script_place-cases}
 use Rattle.cc_lists.specs.Members.{Among}
 use Rattle.cc_lists.proofs.Members.{Among-map_cases, Among-left, Among-append, Among-filter, Among-filtered, Among-passes}
 use Rattle.cc_lists.proofs.Least.{derive-along}
 use Rattle.cc_names.specs.declared.name.Name.{Name}
 use Rattle.cc_names.specs.declared.name.Name.TheVariants as name
+use Rattle.cc_names.specs.declared.kind.Kind.{Kind}
 use Rattle.cc_names.specs.declared.kind.Kind.TheVariants.{Reflector}
 use Rattle.cc_names.specs.Names.{native, reflector, is_native, behind}
 use Rattle.cc_model.specs.Slots.{Slots, contents, from_to, empty_slots, reflector_slots}
 use Rattle.cc_model.specs.Entries.{Entry, joints, rules_of, Joint}
-use Rattle.cc_model.specs.Graph.{Graph, GraphNative, native_in, delegate_in, script_in, proxy, GraphScript, delegate_of_script, plain_object}
+use Rattle.cc_model.specs.Graph.{Graph, GraphNative, native_in, delegate_in, script_in, proxy, GraphScript, delegate_of_script, plain_object, weak_map}
 use Rattle.cc_model.specs.WellMade.{IsWellMade}
 use Rattle.cc_model.specs.Heap.{Heap, HeapNative, HeapScript}
 use Rattle.cc_model.specs.View.{view, script_slot_edges, ReachedIn}
-use Rattle.cc_model.specs.WellFormed.{FitsName, native_names, script_names, names_there}
+use Rattle.cc_model.specs.WellFormed.{FitsName, native_names, script_names, names_there, is_proxy_kind}
 use Rattle.cc_model.specs.StandsFor.{Shape, shape_of_native, shape_of_held_native, kind_in, reflector_kind, IsNoKey, IsKept, StandsFor, IsNoDelegate}
 use Rattle.cc_model.specs.Snapshot.{Mapping}
 use Rattle.cc_model.specs.Units.{if_gray, mappings_of, begun, with_empty_buffer}
 use Rattle.cc_model.specs.Suspected.{is_unreached}
-use Rattle.cc_model.proofs.Joints.{Gives, its_key, joint-cases}
+use Rattle.cc_model.proofs.Joints.{Gives, its_key, joint-cases, its_value}
 use Rattle.cc_model.specs.Places.{script_places_of}
 use Rattle.cc_laws_heap.specs.Sound.{IsSound}
 use Rattle.cc_laws_heap.proofs.Natives.{IsWellFormed-distinct, native_at-member, named-member}
@@ -135,6 +136,15 @@ module _ (h : Heap) (g : Graph) (sound : IsSound [] h) (well : IsWellMade g) (st
       (Among-append (x, y) (script_slot_edges f.0) (behind_edges f.0.name) (subst (Among (x, y)) (script_edges-split f.0) f.2)))
       (edge-cases h x y e)
     where
+      -- it has no delegate
+      none_stood_for : (o : HeapScript) → Among o h.scripts → o.name ≡ reflector s.own.number → (d : Name) → o.delegate ≡ Some d → ⊥
+      none_stood_for o there named d is =
+          let fits : FitsName (reflector s.own.number) o.kind o.slots = subst (λ z. FitsName z o.kind o.slots) named (sound.well_formed.kinds o there) in
+          reflects o.kind o.slots fits (sym (sound.well_formed.delegates o there) ∙ ap is_some is)
+        where
+          reflects : (kind : Kind) (slots : Slots) → FitsName (reflector s.own.number) kind slots → is_proxy_kind kind ≡ true → ⊥
+          reflects kind slots f e = grind arith
+
       -- its slots are empty
       slot : (o : HeapScript) → Among o h.scripts → Among (x, y) (script_slot_edges o) → ⊥
       slot o there m =
@@ -144,17 +154,8 @@ module _ (h : Heap) (g : Graph) (sound : IsSound [] h) (well : IsWellMade g) (st
           stands.blank_there s.own o s.there s.blank (in-reached h g sound.well_formed well stands (native s.own.number) s.reached) there (named ∙ s.named) in
           ⊎_elim
           (λ l. subst (λ (t : Slots). Among c.0 (contents t)) blank l)
-          (λ d. no_delegate o there (named ∙ s.named) c.0 d)
+          (λ d. none_stood_for o there (named ∙ s.named) c.0 d)
           (script_place-cases o c.0 c.1)
-
-      -- it has no delegate
-      no_delegate : (o : HeapScript) → Among o h.scripts → o.name ≡ reflector s.own.number → (d : Name) → o.delegate ≡ Some d → ⊥
-      no_delegate o there named d is =
-          let fits : FitsName (reflector s.own.number) o.kind o.slots = subst (λ z. FitsName z o.kind o.slots) named (sound.well_formed.kinds o there) in
-          reflects o.kind o.slots fits (sym (sound.well_formed.delegates o there) ∙ ap is_some is)
-        where
-          reflects : (kind : Kind) (slots : Slots) → FitsName (reflector s.own.number) kind slots → is_proxy_kind kind ≡ true → ⊥
-          reflects kind slots f e = grind arith
 
       -- and its native is reached
       behind_it : (o : HeapScript) → Among (x, y) (map (λ k. from_to o.name (native k)) (behind o.name)) → ⊥
@@ -213,11 +214,11 @@ module _ (h : Heap) (g : Graph) (sound : IsSound [] h) (well : IsWellMade g) (st
 
   spare-not_joined : (e : Entry) → Among e h.entries → (j : Joint) → Gives e j → (x : Name) → Among x (garbage h) → IsSpare x → ¬ (j.key ≡ x)
   spare-not_joined e there _ its_value x b s a =
-      (spare-blank x b s).1 e (ArePart-among h.entries g.entries e stands.entries there) (a ∙ s.named)
+      (spare-blank x b s).0 e (ArePart-among h.entries g.entries e stands.entries there) (a ∙ s.named)
   spare-not_joined e there _ (its_key d is) x b s a =
       let made = (well.entries e (ArePart-among h.entries g.entries e stands.entries there)).delegate in
       let p = delegate_in-proxy g e.key d (sym made ∙ is) in
-      (spare-blank x b s).2 p.0 d p.1 (a ∙ s.named)
+      (spare-blank x b s).1 p.0 d p.1 (a ∙ s.named)
 
   -- a member of a joint that is garbage is lost
   member-lost : (j : Joint) → Among j (joints h.entries) → (x : Name) → (j.the_map ≡ x) ⊎ (j.key ≡ x) → Among x (garbage h) → Among x (lost h)

@@ -1,7 +1,7 @@
 -- THE NAMES OF ALL OBJECTS AFTER A COMMAND: what it told as freed is there no more, what it made goes last.
 use Rattle.std.proofs.Common.{◌≡◌, ℕ, ◌+◌, ◌<◌, ◌≤◌, Bool, true, false, not, List, [], ◌∷◌, ◌++◌, map, length, Option, Some, None, refl, sym, ◌∙◌, ap, subst, arith, option_map, slice_index_or, is_none}
 use Rattle.std.specs.Prelude.{IsTrue}
-use Rattle.std.specs.List.{filter}
+use Rattle.std.specs.List.{filter, list_any}
 use Rattle.std.proofs.Math.Path.{fun_ext}
 use Rattle.std.proofs.lemmas.Bool.{ltb-true, leb-false}
 use Rattle.std.proofs.lemmas.List.{append-nil, map_push}
@@ -46,6 +46,7 @@ use Rattle.cc_laws_heap.proofs.CommandsSound.{below-first, few-slots}
 use Rattle.cc_laws_run.proofs.Listing.{after_events-freed}
 use Rattle.cc_laws_run.proofs.NamesKept.{SameNames, SameNames-refl, SameNames-trans, SameNames-alike, SameNames-change_native, SameNames-preserve, SameNames-put_in_script, SameNames-set_entry, SameNames-exposed}
 use Rattle.cc_laws_run.proofs.FreedListed.{has-native}
+use Rattle.cc_laws_run.proofs.TouchedCommands.{scripts_made-preserve}
 
 -- these natives and script objects went last, then the natives ks were told freed, each once, and are there no more; all
 -- others are there, in their order
@@ -156,6 +157,10 @@ make_object-names h d kind n its_delegate = (
       (map_push (λ (o : HeapScript). o.name) h.scripts (blank (object (h.scripts_made + 1)) kind n its_delegate)),
 )
 
+-- a register that must hold something does
+first-held : (x : Option Name) → list_any (λ (y : Option Name). is_none y) (x ∷ []) ≡ false → is_none x ≡ false
+first-held x e = grind arith
+
 -- a proxy made of what a register holds
 make_proxy-names : (h : Heap) (d : ℕ) (x : Option Name) → is_none x ≡ false →
     (ks : List ℕ) × NamesAfter h (silently (make_proxy h d x)) ks [] (object (h.scripts_made + 1) ∷ [])
@@ -222,10 +227,7 @@ effects-names h (Native d n) s r t = make_native-names h d n (below-first d (is_
     (leb-false h.limits.natives h.natives_made t.room) s
 effects-names h (Script d n) s r t = make_object-names h d Plain n None
 effects-names h (WeakMap d) s r t = make_object-names h d Map 0 None
-effects-names h (Proxy d q) s r t = make_proxy-names h d (register h (S q)) (held (is_none (register h (S q))) t.objects)
-  where
-    held : (b : Bool) → (b || false) ≡ false → b ≡ false
-    held b e = grind arith
+effects-names h (Proxy d q) s r t = make_proxy-names h d (register h (S q)) (first-held (register h (S q)) t.objects)
 effects-names h (CopyNative d q) s r t = hold_native-names h d (register h (N q)) (below-first d (is_register q) r) (native_register-there h q s.well_formed) s
 effects-names h (CopyScript d q) s r t = NamesAfter-same h (set_register h (S d) (register h (S q))) (record { natives = refl; scripts = refl })
 effects-names h (Drop (N d)) s r t = put_in_register-names h h d None (SameNames-refl h) (ltb-true d bank_length r) (λ y m. absurd m) s

@@ -2,8 +2,8 @@
 use Rattle.std.proofs.Common.{arith, ◌≡◌, ℕ, true, List, [], ◌++◌, sym, ◌∙◌, ap, subst, ⊎_elim, Some}
 use Rattle.std.specs.List.{flat_map}
 use Rattle.cc_lists.specs.Members.{Among}
-use Rattle.cc_lists.proofs.Members.{Among-map_cases, Among-append, Among-filter, Among-passes, Among-flat_map_cases}
-use Rattle.cc_lists.proofs.Least.{derive-root, derive-along, derive-jointly}
+use Rattle.cc_lists.proofs.Members.{Among-map_cases, Among-append, Among-filter, Among-passes, Among-flat_map_cases, Among-map}
+use Rattle.cc_lists.proofs.Least.{derive-root, derive-along}
 use Rattle.cc_names.specs.declared.name.Name.{Name}
 use Rattle.cc_names.specs.Names.{native, is_script}
 use Rattle.cc_model.specs.Slots.{contents}
@@ -13,10 +13,10 @@ use Rattle.cc_model.specs.View.{View, view, native_edges, script_edges, ReachedI
 use Rattle.cc_model.specs.WellFormed.{script_names, names_there}
 use Rattle.cc_model.specs.Colours.{marked, IsMarked}
 use Rattle.cc_model.specs.Sweep.{unmarked, sweep, collect_scripts}
-use Rattle.cc_model.proofs.Joints.{derive-joint, joint-cases, Gives, gives-joint, its_key}
+use Rattle.cc_model.proofs.Joints.{derive-joint, joint-cases, Gives, gives-joint, its_key, its_value}
 use Rattle.cc_laws_heap.specs.Sound.{IsSound}
 use Rattle.cc_laws_heap.proofs.NameLists.{is_not_among-apart}
-use Rattle.cc_laws_heap.proofs.ScriptNames.{entry-named, script-named, delegate-named}
+use Rattle.cc_laws_heap.proofs.ScriptNames.{entry-named, script-named, delegate-named, delegate-there}
 use Rattle.cc_laws_heap.proofs.MarkedWellFormed.{is_spared_entry}
 use Rattle.cc_laws_heap.proofs.MarkingKeeps.{round-sound, round-frees, IsSound-marked}
 use Rattle.cc_laws_heap.proofs.RoundParts.{round-natives, round-scripts, round-entries}
@@ -25,6 +25,8 @@ use Rattle.cc_laws_heap.proofs.Swept.{scripts-sweep}
 use Rattle.cc_laws_heap.proofs.ViewEdges.{script_edges-are}
 use Rattle.cc_laws_heap.proofs.Coloured.{one-script}
 use Rattle.cc_laws_heap.proofs.RoundsStand.{spared-from}
+use Rattle.cc_laws_heap.proofs.MarkedKept.{marked-other, marked-not_unmarked, marked-key}
+use Rattle.cc_laws_heap.proofs.Marking.{HasColours-marked}
 use Rattle.cc_laws_snapshot.proofs.ReachedStays.{edge-stays}
 use Rattle.cc_laws_run.proofs.LeftThere.{collected-has}
 use Rattle.cc_laws_snapshot.proofs.ReachedStays.{IsTidy, KeepsReached, reached-kept, native_edges-alike, native-edge_of, native-edge, script-edge}

@@ -1,10 +1,9 @@
 -- A SCRIPT COLLECTION TAKES AWAY WHAT IS SPENT.
 use Rattle.std.proofs.Common.{◌≡◌, List, [], ◌++◌, sym, ◌∙◌, ap, subst, arith, ⊎_elim}
 use Rattle.cc_lists.specs.Members.{Among}
-use Rattle.cc_lists.proofs.Members.{Among-map_cases, Among-filtered}
+use Rattle.cc_lists.proofs.Members.{Among-filtered}
 use Rattle.cc_names.specs.declared.name.Name.{Name}
 use Rattle.cc_model.specs.Slots.{contents}
-use Rattle.cc_model.specs.Entries.{joints, rules_of}
 use Rattle.cc_model.specs.Heap.{Heap}
 use Rattle.cc_model.specs.View.{view, script_edges}
 use Rattle.cc_model.specs.WellFormed.{names_there}

@@ -3,7 +3,7 @@ use Rattle.std.proofs.Common.{◌≤◌, List, sym, subst, arith}
 use Rattle.cc_lists.specs.Members.{Among}
 use Rattle.cc_names.specs.declared.name.Name.{Name}
 use Rattle.cc_names.specs.Names.{native}
-use Rattle.cc_model.specs.Entries.{Entry, Joint, joints}
+use Rattle.cc_model.specs.Entries.{Joint, joints}
 use Rattle.cc_model.specs.Heap.{Heap, Buffered}
 use Rattle.cc_model.specs.View.{view}
 use Rattle.cc_model.specs.WellFormed.{IsWellFormed}

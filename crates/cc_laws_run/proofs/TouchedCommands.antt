@@ -25,7 +25,7 @@ use Rattle.cc_model.specs.Exposure.{slots_of_scripts, exposure_rules, exposed_na
 use Rattle.cc_model.specs.Effects.{effects, put_in_register, hold_native, put_in_slot, store_native, with_native, make_native, hold_script, with_script, with_object, make_object, with_reflector, wrapped, set_entry, put_in_script, make_proxy}
 use Rattle.cc_model.specs.WellFormed.{IsWellFormed}
 use Rattle.cc_model.specs.Snapshot.{Snapshot}
-use Rattle.cc_model.proofs.Joints.{Gives, its_key, gives-joint, joint-cases}
+use Rattle.cc_model.proofs.Joints.{Gives, its_key, gives-joint, joint-cases, its_value}
 use Rattle.cc_laws_heap.proofs.EntryLists.{with_entry-cases}
 use Rattle.cc_laws_heap.proofs.Making.{contents-empty_none, new_native, native_names-made}
 use Rattle.cc_laws_heap.proofs.ScriptCommands.{blank}

@@ -15,10 +15,10 @@ use Rattle.cc_model.specs.declared.item.Reply.{Reply}
 use Rattle.cc_model.specs.Answers.{Answer}
 use Rattle.cc_model.specs.Asks.{Ask, long, bad, taken}
 use Rattle.cc_model.specs.Checks.{refusal_of, reply_if_taken}
-use Rattle.cc_model.specs.Graph.{Graph, GraphNative, GraphScript, changed, empty_graph, objects_of, preserve, register, set_entry, set_native, set_register, set_script, set_slot, step, unless_refused, wrapped}
+use Rattle.cc_model.specs.Graph.{Graph, GraphNative, GraphScript, proxy, changed, empty_graph, objects_of, preserve, register, set_entry, set_native, set_register, set_script, set_slot, step, unless_refused, with_proxy, with_script, wrapped}
 use Rattle.cc_model.specs.Slots.{empty_slots}
 use Rattle.cc_model.specs.Lawful.{AnswersTaken, ReplyAnswers, State, graph_after, is_without_memory, next}
-use Rattle.cc_model.specs.Reached.{Reached, held, edge, value}
+use Rattle.cc_model.specs.Reached.{Reached, held, edge, value, key}
 use Rattle.cc_made.specs.Asked.{filled_by, fills_of_eight, is_of_eight}
 
 -- the first registers of each bank, so many of them, and all from the eighth on are empty
@@ -78,6 +78,9 @@ entry-banks g (Some m) (Some k) (Some v) = record { natives = (preserve-banks g 
 banks-then : (f g h : Graph) → SameBanks f g → SameBanks g h → SameBanks f h
 banks-then f g h p q = record { natives = q.natives ∙ p.natives; scripts = q.scripts ∙ p.scripts }
 
+proxy-banks : (g : Graph) (x : Name) → SameBanks g (with_script (preserve g (Some x)) (proxy x))
+proxy-banks g x = record { natives = (preserve-banks g (Some x)).natives; scripts = (preserve-banks g (Some x)).scripts }
+
 -- the same are empty where the registers are the same
 kept : (a b : ℕ) (g h : Graph) → SameBanks g h → HasEmptied a b g → HasEmptied a b h
 kept a b g h s e = record {
@@ -109,6 +112,11 @@ set-none (x ∷ xs) zero zero h = refl
 set-none (x ∷ xs) zero (suc j) h = h (λ e. omega (arith, e))
 set-none (x ∷ xs) (suc i) zero h = h (λ e. omega (arith, e))
 set-none (x ∷ xs) (suc i) (suc j) h = set-none xs i j (λ other. h (λ e. other (omega (arith, e))))
+
+-- a proxy fills one of the eight, where its register holds something
+proxy-kept : (g : Graph) (d : ℕ) (x : Option Name) → is_of_eight (Some (S d)) ≡ true → HasEmptied 0 0 g → HasEmptied 0 0 (with_proxy g d x)
+proxy-kept g d None low e = e
+proxy-kept g d (Some x) low e = filled g (with_script (preserve g (Some x)) (proxy x)) (S d) _ (proxy-banks g x) low e
 
 -- one is emptied
 emptied : (g : Graph) (r : Reg) → HasEmptied 0 0 g → HasEmptied 0 0 (set_register g r None)
@@ -143,6 +151,7 @@ unfolding changed
 changed-kept g (Native d n) low e = filled g _ (N d) _ (record { natives = refl; scripts = refl }) low e
 changed-kept g (Script d n) low e = filled g _ (S d) _ (record { natives = refl; scripts = refl }) low e
 changed-kept g (WeakMap d) low e = filled g _ (S d) _ (record { natives = refl; scripts = refl }) low e
+changed-kept g (Proxy d s) low e = proxy-kept g d (register g (S s)) low e
 changed-kept g (CopyNative d s) low e = filled g g (N d) _ (same g) low e
 changed-kept g (CopyScript d s) low e = filled g g (S d) _ (same g) low e
 changed-kept g (Drop r) low e = emptied g r e
@@ -203,3 +212,4 @@ pub none-reached : (g : Graph) → HasEmptied 8 8 g → (x : Name) → Reached g
 none-reached g e _ (held r x h) = let none : None ≡ Some x = sym (all-empty g e r) ∙ h in cc
 none-reached g e _ (edge y z reached among) = none-reached g e y reached
 none-reached g e _ (value entry among map_reached key_reached) = none-reached g e entry.key key_reached
+none-reached g e _ (key entry d among is map_reached delegate_reached) = none-reached g e entry.the_map map_reached

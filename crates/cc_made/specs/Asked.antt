@@ -18,6 +18,7 @@ abbrev pub filled_by : Command → Option Reg
 filled_by (Native d n) = Some (N d)
 filled_by (Script d n) = Some (S d)
 filled_by (WeakMap d) = Some (S d)
+filled_by (Proxy d s) = Some (S d)
 filled_by (CopyNative d s) = Some (N d)
 filled_by (CopyScript d s) = Some (S d)
 filled_by (Get r s i) = Some r

@@ -1,6 +1,5 @@
 -- WHAT ENTRIES GIVE: their joints one by one, and least sets that are closed under them.
-use Rattle.std.proofs.Common.{◌≡◌, List, [], ◌∷◌, ◌++◌, map, Option, Some, None, refl, sym, ap, subst, inl, inr, ⊎_elim, ◌⊎◌}
-use Rattle.std.specs.List.{flat_map}
+use Rattle.std.proofs.Common.{◌≡◌, List, [], ◌∷◌, Option, Some, None, refl, sym, ap, subst, inl, inr, ⊎_elim}
 use Rattle.cc_lists.specs.Members.{Among}
 use Rattle.cc_lists.specs.Least.{Least, system}
 use Rattle.cc_lists.proofs.Members.{Among-map, Among-map_cases, Among-left, Among-right, Among-append, Among-flat_map, Among-flat_map_cases}

@@ -51,6 +51,7 @@ give_up_each d (k ∷ ks) = give_up_each (give_up d k) ks
 abbrev pub removed : Heap → ℕ → Heap
 removed h k = record h { natives = filter (λ n. not (n.number == k)) h.natives }
 
+-- what a native that dies gives up: of its places only slots hold natives, and these alone are counted
 abbrev pub natives_of_slots : Option HeapNative → List ℕ
 natives_of_slots None = []
 natives_of_slots (Some n) = flat_map natives_in (contents n.slots)

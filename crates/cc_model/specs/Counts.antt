@@ -6,7 +6,7 @@ use Rattle.cc_names.specs.Names.{native, reflector, same_name}
 use Rattle.cc_model.specs.Slots.{contents}
 use Rattle.cc_model.specs.Heap.{Heap, HeapNative}
 
--- what natives hold in their slots
+-- what natives hold in their slots; of their places these alone are counted
 abbrev pub slots_of_natives : Heap → List Name
 slots_of_natives h = flat_map (λ n. contents n.slots) h.natives
 

@@ -1,6 +1,6 @@
 -- WHERE THE OBJECTS OF THE GRAPH AND OF THE HEAPS MAY REFER TO ANOTHER: what they refer to is the contents of these places,
 -- as often as it stands there.
-use Rattle.std.specs.Prelude.{ℕ, Bool, [], Option, None, Some, option_map, option_and_then}
+use Rattle.std.specs.Prelude.{ℕ, Bool, Option, None, Some, option_map, option_and_then}
 use Rattle.cc_names.specs.declared.name.Name.{Name}
 use Rattle.cc_names.specs.declared.name.Name.TheVariants as name
 use Rattle.cc_names.specs.Names.{object, reflector}

@@ -9,7 +9,7 @@ use Rattle.cc_model.specs.Banks.{over_banks}
 use Rattle.cc_model.specs.Slots.{contents, from_to}
 use Rattle.cc_model.specs.Entries.{Entry, joints, rules_of}
 use Rattle.cc_model.specs.Checks.{slots_or_none}
-use Rattle.cc_model.specs.Graph.{Graph, GraphNative, bank, register, native_in, slots_in}
+use Rattle.cc_model.specs.Graph.{Graph, bank, register}
 use Rattle.cc_model.specs.Places.{places_made}
 
 -- THE EDGES of an object, by occurrence: what its places hold; what was never made has none

@@ -3,7 +3,7 @@ use Rattle.std.specs.Prelude.{ℕ, Bool, ◌&&◌, ◌||◌, List, ◌++◌, map
 use Rattle.cc_lists.specs.Members.{has}
 use Rattle.cc_lists.specs.Least.{Rule, Least, system, closure}
 use Rattle.cc_names.specs.declared.name.Name.{Name}
-use Rattle.cc_names.specs.Names.{native, reflector, same_name, behind}
+use Rattle.cc_names.specs.Names.{native, same_name}
 use Rattle.cc_model.specs.Banks.{over_banks}
 use Rattle.cc_model.specs.Slots.{Slots, contents, from_to}
 use Rattle.cc_model.specs.Entries.{Joint, joints, rules_of}

@@ -1,5 +1,5 @@
 -- WHEN THE HEAPS ARE WELL FORMED: every name that they mention is in them, and their lists are in order.
-use Rattle.std.specs.Prelude.{Bool, true, false, is_some, Option, Some, ◌≡◌, ℕ, ◌≤◌, ◌==◌, true, List, [], ◌++◌, map, length, count_by}
+use Rattle.std.specs.Prelude.{Bool, true, false, is_some, Some, ◌≡◌, ℕ, ◌≤◌, ◌==◌, true, List, [], ◌++◌, map, length, count_by}
 use Rattle.cc_lists.specs.Members.{Among}
 pub use Rattle.cc_lists.specs.Walks.{IsRising}
 use Rattle.cc_names.specs.declared.name.Name.{Name}
@@ -62,7 +62,7 @@ pub record IsWellFormed (h : Heap) : Type 0 where
   pub native_numbers : (n : HeapNative) → Among n h.natives → (1 ≤ n.number) × (n.number ≤ h.natives_made)
   pub native_slots : (n : HeapNative) → Among n h.natives → length n.slots ≤ most_slots
   pub native_contents : (n : HeapNative) (x : Name) → Among n h.natives → Among x (contents n.slots) → Among x (names_there h)
-  -- script objects with distinct names, numbers that were made, kinds that fit; slots hold script objects that are there
+  -- script objects with distinct names, numbers that were made, kinds that fit; they hold script objects that are there
   pub distinct : (x : Name) → count_by (same_name x) (script_names h) ≤ 1
   pub object_numbers : (k : ℕ) → Among (object k) (script_names h) → (1 ≤ k) × (k ≤ h.scripts_made)
   pub kinds : (o : HeapScript) → Among o h.scripts → FitsName o.name o.kind o.slots

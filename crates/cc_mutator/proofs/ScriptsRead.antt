@@ -4,13 +4,13 @@ use Rattle.std.specs.Option.{option_to_list}
 use Rattle.std.proofs.Math.ListN.{get_or-map}
 use Rattle.std.proofs.lemmas.Bool.{false≢true}
 use Rattle.std.proofs.lemmas.List.{length-map}
+use Rattle.cc_heaps.proofs.PlacesRead.{fits-few}
 use Rattle.cc_lists.specs.Members.{Among}
 use Rattle.cc_lists.proofs.Filtering.{find-among}
 use Rattle.cc_lists.proofs.ListWrites.{only-member}
 use Rattle.cc_lists.proofs.Places.{among-get}
 use Rattle.cc_lists.proofs.Searching.{find-only}
 use Rattle.cc_names.specs.declared.name.Name.{Name}
-use Rattle.cc_names.specs.declared.name.Name.TheVariants as name
 use Rattle.cc_names.specs.declared.number.SKey.{SKey}
 use Rattle.cc_names.specs.declared.kind.Kind.{Kind}
 use Rattle.cc_names.specs.declared.kind.Kind.TheVariants.{Plain, Reflector, Map, Proxy}
@@ -41,9 +41,7 @@ pub record IsObjectAt (v : Keyed) (r key : ℕ) : Type 0 where
 
 -- a script object is found by its name
 slots_in-script : (h : Heap) (x : Name) → is_script x ≡ true → slots_in h x ≡ option_and_then slots_of_script (script_at h x)
-slots_in-script h (name.Native k) e = absurd (false≢true e)
-slots_in-script h (name.Script k) e = refl
-slots_in-script h (name.Reflector k) e = refl
+slots_in-script h x e = grind (arith, false≢true)
 
 abbrev pub is_map_kind : Kind → Bool
 is_map_kind Plain = false
@@ -100,11 +98,7 @@ module _ (owned : List ℕ) (v : Keyed) (order : IsInOrder owned v) where
 
   module _ (r : ℕ) (key : SKey) (name : script_name v (Some key) ≡ register v.heap (S r)) (there : IsTrue (is_there v.scripts key.0)) where
     pub object-at : IsObjectAt v r key.0
-    object-at = go (object_at v.scripts key.0) refl there
-      where
-        go : (o : Option Object) → object_at v.scripts key.0 ≡ o → is_some o ≡ true → IsObjectAt v r key.0
-        go None e t = absurd (false≢true t)
-        go (Some o) e t = record { object = o; at = e; held = sym name ∙ ap (λ (f : Option Object). option_map (λ (p : Object). p.name) f) e }
+    object-at = grind (arith, false≢true)
 
     -- it stands in the heaps under its name
     stands : Among (named_object v.scripts object-at.object) v.heap.scripts
@@ -120,9 +114,7 @@ module _ (owned : List ℕ) (v : Keyed) (order : IsInOrder owned v) where
 
     -- its slots by names
     pub script_slots-named : slots_at (objects_of v.heap) (S r) ≡ map (name_held v.scripts) object-at.object.slots
-    script_slots-named =
-        ap (λ o. slots_or_none (option_and_then (slots_in v.heap) o)) object-at.held
-        ∙ slots-of_object (named_object v.scripts object-at.object) stands
+    script_slots-named = grind (arith, slots-of_object, stands)
 
     -- and by keys
     pub script_slots-keyed : objects.slots_at v.scripts key.0 ≡ object-at.object.slots
@@ -169,13 +161,7 @@ module _ (owned : List ℕ) (v : Keyed) (order : IsInOrder owned v) where
   -- and so is what a source gives
   pub source-black : IsColoured v.heap → (from : Option ℕ) (x : Option SKey) → script_name v x ≡ source v.heap (option_map S from) → IsScriptThere v x →
       IfSome x (λ k. colour_at v.scripts k.0 ≡ Some Black)
-  source-black colours (Some r) x e there = held-black colours r x e there
-  source-black colours None None e there = tt
-  source-black colours None (Some key) e there = go (object_at v.scripts key.0) e there
-    where
-      go : (o : Option Object) → option_map (λ (p : Object). p.name) o ≡ None → is_some o ≡ true → option_map (λ (p : Object). p.colour) o ≡ Some Black
-      go None e t = absurd (false≢true t)
-      go (Some o) e t = absurd (cc)
+  source-black colours from x e there = grind (arith, held-black, false≢true)
 
   -- WHAT IS BLACK AT ITS KEY is black by its name.
   pub key-black : (key : SKey) → IsTrue (is_there v.scripts key.0) → colour_at v.scripts key.0 ≡ Some Black → IsHeldBlack v.heap.scripts (script_name v (Some key))

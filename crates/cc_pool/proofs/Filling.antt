@@ -2,7 +2,7 @@
 use Rattle.std.proofs.Common.{◌≡◌, ℕ, ◌+◌, ◌-◌, ◌*◌, ◌<◌, ◌≤◌, zero, suc, List, [], ◌∷◌, ◌++◌, length, get_or, set, refl, sym, ◌∙◌, ap, subst, arith, length-append}
 use Rattle.std.specs.Prelude.{Vec, vec_capacity}
 use Rattle.std.proofs.Math.Nat.{mul-suc}
-use Rattle.std.proofs.lemmas.List.{get_or_append_left, get_or-append_right, set-append_left, set-append_right, append-nil, append_assoc}
+use Rattle.std.proofs.lemmas.List.{get_or_append_left, get_or-append_right, set-append_left, set-append_right, append-nil, append_assoc, nil_from_length}
 use Rattle.cc_pool.specs.Blocks.{joined, AreBlocks}
 
 -- Where a value stands
@@ -96,11 +96,7 @@ joined-written size n c i (suc k) j d y x (b ∷ bs) h e below l written =
 -- Blocks that no value stands in
 
 pub blocks-none : {X Z : Type 0} (size c : ℕ) (bs : List (Vec X Z)) → AreBlocks size 0 c bs → joined bs ≡ []
-blocks-none size c bs h = go (joined bs) (length-joined size 0 c bs h)
-  where
-    go : {X : Type 0} (xs : List X) → length xs ≡ 0 → xs ≡ []
-    go [] e = refl
-    go (x ∷ xs) e = absurd (omega (arith, e))
+blocks-none size c bs h = nil_from_length (joined bs) (length-joined size 0 c bs h)
 
 -- A value that goes last
 

@@ -3,7 +3,7 @@ use Rattle.std.specs.Prelude.{List, [], ◌∷◌, ℕ, Option, Some, None, opti
 use Rattle.cc_names.specs.declared.register.Reg.{Reg}
 use Rattle.cc_names.specs.declared.register.Reg.TheVariants.{N, S}
 use Rattle.cc_model.specs.declared.command.Command.{Command}
-use Rattle.cc_model.specs.Forms.{Form, census_form, collect_form, copy_native_form, copy_script_form, drop_native_form, drop_script_form, expose_form, gc_form, get_entry_form, get_native_form, get_script_form, native_form, preserve_form, put_none_form, put_script_form, script_form, set_entry_form, set_native_form, set_none_form, set_script_form, slice_form, take_form, unset_entry_form, unwrap_form, weak_map_form, wrap_form}
+use Rattle.cc_model.specs.Forms.{Form, census_form, collect_form, copy_native_form, copy_script_form, drop_native_form, drop_script_form, expose_form, gc_form, get_entry_form, get_native_form, get_script_form, native_form, preserve_form, proxy_form, put_none_form, put_script_form, script_form, set_entry_form, set_native_form, set_none_form, set_script_form, slice_form, take_form, unset_entry_form, unwrap_form, weak_map_form, wrap_form}
 use Rattle.cc_model.specs.Tokens.{native_register, script_register}
 
 -- what the first form that reads these tokens makes of them
@@ -17,7 +17,7 @@ register_of token = elim (native_register token) [ Some r ↦ Some (N r) | None 
 
 -- the forms of the words that make an object, or copy or drop what a register holds
 abbrev pub register_forms : List Form
-register_forms = native_form ∷ script_form ∷ weak_map_form ∷ copy_native_form ∷ copy_script_form ∷ drop_native_form ∷ drop_script_form ∷ []
+register_forms = native_form ∷ script_form ∷ weak_map_form ∷ proxy_form ∷ copy_native_form ∷ copy_script_form ∷ drop_native_form ∷ drop_script_form ∷ []
 
 -- of those that write or read a slot
 abbrev pub slot_forms : List Form

@@ -3,7 +3,7 @@
 ghost use Rattle.std.specs.Prelude.{◌≡◌, ◌<◌, [], ◌∷◌, length, IsTrue, IfSome};
 ghost use Rattle.cc_model.specs.Lines.{without_return};
 ghost use Rattle.cc_model.specs.Tokens.{tokens_of};
-ghost use Rattle.cc_model.specs.Forms.{census_form, collect_form, copy_native_form, copy_script_form, drop_native_form, drop_script_form, expose_form, gc_form, get_entry_form, get_native_form, get_script_form, native_form, preserve_form, put_none_form, put_script_form, script_form, set_entry_form, set_native_form, set_none_form, set_script_form, slice_form, take_form, unset_entry_form, unwrap_form, version_one_forms, weak_map_form, wrap_form};
+ghost use Rattle.cc_model.specs.Forms.{census_form, collect_form, copy_native_form, copy_script_form, drop_native_form, drop_script_form, expose_form, gc_form, get_entry_form, get_native_form, get_script_form, native_form, preserve_form, proxy_form, put_none_form, put_script_form, script_form, set_entry_form, set_native_form, set_none_form, set_script_form, slice_form, take_form, unset_entry_form, unwrap_form, version_one_forms, weak_map_form, wrap_form};
 ghost use Rattle.cc_model.specs.Ranges.{in_range};
 ghost use Rattle.cc_model.specs.Asks.{command_in, command_of};
 ghost use Rattle.cc_reader.specs.Words.{first_read, heap_forms, reflector_forms, register_forms, slot_forms};
@@ -54,6 +54,15 @@ fn read_weak_map(after: &[u8]) -> Option<Command>
 {
     let to = one_token(after)?;
     Some(Command::WeakMap(script(to)?))
+}
+
+/// The command of the word `proxy`, by the tokens that stand behind it. None where they are in no form of it.
+fn read_proxy(after: &[u8]) -> Option<Command>
+    ensures form { result ≡ first_read (proxy_form ∷ []) (tokens_of after.now) }
+    ensures in_range { IfSome result (λ c. IsTrue (in_range c)) }
+{
+    let (to, of) = two_tokens(after)?;
+    Some(Command::Proxy(script(to)?, script(of)?))
 }
 
 /// The command of the word `copy`, by the tokens that stand behind it. None where they are in no form of it.
@@ -262,6 +271,8 @@ fn read_of_registers(word: &[u8], after: &[u8]) -> Option<Command>
         read_script(after)
     } else if word == b"weakmap".as_slice() {
         read_weak_map(after)
+    } else if word == b"proxy".as_slice() {
+        read_proxy(after)
     } else if word == b"copy".as_slice() {
         read_copy(after)
     } else if word == b"drop".as_slice() {

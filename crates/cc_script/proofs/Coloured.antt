@@ -6,6 +6,7 @@ use Rattle.std.proofs.lemmas.Bool.{cases_lt, false≢true}
 use Rattle.std.proofs.lemmas.Bool.Decides.{eqb_tells}
 use Rattle.std.proofs.lemmas.List.{get_or-set_other, get_or-set_same, get_or_past}
 use Rattle.std.proofs.lemmas.Simd.{map-map}
+use Rattle.cc_lists.proofs.Held.{is_some-map, is_some-found}
 use Rattle.slab.specs.Slab.{Slab, ContainsKey, Updates, get}
 use Rattle.cc_lists.proofs.ListWrites.{map-agree}
 use Rattle.cc_names.specs.declared.kind.Colour.{Colour}
@@ -13,12 +14,12 @@ use Rattle.cc_names.specs.declared.kind.Colour.TheVariants.{White, Gray}
 use Rattle.cc_chain.specs.declared.link.Link.{Link}
 use Rattle.cc_chain.specs.Stores.{slot_at, with_value}
 use Rattle.cc_chain.proofs.Stores.{slot_at-kept, slot_at-live, slot_at-set}
-use Rattle.cc_chain.proofs.Slots.{parts-kept, some-map}
+use Rattle.cc_chain.proofs.Slots.{parts-kept}
 use Rattle.cc_script.specs.Lists.{Placed, cell_at, painted}
 use Rattle.cc_script.specs.Paired.{Reaches, paired}
 use Rattle.cc_script.specs.Cells.{AreGrayNoted, Bare, Changes, Content, HasColourAt, HaveAll, Label, Linked, Whitens, cells_of, coloured_slab, filled, filled_slab, in_colour, nothing}
 use Rattle.cc_script.proofs.Linking.{cell-held, cell-read, changes-written}
-use Rattle.cc_script.proofs.Paired.{held-in, paired-at, paired-same, paired-set, paired-written, read-at, some-of, updates-made, updates-taken, vacant-at}
+use Rattle.cc_script.proofs.Paired.{held-in, paired-at, paired-same, paired-set, paired-written, read-at, updates-made, updates-taken, vacant-at}
 
 -- the labels and contents with their colours
 abbrev coloured : List (Option Bare) → List Colour → List (Option Linked)
@@ -109,7 +110,7 @@ module _ {room : ℕ} (s : Slab Bare) (colours : List Colour) (now : Slab Linked
   colour-coloured b at = ap (option_map (λ (c : Placed). c.colour)) (cell-read now.slots key (in_colour (get_or colours key White) b) (read-coloured b at))
 
   pub held-coloured : {colour : Colour} → option_map (λ (c : Placed). c.colour) (cell_at (cells_of now.slots) key) ≡ Some colour → ContainsKey s key
-  held-coloured e = held-bare (cell-held now.slots key (sym (some-map (λ (c : Placed). c.colour) (cell_at (cells_of now.slots) key)) ∙ ap is_some e))
+  held-coloured e = held-bare (cell-held now.slots key (sym (is_some-map (λ (c : Placed). c.colour) (cell_at (cells_of now.slots) key)) ∙ ap is_some e))
 
   -- an object made at the key, in a colour
   pub inserted : {other : ℕ} (mid : Slab Bare) (colours' : List Colour) (b : Bare) (colour : Colour) → Reaches s colours → Updates s mid key (Some b) → get_or colours' key White ≡ colour →
@@ -179,7 +180,7 @@ reaches-filled s contents colours reaches key held = reaches key (held-label s c
 pub gray-nowhere : {room : ℕ} {may_be_gray : Bool} (s : Slab Bare) (colours : List Colour) (now : Slab Linked) (same : coloured_slab room s colours ≡ now) (colour : Colour) → colour ≡ Gray →
     may_be_gray ≡ false → AreGrayNoted may_be_gray colours → (key : ℕ) → ¬ (HasColourAt now colour key)
 gray-nowhere s colours now same colour gray none noted key is =
-    let there = some-of (get s key) (held-coloured s colours now same key is) in
+    let there = is_some-found (get s key) (held-coloured s colours now same key is) in
     let read : Some colour ≡ Some (get_or colours key White) = sym is ∙ colour-coloured s colours now same key there.0 there.1 in
     let here : colour ≡ get_or colours key White = cc in
     noted none key (sym here ∙ gray)

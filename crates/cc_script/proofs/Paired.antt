@@ -1,13 +1,8 @@
 -- A SLAB AND A LIST BESIDE IT: what is read at a key, and what a write of either changes.
-use Rattle.cc_lists.proofs.Held.{is_some-found}
 use Rattle.std.proofs.Common.{◌≡◌, ◌≢◌, ℕ, ◌<◌, zero, suc, List, [], ◌∷◌, length, drop, get_or, Option, Some, None, option_map, is_some, true, refl, sym, ◌∙◌, ap, arith}
 use Rattle.std.proofs.Math.ListN.{set}
 use Rattle.slab.specs.Slab.{Slab, ContainsKey, Updates, get}
 use Rattle.cc_script.specs.Paired.{paired, paired_slab, Reaches}
-
--- what stands where something does
-pub some-of : {X : Type 0} (o : Option X) → is_some o ≡ true → (x : X) × (o ≡ Some x)
-some-of o h = is_some-found o h
 
 module _ {X Y Z : Type 0} (pair : Y → X → Z) (none : Y) where
   -- what stands in the list at the next key

@@ -1,6 +1,7 @@
 -- THE SCRIPT OBJECTS AS A LIST, in order of making; each stands at a key, and its slots hold keys. A reflector has the
 -- key of its native, which stands in a heap of its own, and a proxy has the key of its delegate, a script object.
 use Rattle.std.specs.Prelude.{◌≡◌, ◌↔◌, IsSome, IsTrue, ℕ, ◌==◌, Bool, true, false, not, List, [], map, filter, find, replicate, Option, Some, None, is_some, option_map, option_and_then, slice_set, if◌then◌else◌}
+use Rattle.cc_names.specs.Places.{script_places}
 use Rattle.cc_lists.specs.Members.{Among, has}
 use Rattle.cc_lists.specs.Walks as walks
 use Rattle.cc_names.specs.declared.name.Name.{Name}

@@ -1,3 +1,4 @@
 pub mod Whites
 pub mod Keys
 pub mod Passes
+pub mod Ends

@@ -2,22 +2,18 @@
 ghost use Rattle.std.specs.Prelude.{◌≡◌, ◌↔◌, ◌⊎◌, ◌+◌, ◌*◌, ◌^◌, ◌<◌, ◌≤◌, ℕ, Some, true, false, List, [], length, IsTrue, IfNone, IfSome, option_map};
 ghost use Rattle.cc_model.specs.Telling.{TellsEvents};
 ghost use Rattle.cc_model.specs.Heap.{silently};
-ghost use Rattle.cc_model.specs.View.{view};
-ghost use Rattle.cc_model.specs.Snapshot.{Snapshot};
-ghost use Rattle.cc_model.specs.Suspected.{IsSuspected};
-ghost use Rattle.cc_model.specs.End.{root_each, unlink_each, unroot_each, take_away};
+ghost use Rattle.cc_model.specs.End.{root_each, unlink_each, unroot_each};
 ghost use Rattle.cc_counted.specs.Counts as counts;
 ghost use Rattle.cc_graph.specs.Shown.{is_black, number_of};
 ghost use Rattle.cc_graph.specs.Natives.{IsLast, IsNext};
 ghost use Rattle.cc_graph.specs.Held.{AreHeld};
 ghost use Rattle.cc_heaps.specs.HasKey.{HasKey};
 ghost use Rattle.cc_heaps.specs.Keyed.{IsInOrder, changed_to, left_with};
-ghost use Rattle.cc_unlink.specs.Whites.{AreUnreached, AreWhiteIn, KeepsReached, whites_of, whites_above};
+ghost use Rattle.cc_unlink.specs.Whites.{whites_of, whites_above};
 ghost use Rattle.cc_unlink.specs.Passes.{IsAt, native_nodes, nodes_above, nodes_behind, number_in};
+ghost use Rattle.cc_unlink.specs.Ends.{EndsWhites};
 ghost use Rattle.cc_unlink.specs.Keys.{HasNodeKeys, HasOtherKey};
-ghost use Rattle.cc_heaps.specs.Standing.{StillStands};
 ghost use Rattle.cc_heaps.specs.Holders.{first_of};
-ghost use Rattle.cc_heaps.specs.Keeping.{KeepsHeaps};
 
 use cc_counted::{Counted, Held};
 use cc_graph::Graph;
@@ -91,6 +87,7 @@ fn white_at(graph: &Graph, counted: &Counted, native: NativeNo, node: u32) -> Op
 
 /// The white native with the least number above that of `after`, or of all where there is no `after`. It looks at natives
 /// that are nodes, by rising number, up to the one that it finds, and at no others.
+#[inline(always)]
 fn next_white<L: Ledger>(
     graph: &Graph,
     heaps: &Heaps,
@@ -191,13 +188,7 @@ fn unroot_whites<N: Notices, L: Ledger>(
 pub fn collect_white<N: Notices>(graph: Graph, heaps: &mut Heaps, out: &mut N) -> Graph
     requires order { IsInOrder [] heaps.old }
     requires held { AreHeld graph (HasKey heaps.old) }
-    ensures heap { heaps.new ≡ left_with heaps.old (take_away (whites_of graph heaps.old.heap) heaps.old.heap).heap }
-    ensures told { TellsEvents (N.telling out.old) (N.telling out.new) (take_away (whites_of graph heaps.old.heap) heaps.old.heap).events }
-    ensures kept { KeepsHeaps [] [] heaps.old heaps.new }
-    ensures stands { AreUnreached heaps.old.heap (whites_of graph heaps.old.heap) → StillStands heaps.old.heap heaps.new.heap }
-    ensures reached { AreUnreached heaps.old.heap (whites_of graph heaps.old.heap) → KeepsReached heaps.old.heap heaps.new.heap }
-    ensures objects { heaps.new.heap.scripts ≡ heaps.old.heap.scripts }
-    ensures suspected { (s : Snapshot) → AreWhiteIn graph heaps.old.heap s → IsSuspected (view heaps.old.heap) s.candidates → IsSuspected (view heaps.new.heap) [] }
+    ensures ended { EndsWhites graph heaps.old heaps.new (N.telling out.old) (N.telling out.new) }
     ensures graph { result ≡ graph }
 {
     end_uncounted::<Brand, N>(graph, heaps, out, Blank::new(1))
@@ -215,13 +206,7 @@ fn end_uncounted<L: Ledger, N: Notices>(
     requires some { 0 < L.parts }
     requires order { IsInOrder [] heaps.old }
     requires held { AreHeld graph (HasKey heaps.old) }
-    ensures heap { heaps.new ≡ left_with heaps.old (take_away (whites_of graph heaps.old.heap) heaps.old.heap).heap }
-    ensures told { TellsEvents (N.telling out.old) (N.telling out.new) (take_away (whites_of graph heaps.old.heap) heaps.old.heap).events }
-    ensures kept { KeepsHeaps [] [] heaps.old heaps.new }
-    ensures stands { AreUnreached heaps.old.heap (whites_of graph heaps.old.heap) → StillStands heaps.old.heap heaps.new.heap }
-    ensures reached { AreUnreached heaps.old.heap (whites_of graph heaps.old.heap) → KeepsReached heaps.old.heap heaps.new.heap }
-    ensures objects { heaps.new.heap.scripts ≡ heaps.old.heap.scripts }
-    ensures suspected { (s : Snapshot) → AreWhiteIn graph heaps.old.heap s → IsSuspected (view heaps.old.heap) s.candidates → IsSuspected (view heaps.new.heap) [] }
+    ensures ended { EndsWhites graph heaps.old heaps.new (N.telling out.old) (N.telling out.new) }
     ensures graph { result ≡ graph }
 {
     let mut steps = Steps::<L>::new(blank);
@@ -240,13 +225,7 @@ pub fn collect_white_counted<N: Notices, L: Ledger>(
 ) -> Graph
     requires order { IsInOrder [] heaps.old }
     requires held { AreHeld graph (HasKey heaps.old) }
-    ensures heap { heaps.new ≡ left_with heaps.old (take_away (whites_of graph heaps.old.heap) heaps.old.heap).heap }
-    ensures told { TellsEvents (N.telling out.old) (N.telling out.new) (take_away (whites_of graph heaps.old.heap) heaps.old.heap).events }
-    ensures kept { KeepsHeaps [] [] heaps.old heaps.new }
-    ensures stands { AreUnreached heaps.old.heap (whites_of graph heaps.old.heap) → StillStands heaps.old.heap heaps.new.heap }
-    ensures reached { AreUnreached heaps.old.heap (whites_of graph heaps.old.heap) → KeepsReached heaps.old.heap heaps.new.heap }
-    ensures objects { heaps.new.heap.scripts ≡ heaps.old.heap.scripts }
-    ensures suspected { (s : Snapshot) → AreWhiteIn graph heaps.old.heap s → IsSuspected (view heaps.old.heap) s.candidates → IsSuspected (view heaps.new.heap) [] }
+    ensures ended { EndsWhites graph heaps.old heaps.new (N.telling out.old) (N.telling out.new) }
     ensures graph { result ≡ graph }
     ensures steps { steps.new ≤ steps.old + 3 * length (native_nodes graph) }
 {

@@ -3,6 +3,7 @@ use Rattle.std.proofs.Common.{◌≡◌, ℕ, zero, suc, ◌<◌, ◌≤◌, tru
 use Rattle.std.specs.Prelude.{IsTrue, option_to_list}
 use Rattle.std.specs.List.{list_all}
 use Rattle.std.proofs.lemmas.Bool.{and_parts, and_from, not-true, false≢true, true≢false, eqb-true, leb-true}
+use Rattle.std.proofs.lemmas.List.{nil_from_length}
 use Rattle.cc_lists.specs.Members.{Among, has}
 use Rattle.cc_lists.proofs.Members.{has-among, has-there, Among-map, Among-map_cases, Among-left, Among-right}
 use Rattle.cc_lists.proofs.Counting.{counted_is}
@@ -11,14 +12,14 @@ use Rattle.cc_names.specs.declared.name.Name.{Name}
 use Rattle.cc_names.specs.declared.name.Name.TheVariants as name
 use Rattle.cc_names.specs.Names.{native, same_name, is_native, is_script}
 use Rattle.cc_names.proofs.NameTests.{same_name-true, same_name-refl, same_name-exact}
-use Rattle.cc_model.specs.Entries.{Entry}
+use Rattle.cc_model.specs.Entries.{Joint}
 use Rattle.cc_model.specs.View.{View, between, scripts_there}
 use Rattle.cc_model.specs.Snapshot.{Snapshot, Node, Mapping, untraversed, gone, traversed, node_names}
 use Rattle.cc_model.specs.Units.{members_of}
 use Rattle.cc_model.specs.Fresh.{node, IsNode, IsTraversedNode, IsOutside, IsLiving, IsScriptThere, MemberOf, IsMappingOf, HasNodes, done_first, IsFresh}
 use Rattle.cc_model.proofs.MemberNodes.{member-node}
 use Rattle.cc_worked.specs.HeapTests.{all_among, is_made, is_black_to_gray, is_native_or_black, has_no_black_to_gray}
-use Rattle.cc_worked.specs.SnapshotTests.{is_traversed, is_gone, is_sampled_as, is_noted_as_held, native_is_fresh, same_reference, is_noted, edge_is_fresh, is_member_of, is_mapping_of, entry_is_fresh, notes_nothing, is_dead_native, was_made_or_there, node_is_fresh, reference_is_fresh, mapping_is_fresh, has_all_nodes, is_fresh}
+use Rattle.cc_worked.specs.SnapshotTests.{is_traversed, is_gone, is_sampled_as, is_noted_as_held, native_is_fresh, same_reference, is_noted, edge_is_fresh, is_member_of, is_mapping_of, joint_is_fresh, notes_nothing, is_dead_native, was_made_or_there, node_is_fresh, reference_is_fresh, mapping_is_fresh, has_all_nodes, is_fresh}
 use Rattle.cc_worked.proofs.Passing.{list_all-each, list_any-some, list_any-none, all_among-each, has-absent, absent-has}
 
 -- a reference by its ends
@@ -38,13 +39,13 @@ is_noted-true s x y h =
     let same : pair x y ≡ k.0 = ap (λ z. pair z y) (same_name-true x k.0.0 l.0) ∙ ap (λ z. pair k.0.0 z) (same_name-true y k.0.1 l.1) in
     subst (λ (r : Name × Name). Among r s.references) (sym same) k.1
 
--- A mapping's member that passes is that of the entry.
+-- A mapping's member that passes is that of the joint.
 is_member_of-true : (v : View) (member : Option Name) (x : Name) → is_member_of v member x ≡ true → MemberOf v member x
 is_member_of-true v None x h = inr (refl, has-among same_name same_name-exact v.black x h)
 is_member_of-true v (Some y) x h = inl (ap (λ z. Some z) (same_name-true y x h))
 
--- A mapping that passes is that of the entry.
-is_mapping_of-true : (v : View) (e : Entry) (m : Mapping) → is_mapping_of v e m ≡ true → IsMappingOf v e m
+-- A mapping that passes is that of the joint.
+is_mapping_of-true : (v : View) (e : Joint) (m : Mapping) → is_mapping_of v e m ≡ true → IsMappingOf v e m
 is_mapping_of-true v e m h =
     let k = and_parts (same_name m.value e.value) (is_member_of v m.the_map e.the_map && is_member_of v m.key e.key) h in
     let l = and_parts (is_member_of v m.the_map e.the_map) (is_member_of v m.key e.key) k.1 in record {
@@ -86,16 +87,11 @@ is_dead_native-true made v (name.Native i) h =
 is_dead_native-true made v (name.Script i) h = absurd (false≢true h)
 is_dead_native-true made v (name.Reflector i) h = absurd (false≢true h)
 
--- A list of length zero is empty.
-length-zero : {X : Type 0} (xs : List X) → length xs ≡ 0 → xs ≡ []
-length-zero [] e = refl
-length-zero (x ∷ xs) e = absurd (omega (arith, e))
-
 -- The tests that a fresh snapshot passes.
 record FreshParts (made : ℕ) (v : View) (s : Snapshot) : Type 0 where
   natives : list_all (native_is_fresh v s) v.natives ≡ true
   edges : list_all (edge_is_fresh v s) v.edges ≡ true
-  entries : list_all (entry_is_fresh v s) v.entries ≡ true
+  joints : list_all (joint_is_fresh v s) v.joints ≡ true
   colours : has_no_black_to_gray v ≡ true
   members : has_all_nodes s ≡ true
   nodes : list_all (node_is_fresh made v s) s.nodes ≡ true
@@ -110,7 +106,7 @@ fresh-parts made v s h =
     let d = and_parts _ _ c.1 in
     let e = and_parts _ _ d.1 in
     let f = and_parts _ _ e.1 in
-    record { natives = a.0; edges = b.0; entries = c.0; colours = d.0; members = e.0; nodes = f.0; order = f.1 }
+    record { natives = a.0; edges = b.0; joints = c.0; colours = d.0; members = e.0; nodes = f.0; order = f.1 }
 
 -- The tests that each node of it passes.
 record NodeParts (made : ℕ) (v : View) (s : Snapshot) (n : Node) : Type 0 where
@@ -166,11 +162,11 @@ module _ (made : ℕ) (v : View) (s : Snapshot) (part : FreshParts made v s) whe
   gray_held : (i : ℕ) (y : Name) → Among (native i, y) v.edges → Among y v.gray → IsNode s (native i)
   gray_held i y m g = has-among same_name same_name-exact (node_names s) (native i) (and_parts _ _ (gray_edge-right (native i) y m g)).1
 
-  -- An entry with a gray value has a mapping.
-  gray_value : (e : Entry) → Among e v.entries → Among e.value v.gray → (m : Mapping) × Among m s.mappings × IsMappingOf v e m
+  -- A joint that gives a gray object has a mapping.
+  gray_value : (e : Joint) → Among e v.joints → Among e.value v.gray → (m : Mapping) × Among m s.mappings × IsMappingOf v e m
   gray_value e m g =
       let k = list_any-some (is_mapping_of v e) s.mappings (premise-holds (has same_name v.gray e.value) _
-      (list_all-each (entry_is_fresh v s) v.entries part.entries e m) (has-there same_name same_name-exact v.gray e.value g)) in
+      (list_all-each (joint_is_fresh v s) v.joints part.joints e m) (has-there same_name same_name-exact v.gray e.value g)) in
       (k.0, k.1, is_mapping_of-true v e k.0 k.2)
 
   -- A black object holds no gray one.
@@ -189,7 +185,7 @@ module _ (made : ℕ) (v : View) (s : Snapshot) (part : FreshParts made v s) whe
 
   -- No script object is white.
   none_white : v.white ≡ []
-  none_white = length-zero v.white (eqb-true (length v.white) 0 (and_parts _ _ (and_parts _ _ part.colours).1).1)
+  none_white = nil_from_length v.white (eqb-true (length v.white) 0 (and_parts _ _ (and_parts _ _ part.colours).1).1)
 
   -- A noted reference passes for its ends.
   reference-nodes : (x y : Name) → Among (x, y) s.references → (has same_name (node_names s) x && has same_name (node_names s) y) ≡ true

@@ -22,4 +22,7 @@ pub mod Examples12
 pub mod Examples13
 pub mod Examples14
 pub mod Examples15
+pub mod Examples16
+pub mod Examples17
+pub mod Examples18
 pub mod Examples

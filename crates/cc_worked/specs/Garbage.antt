@@ -49,6 +49,16 @@ abbrev pub reflector_of_a_taken_out_entry_is_kept : Transcript
 reflector_of_a_taken_out_entry_is_kept = answered (codes "native n0 0\nwrap s1 n0\nweakmap s0\nwset s0 s1 none\ndrop s1\ngc\ncollect\ngc\ncensus\n")
     (made (native 1) ∷ made (reflector 1) ∷ made (object 1) ∷ ok ∷ ok ∷ ok ∷ ok ∷ ok ∷ lists (native 1 ∷ reflector 1 ∷ object 1 ∷ []) ∷ [])
 
+-- A proxy that no register reaches is gone, though its delegate is held.
+abbrev pub proxy_is_kept : Transcript
+proxy_is_kept = answered (codes "script s0 0\nproxy s1 s0\ndrop s1\ngc\ncollect\ngc\ncensus\n")
+    (made (object 1) ∷ made (object 2) ∷ ok ∷ ok ∷ ok ∷ ok ∷ lists (object 1 ∷ object 2 ∷ []) ∷ [])
+
+-- An entry keeps neither its key nor the delegate of that.
+abbrev pub delegate_of_a_key_is_kept : Transcript
+delegate_of_a_key_is_kept = answered (codes "weakmap s0\nscript s1 0\nproxy s2 s1\nwset s0 s2 s0\ndrop s1\ndrop s2\ngc\ncollect\ngc\ncensus\n")
+    (made (object 1) ∷ made (object 2) ∷ made (object 3) ∷ ok ∷ ok ∷ ok ∷ ok ∷ ok ∷ ok ∷ lists (object 1 ∷ object 2 ∷ object 3 ∷ []) ∷ [])
+
 -- What a register reaches is listed. Such a transcript is not lawful either, since only a free line takes a name out.
 abbrev pub reached_native_is_missing : Transcript
 reached_native_is_missing = answered (codes "native n0 0\ngc\ncollect\ngc\ncensus\n")

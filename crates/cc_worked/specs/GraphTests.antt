@@ -5,11 +5,11 @@ use Rattle.cc_lists.specs.Members.{has}
 use Rattle.cc_names.specs.Allowance.{Allowance}
 use Rattle.cc_names.specs.declared.name.Name.{Name}
 use Rattle.cc_names.specs.declared.kind.Kind.{Kind}
-use Rattle.cc_names.specs.declared.kind.Kind.TheVariants.{Plain, Reflector, Map}
+use Rattle.cc_names.specs.declared.kind.Kind.TheVariants.{Plain, Reflector, Map, Proxy}
 use Rattle.cc_names.specs.Names.{native, reflector, same_name}
 use Rattle.cc_model.specs.Slots.{Slots, reflector_slots}
 use Rattle.cc_model.specs.Entries.{Entry, value_in}
-use Rattle.cc_model.specs.Graph.{Graph, GraphNative, native_in}
+use Rattle.cc_model.specs.Graph.{Graph, GraphNative, native_in, delegate_of_script}
 use Rattle.cc_model.specs.Reached.{reached_names}
 use Rattle.cc_model.specs.Heap.{Heap, HeapNative, HeapScript}
 use Rattle.cc_model.specs.StandsFor.{Shape, kind_in, shape_in, shape_at, shape_of_held_native, shape_of_held_script}
@@ -37,7 +37,7 @@ same_flag true b = b
 same_flag false b = not b
 
 abbrev pub same_shape : Shape → Shape → Bool
-same_shape a b = same_slots_or_none a.slots b.slots && same_flag a.preserved b.preserved
+same_shape a b = same_slots_or_none a.slots b.slots && (same_content a.delegate b.delegate && same_flag a.preserved b.preserved)
 
 -- whether both are there and the same
 abbrev pub are_same_shape : Option Shape → Option Shape → Bool
@@ -48,6 +48,7 @@ abbrev pub same_kind : Kind → Kind → Bool
 same_kind Plain Plain = true
 same_kind Reflector Reflector = true
 same_kind Map Map = true
+same_kind Proxy Proxy = true
 same_kind _ _ = false
 
 abbrev pub is_kind : Option Kind → Kind → Bool
@@ -58,7 +59,7 @@ abbrev pub same_limits : Allowance → Allowance → Bool
 same_limits a b = a.natives == b.natives && (a.scripts == b.scripts && a.bytes == b.bytes)
 
 abbrev pub same_entry : Entry → Entry → Bool
-same_entry d e = same_name d.the_map e.the_map && (same_name d.key e.key && same_name d.value e.value)
+same_entry d e = same_name d.the_map e.the_map && (same_name d.key e.key && (same_content d.delegate e.delegate && same_name d.value e.value))
 
 -- whether a list has some entries of another, in the same order
 abbrev pub is_part : List Entry → List Entry → Bool
@@ -99,9 +100,12 @@ is_blank slots = length slots == reflector_slots && list_all is_empty_slot slots
 abbrev pub is_key : Graph → Name → Bool
 is_key g x = list_any (λ e. same_name e.key x) g.entries
 
--- whether native k of the graph is preserved, was never wrapped, or has a blank reflector that is no key
+abbrev pub is_delegate : Graph → Name → Bool
+is_delegate g x = list_any (λ o. same_content (delegate_of_script o) (Some x)) g.scripts
+
+-- whether native k of the graph is preserved, was never wrapped, or has a blank reflector that is no key and no delegate
 abbrev pub may_be_blank : Graph → ℕ → GraphNative → Bool
-may_be_blank g k n = n.preserved || (elim n.reflector [ None ↦ true | Some slots ↦ is_blank slots && not (is_key g (reflector k)) ])
+may_be_blank g k n = n.preserved || (elim n.reflector [ None ↦ true | Some slots ↦ is_blank slots && (not (is_key g (reflector k)) && not (is_delegate g (reflector k))) ])
 
 abbrev pub all_blank : Graph → ℕ → List GraphNative → Bool
 all_blank g k [] = true

@@ -1,11 +1,11 @@
 -- Tests of the heaps: that they are well formed, that the counts are right, and that the colours are.
-use Rattle.std.specs.Prelude.{ℕ, ◌+◌, Bool, true, false, not, ◌&&◌, ◌||◌, ◌==◌, List, [], ◌∷◌, map, length, count_by, nat_le, nat_lt}
+use Rattle.std.specs.Prelude.{ℕ, ◌+◌, Bool, true, false, not, ◌&&◌, ◌||◌, ◌==◌, List, [], ◌∷◌, ◌++◌, map, length, count_by, Option, Some, None, option_to_list, nat_le, nat_lt}
 use Rattle.std.specs.List.{list_all, list_any}
 use Rattle.cc_lists.specs.Members.{has}
 use Rattle.cc_names.specs.declared.name.Name.{Name}
 use Rattle.cc_names.specs.declared.name.Name.TheVariants as name
 use Rattle.cc_names.specs.declared.kind.Kind.{Kind}
-use Rattle.cc_names.specs.declared.kind.Kind.TheVariants.{Plain, Reflector, Map}
+use Rattle.cc_names.specs.declared.kind.Kind.TheVariants.{Plain, Reflector, Map, Proxy}
 use Rattle.cc_names.specs.declared.kind.Colour.{Colour}
 use Rattle.cc_names.specs.declared.kind.Colour.TheVariants.{White, Gray, Black}
 use Rattle.cc_names.specs.Names.{native, reflector, same_name, is_native}
@@ -46,6 +46,7 @@ native_fits h n =
 abbrev pub fits_name : Name → Kind → Slots → Bool
 fits_name (name.Script k) Plain slots = nat_le (length slots) most_slots
 fits_name (name.Script k) Map slots = length slots == 0
+fits_name (name.Script k) Proxy slots = length slots == 0
 fits_name (name.Reflector k) Reflector slots = length slots == reflector_slots
 fits_name _ kind slots = false
 
@@ -55,26 +56,46 @@ has_origin h (name.Native k) = true
 has_origin h (name.Script k) = is_made h.scripts_made k.0
 has_origin h (name.Reflector k) = has same_name (native_names h) (native k.0)
 
+-- whether a proxy has one delegate, and any other object none
+abbrev pub has_own_delegate : Kind → Option Name → Bool
+has_own_delegate Plain None = true
+has_own_delegate Reflector None = true
+has_own_delegate Map None = true
+has_own_delegate Proxy (Some d) = true
+has_own_delegate kind its_delegate = false
+
 abbrev pub script_fits : Heap → HeapScript → Bool
 script_fits h o =
     count_by (same_name o.name) (script_names h) == 1
     && (has_origin h o.name
     && (fits_name o.name o.kind o.slots
-    && all_among (contents o.slots) (script_names h)))
+    && (has_own_delegate o.kind o.delegate
+    && all_among (contents o.slots ++ option_to_list o.delegate) (script_names h))))
 
 abbrev pub is_map_kind : Kind → Bool
 is_map_kind Plain = false
 is_map_kind Reflector = false
 is_map_kind Map = true
+is_map_kind Proxy = false
 
 abbrev pub is_map_named : Name → HeapScript → Bool
 is_map_named x o = same_name o.name x && is_map_kind o.kind
+
+abbrev pub same_delegate : Option Name → Option Name → Bool
+same_delegate None None = true
+same_delegate (Some c) (Some d) = same_name c d
+same_delegate _ _ = false
+
+-- whether an object is not the key of an entry, or has the delegate that stands with it there
+abbrev pub has_delegate_of : Entry → HeapScript → Bool
+has_delegate_of e o = not (same_name o.name e.key) || same_delegate o.delegate e.delegate
 
 abbrev pub entry_fits : Heap → Entry → Bool
 entry_fits h e =
     list_any (is_map_named e.the_map) h.scripts
     && (all_among (e.key ∷ e.value ∷ []) (script_names h)
-    && count_by (is_entry_of e.the_map e.key) h.entries == 1)
+    && (list_all (has_delegate_of e) h.scripts
+    && count_by (is_entry_of e.the_map e.key) h.entries == 1))
 
 abbrev pub buffered_fits : Heap → Buffered → Bool
 buffered_fits h b = has same_name (native_names h) (native b.number) && count_by (λ other. other.number == b.number) h.buffer == 1

@@ -461,3 +461,107 @@ input_of_one_byte_less = codes "native n0 0\n"
 -- An empty input is read whole where no byte is allowed.
 abbrev pub empty_input_where_no_byte_is_allowed : List ℕ
 empty_input_where_no_byte_is_allowed = []
+
+-- A proxy that is a key and that nothing holds lives while its map and its delegate do, and its value with it; they go with the delegate.
+abbrev pub proxy_key_lives_as_long_as_map_and_delegate : List ℕ
+proxy_key_lives_as_long_as_map_and_delegate = codes "weakmap s0\nscript s1 0\nproxy s2 s1\nscript s3 0\nwset s0 s2 s3\ndrop s2\ndrop s3\ngc\ncensus\ndrop s1\ngc\n"
+
+-- A reflector that gets a proxy is preserved: it outlives the proxy, and its native keeps it.
+abbrev pub reflector_with_a_proxy_is_preserved : List ℕ
+reflector_with_a_proxy_is_preserved = codes "native n0 0\nwrap s0 n0\nproxy s1 s0\ndrop s0\ndrop s1\ngc\ncensus\n"
+
+-- Gc, collect and gc take a cycle that goes from a reflector over its proxy, which is a key, to the value of that key, which holds the reflector.
+abbrev pub cycle_through_a_proxy_key : List ℕ
+cycle_through_a_proxy_key = codes "native n0 0\nwrap s1 n0\nweakmap s0\nproxy s2 s1\nscript s3 1\nput s3 0 s1\nwset s0 s2 s3\ndrop n0\ndrop s1\ndrop s2\ndrop s3\ngc\ncollect\ngc\n"
+
+-- A proxy keeps what it stands for, with all that this holds, and is not kept by it where it is no key.
+abbrev pub proxy_keeps_its_delegate : List ℕ
+proxy_keeps_its_delegate = codes "script s0 1\nscript s1 0\nput s0 0 s1\nproxy s2 s0\ndrop s0\ndrop s1\ngc\ncensus\ndrop s2\ngc\nscript s0 0\nproxy s1 s0\ndrop s1\ngc\n"
+
+-- A proxy of a proxy of a reflector keeps both, and with them the native; the cycle of native and reflector is taken once nothing holds the proxies.
+abbrev pub proxy_of_a_proxy_of_a_reflector : List ℕ
+proxy_of_a_proxy_of_a_reflector = codes "native n0 0\nwrap s0 n0\nproxy s1 s0\nproxy s2 s1\ndrop n0\ndrop s0\ndrop s1\ngc\ncollect\ncensus\ndrop s2\ngc\ncollect\ngc\n"
+
+-- A key that is a proxy of another proxy lives by it, where that is a key too and lives by its own delegate.
+abbrev pub key_that_is_a_proxy_of_a_key : List ℕ
+key_that_is_a_proxy_of_a_key = codes "weakmap s0\nscript s1 0\nproxy s2 s1\nproxy s3 s2\nscript s4 0\nscript s5 0\nwset s0 s3 s4\nwset s0 s2 s5\ndrop s2\ndrop s3\ndrop s4\ndrop s5\ngc\ncensus\ndrop s1\ngc\n"
+
+-- A proxy that is a key of two maps lives by the second one when the first is gone, and the values go each with its map.
+abbrev pub proxy_is_a_key_of_two_maps : List ℕ
+proxy_is_a_key_of_two_maps = codes "weakmap s0\nweakmap s1\nscript s2 0\nproxy s3 s2\nscript s4 0\nscript s5 0\nwset s0 s3 s4\nwset s1 s3 s5\ndrop s3\ndrop s4\ndrop s5\ngc\ndrop s0\ngc\ndrop s1\ngc\n"
+
+-- A key that stands for its own map lives as long as this.
+abbrev pub delegate_is_the_map_itself : List ℕ
+delegate_is_the_map_itself = codes "weakmap s0\nproxy s1 s0\nscript s2 0\nwset s0 s1 s2\ndrop s1\ndrop s2\ngc\ncensus\ndrop s0\ngc\n"
+
+-- A value for which its key stands is kept by no entry.
+abbrev pub delegate_is_the_value : List ℕ
+delegate_is_the_value = codes "weakmap s0\nscript s1 0\nproxy s2 s1\nwset s0 s2 s1\ndrop s2\ngc\ncensus\ndrop s1\ngc\ncensus\n"
+
+-- An entry whose value alone holds the delegate of its key is dropped, with all three.
+abbrev pub value_holds_the_delegate : List ℕ
+value_holds_the_delegate = codes "weakmap s0\nscript s1 0\nproxy s2 s1\nscript s3 1\nput s3 0 s1\nwset s0 s2 s3\ndrop s1\ndrop s2\ndrop s3\ngc\ncensus\n"
+
+-- A proxy is kept by its delegate no longer where its entry is taken out or goes with its map.
+abbrev pub entry_of_a_proxy_key_is_taken_out : List ℕ
+entry_of_a_proxy_key_is_taken_out = codes "weakmap s0\nscript s1 0\nproxy s2 s1\nwset s0 s2 s1\nwget s3 s0 s2\nwset s0 s2 none\ndrop s3\ndrop s2\ngc\nproxy s2 s1\nwset s0 s2 s2\ndrop s2\ngc\ndrop s0\ngc\n"
+
+-- A proxy that is a value lives by map and key alone.
+abbrev pub proxy_is_a_value : List ℕ
+proxy_is_a_value = codes "weakmap s0\nscript s1 0\nscript s2 0\nproxy s3 s2\nwset s0 s1 s3\ndrop s3\ngc\nwget s3 s0 s1\ndrop s3\ndrop s1\ngc\n"
+
+-- A collection keeps a native to whose reflector a proxy in a slot of another native leads, and the next one takes it.
+abbrev pub gray_proxy_keeps_its_delegate : List ℕ
+gray_proxy_keeps_its_delegate = codes "native n0 1\nnative n1 0\nwrap s1 n1\nproxy s2 s1\nset n0 0 s2\ndrop s1\ndrop s2\ndrop n1\ngc\ncollect\ncensus\ndrop n0\ngc\ncollect\ngc\ncensus\n"
+
+-- A collection keeps a native to which the value of a proxy key leads, where a native holds the delegate alone.
+abbrev pub gray_proxy_key_of_a_live_native : List ℕ
+gray_proxy_key_of_a_live_native = codes "native n0 1\nnative n1 0\nweakmap s0\nscript s1 0\nproxy s2 s1\nscript s3 1\nwrap s4 n1\nput s3 0 s4\npreserve s4\nset n0 0 s1\nwset s0 s2 s3\ndrop s1\ndrop s2\ndrop s3\ndrop s4\ndrop n1\ngc\ncollect\ncensus\nget s1 n0 0\ngc\ncensus\n"
+
+-- A proxy that script reads out of a native while a collection runs exposes its delegate too, so the native to which that leads is kept.
+abbrev pub exposed_proxy_exposes_its_delegate : List ℕ
+exposed_proxy_exposes_its_delegate = codes "native n0 1\nnative n1 0\nwrap s1 n1\nproxy s2 s1\nset n0 0 s2\ndrop s1\ndrop s2\ndrop n1\ngc\nslice 1\nget s2 n0 0\nset n0 0 none\nslice 99\ncensus\n"
+
+-- The delegate of a proxy key is exposed after a collection began, in which map, delegate, key and value were gray, and the native to which the value leads is kept.
+abbrev pub delegate_exposed_between_slices : List ℕ
+delegate_exposed_between_slices = codes "native n0 2\nnative n1 0\nweakmap s0\nscript s1 0\nproxy s2 s1\nscript s3 1\nwrap s4 n1\nput s3 0 s4\npreserve s4\nset n0 0 s1\nset n0 1 s0\nwset s0 s2 s3\ndrop s0\ndrop s1\ndrop s2\ndrop s3\ndrop s4\ndrop n1\ngc\nslice 1\nexpose n0 0\nslice 99\ncensus\n"
+
+-- A delegate that was gray when its mapping was noted is read into a register, and the native that held it lets it go: key and value live by the black delegate, and so does the native.
+abbrev pub delegate_read_after_its_mapping_was_noted : List ℕ
+delegate_read_after_its_mapping_was_noted = codes "native n0 1\nnative n1 0\nweakmap s0\nscript s1 0\nproxy s2 s1\nscript s3 1\nwrap s4 n1\nput s3 0 s4\npreserve s4\nset n0 0 s1\nwset s0 s2 s3\ndrop s1\ndrop s2\ndrop s3\ndrop s4\ndrop n1\ngc\nslice 1\nget s1 n0 0\nset n0 0 none\nslice 99\ngc\ncensus\ndrop s1\ngc\ncollect\ngc\ncensus\n"
+
+-- A proxy made and set as a key while a collection runs keeps nothing beyond its delegate, and the cycle is taken by the next collection.
+abbrev pub entry_of_a_proxy_set_in_mid_collection : List ℕ
+entry_of_a_proxy_set_in_mid_collection = codes "native n0 1\nwrap s1 n0\nweakmap s0\nscript s3 1\nput s3 0 s1\npreserve s1\nset n0 0 n0\ndrop s1\ndrop s3\ngc\nslice 1\nwrap s1 n0\nscript s3 1\nput s3 0 s1\nproxy s2 s1\nwset s0 s2 s3\ndrop n0\ndrop s1\ndrop s2\ndrop s3\nslice 99\ngc\ncollect\ngc\ncensus\n"
+
+-- A delegate of which an entry tells is looked at before the key, and the key before the value: what the delegate holds is noted before script touches it, and what the value holds is black by then, so there are eight units.
+abbrev pub delegate_comes_before_its_key : List ℕ
+delegate_comes_before_its_key = codes "native n0 2\nweakmap s0\nscript s1 1\nproxy s2 s1\nscript s3 1\nscript s4 0\nscript s5 0\nput s1 0 s4\nput s3 0 s5\nset n0 0 s1\nset n0 1 s3\nwset s0 s2 s3\ndrop s1\ndrop s2\ndrop s3\ndrop s4\ndrop s5\nnative n1 1\nset n1 0 n1\ndrop n1\ngc\nslice 4\nexpose n0 0\nslice 1\nexpose n0 1\nslice 1\nslice 1\nslice 1\n"
+
+-- A collection with one candidate looks at it, at the holder of a delegate, at the delegate, at the proxy and at the value, so it takes seven units.
+abbrev pub gray_proxy_key_takes_seven_units : List ℕ
+gray_proxy_key_takes_seven_units = codes "native n0 1\nweakmap s0\nscript s1 0\nproxy s2 s1\nscript s3 0\nwset s0 s2 s3\nset n0 0 s1\ndrop s1\ndrop s2\ndrop s3\nnative n1 1\nset n1 0 n1\ndrop n1\ngc\nslice 6\nslice 1\nget s1 n0 0\ngc\ncensus\n"
+
+-- A slot of a proxy is neither written nor read, since it has none; it is no reflector and no weak map.
+abbrev pub proxy_has_no_slots : List ℕ
+proxy_has_no_slots = codes "script s0 1\nproxy s1 s0\nput s1 0 s0\nput s1 0 none\nput s1 4 s9\ntake s2 s1 0\ntake s2 s1 4294967295\nunwrap n0 s1\npreserve s1\nwset s1 s0 s0\nwset s1 s0 none\nwget s2 s1 s0\nnative n0 1\nset n0 0 s1\nget s3 n0 0\nput s0 0 s3\ntake s2 s0 0\ncensus\n"
+
+-- A proxy is not made of what an empty register holds, and the register that was to hold it keeps what it holds.
+abbrev pub proxy_of_nothing_is_refused : List ℕ
+proxy_of_nothing_is_refused = codes "script s0 0\nproxy s0 s1\nproxy s1 s1\ncopy s2 s0\nproxy s0 s0\nproxy s0 s0\ndrop s2\ngc\ncensus\n"
+
+-- Proxies count with plain objects and weak maps, and an empty register is told before the limit.
+abbrev pub limit_counts_proxies : List ℕ
+limit_counts_proxies = codes "script s0 0\nproxy s1 s0\nproxy s2 s0\nproxy s2 s9\nweakmap s2\nscript s2 0\n"
+
+-- A proxy takes memory; where it is refused nothing is made and no reflector is preserved.
+abbrev pub refused_proxy_preserves_nothing : List ℕ
+refused_proxy_preserves_nothing = codes "native n0 0\nwrap s0 n0\nproxy s1 s0\ncopy s2 s1\ndrop s0\ngc\nwrap s0 n0\nproxy s1 s0\ndrop s0\ndrop s1\ngc\ncensus\n"
+
+-- A proxy that is refused for the limit preserves no reflector.
+abbrev pub full_proxy_preserves_nothing : List ℕ
+full_proxy_preserves_nothing = codes "native n0 0\nscript s1 0\nwrap s0 n0\nproxy s2 s0\ndrop s0\ngc\n"
+
+-- A proxy is asked for with two script registers and nothing else.
+abbrev pub forms_of_proxies_are_few : List ℕ
+forms_of_proxies_are_few = codes "proxy\nproxy s0\nproxy n0 s0\nproxy s0 n0\nproxy s256 s0\nproxy s0 s256\nproxy s0 s1 s2\nproxy s0 none\nproxy s0 0\nProxy s0 s1\nproxy s00 s1\nproxy s255 s255\n"

@@ -41,6 +41,16 @@ abbrev pub value_goes_with_its_key : Transcript
 value_goes_with_its_key = answered (codes "weakmap s0\nscript s1 0\nscript s2 0\nwset s0 s1 s2\ndrop s1\ndrop s2\ngc\n")
     (made (object 1) ∷ made (object 2) ∷ made (object 3) ∷ ok ∷ ok ∷ ok ∷ done_after (Freed (object 2) ∷ Freed (object 3) ∷ []) ∷ [])
 
+-- A proxy may be refused memory, and then no reflector was preserved.
+abbrev pub proxy_may_be_refused_memory : Transcript
+proxy_may_be_refused_memory = answered (codes "native n0 0\nwrap s0 n0\nproxy s1 s0\ndrop s0\ngc\ncensus\n")
+    (made (native 1) ∷ made (reflector 1) ∷ without_memory ∷ ok ∷ done_after (Freed (reflector 1) ∷ []) ∷ lists (native 1 ∷ []) ∷ [])
+
+-- A proxy that is a key is freed where its delegate is.
+abbrev pub proxy_key_goes_with_its_delegate : Transcript
+proxy_key_goes_with_its_delegate = answered (codes "weakmap s0\nscript s1 0\nproxy s2 s1\nwset s0 s2 s0\ndrop s1\ndrop s2\ngc\n")
+    (made (object 1) ∷ made (object 2) ∷ made (object 3) ∷ ok ∷ ok ∷ ok ∷ done_after (Freed (object 2) ∷ Freed (object 3) ∷ []) ∷ [])
+
 -- A long line, one that is not in the grammar, a blank one and a comment are answered each in its way.
 abbrev pub lines_that_ask_nothing : Transcript
 lines_that_ask_nothing = answered ((replicate 121 97 ++ 10 ∷ []) ++ codes "dorp n0\n\n% drop n0\n")

@@ -5,7 +5,7 @@ use Rattle.cc_lists.specs.Members.{has}
 use Rattle.cc_lists.specs.Least.{system, closure}
 use Rattle.cc_names.specs.declared.name.Name.{Name}
 use Rattle.cc_names.specs.Names.{native, same_name, is_native, is_script, number_of}
-use Rattle.cc_model.specs.Entries.{Entry}
+use Rattle.cc_model.specs.Entries.{Joint}
 use Rattle.cc_model.specs.View.{View, between, scripts_there}
 use Rattle.cc_model.specs.Snapshot.{Snapshot, Node, NodeState, Mapping, untraversed, gone, traversed, node_names}
 use Rattle.cc_model.specs.Units.{members_of}
@@ -63,11 +63,12 @@ abbrev pub is_member_of : View → Option Name → Name → Bool
 is_member_of v None x = has same_name v.black x
 is_member_of v (Some member) x = same_name member x
 
-abbrev pub is_mapping_of : View → Entry → Mapping → Bool
+abbrev pub is_mapping_of : View → Joint → Mapping → Bool
 is_mapping_of v e m = same_name m.value e.value && (is_member_of v m.the_map e.the_map && is_member_of v m.key e.key)
 
-abbrev pub entry_is_fresh : View → Snapshot → Entry → Bool
-entry_is_fresh v s e = not (has same_name v.gray e.value) || list_any (is_mapping_of v e) s.mappings
+-- whether a joint that gives a gray object has a mapping
+abbrev pub joint_is_fresh : View → Snapshot → Joint → Bool
+joint_is_fresh v s e = not (has same_name v.gray e.value) || list_any (is_mapping_of v e) s.mappings
 
 abbrev pub notes_nothing : Snapshot → Name → Bool
 notes_nothing s x = not (list_any (λ r. same_name r.0 x) s.references)
@@ -104,7 +105,7 @@ abbrev pub is_fresh : ℕ → View → Snapshot → Bool
 is_fresh made v s =
     list_all (native_is_fresh v s) v.natives
     && (list_all (edge_is_fresh v s) v.edges
-    && (list_all (entry_is_fresh v s) v.entries
+    && (list_all (joint_is_fresh v s) v.joints
     && (has_no_black_to_gray v
     && (has_all_nodes s
     && (list_all (node_is_fresh made v s) s.nodes

@@ -66,6 +66,26 @@ abbrev pub value_is_freed_while_map_and_key_are_held : Transcript
 value_is_freed_while_map_and_key_are_held = answered (codes "weakmap s0\nscript s1 0\nwset s0 s0 s1\ndrop s1\ngc\n")
     (made (object 1) ∷ made (object 2) ∷ ok ∷ ok ∷ done_after (Freed (object 2) ∷ []) ∷ [])
 
+-- A reflector is preserved where it gets a proxy.
+abbrev pub reflector_that_is_a_delegate_is_freed : Transcript
+reflector_that_is_a_delegate_is_freed = answered (codes "native n0 0\nwrap s0 n0\nproxy s1 s0\ndrop s0\ndrop s1\ngc\n")
+    (made (native 1) ∷ made (reflector 1) ∷ made (object 1) ∷ ok ∷ ok ∷ done_after (Freed (reflector 1) ∷ []) ∷ [])
+
+-- A delegate lives as long as its proxy.
+abbrev pub delegate_is_freed_while_its_proxy_is_held : Transcript
+delegate_is_freed_while_its_proxy_is_held = answered (codes "script s0 0\nproxy s1 s0\ndrop s0\ngc\n")
+    (made (object 1) ∷ made (object 2) ∷ ok ∷ done_after (Freed (object 1) ∷ []) ∷ [])
+
+-- A proxy that is a key lives as long as its map and its delegate.
+abbrev pub proxy_key_is_freed_while_map_and_delegate_are_held : Transcript
+proxy_key_is_freed_while_map_and_delegate_are_held = answered (codes "weakmap s0\nproxy s1 s0\nwset s0 s1 s0\ndrop s1\ngc\n")
+    (made (object 1) ∷ made (object 2) ∷ ok ∷ ok ∷ done_after (Freed (object 2) ∷ []) ∷ [])
+
+-- So does the value of such a key.
+abbrev pub value_of_a_proxy_key_is_freed_while_map_and_delegate_are_held : Transcript
+value_of_a_proxy_key_is_freed_while_map_and_delegate_are_held = answered (codes "weakmap s0\nproxy s1 s0\nscript s2 0\nwset s0 s1 s2\ndrop s1\ndrop s2\ngc\n")
+    (made (object 1) ∷ made (object 2) ∷ made (object 3) ∷ ok ∷ ok ∷ ok ∷ done_after (Freed (object 3) ∷ []) ∷ [])
+
 -- A drop frees no script object.
 abbrev pub script_object_is_freed_by_a_drop : Transcript
 script_object_is_freed_by_a_drop = answered (codes "script s0 0\ndrop s0\n") (made (object 1) ∷ done_after (Freed (object 1) ∷ []) ∷ [])

@@ -102,6 +102,16 @@ abbrev pub entry_of_another_key_is_taken_out : Transcript
 entry_of_another_key_is_taken_out = answered (codes "weakmap s0\nscript s1 0\nwset s0 s0 s0\nwset s0 s1 s0\nwset s0 s0 none\nwget s2 s0 s1\n")
     (made (object 1) ∷ made (object 2) ∷ ok ∷ ok ∷ ok ∷ replying [] nothing_there ∷ [])
 
+-- A proxy has no slots.
+abbrev pub slot_of_a_proxy_is_read : Transcript
+slot_of_a_proxy_is_read = answered (codes "script s0 0\nproxy s1 s0\ntake s2 s1 0\n")
+    (made (object 1) ∷ made (object 2) ∷ replying [] nothing_there ∷ [])
+
+-- A slot that a proxy has not is refused as that of a plain object is, and not as a weak map is.
+abbrev pub proxy_is_taken_for_a_map : Transcript
+proxy_is_taken_for_a_map = answered (codes "script s0 0\nproxy s1 s0\ntake s2 s1 0\n")
+    (made (object 1) ∷ made (object 2) ∷ refused Kind ∷ [])
+
 -- Wants of memory
 
 -- A copy of a native register takes no memory.
@@ -172,6 +182,11 @@ refused_wrap_wants_memory = answered (codes "wrap s0 n0\n") (without_memory ∷ 
 -- An entry that the graph refuses asks no memory.
 abbrev pub refused_wset_wants_memory : Transcript
 refused_wset_wants_memory = answered (codes "wset s0 s1 s2\n") (without_memory ∷ [])
+
+-- A proxy that the graph refuses asks no memory.
+abbrev pub refused_proxy_wants_memory : Transcript
+refused_proxy_wants_memory = answered (codes "proxy s0 s1\n")
+    (without_memory ∷ [])
 
 -- Want of memory is no other refusal.
 abbrev pub full_in_place_of_want_of_memory : Transcript

@@ -1,7 +1,7 @@
 //! Transcripts that are right, at the limits of what is lawful.
 
 ghost use Rattle.cc_worked.specs.Transcripts.{IsRight};
-ghost use Rattle.cc_worked.specs.Right.{memory_may_be_refused, reflector_may_be_refused_again, refused_collections_abandon, gc_abandons_first, two_collections_end, garbage_stays_for_a_while, value_goes_with_its_key, lines_that_ask_nothing, census_in_order};
+ghost use Rattle.cc_worked.specs.Right.{memory_may_be_refused, reflector_may_be_refused_again, refused_collections_abandon, gc_abandons_first, two_collections_end, garbage_stays_for_a_while, value_goes_with_its_key, proxy_may_be_refused_memory, proxy_key_goes_with_its_delegate, lines_that_ask_nothing, census_in_order};
 
 /// What the clauses just allow is right.
 pub fn right_transcripts_pass()
@@ -12,6 +12,8 @@ pub fn right_transcripts_pass()
     ensures two_collections_end { IsRight two_collections_end }
     ensures garbage_stays_for_a_while { IsRight garbage_stays_for_a_while }
     ensures value_goes_with_its_key { IsRight value_goes_with_its_key }
+    ensures proxy_may_be_refused_memory { IsRight proxy_may_be_refused_memory }
+    ensures proxy_key_goes_with_its_delegate { IsRight proxy_key_goes_with_its_delegate }
     ensures lines_that_ask_nothing { IsRight lines_that_ask_nothing }
     ensures census_in_order { IsRight census_in_order }
 {}

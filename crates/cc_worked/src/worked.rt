@@ -4,7 +4,7 @@ ghost use Rattle.std.specs.Prelude.{◌≡◌, ◌++◌, codes};
 ghost use Rattle.cc_model.specs.Forms.{version_one_forms};
 ghost use Rattle.cc_model.specs.Run.{plain_text};
 ghost use Rattle.cc_worked.specs.Examples.{IsLawfulRun, IsQuietRun, ample, default_limits, refused_at};
-ghost use Rattle.cc_worked.specs.Inputs.{cascade_of_two, collect_refused_at_a_node, cycle_through_a_reflector, cycle_through_an_entry, entry_does_not_keep_its_key, gc_sweeps_three_rounds, native_lives_by_an_exposed_reflector, read_between_slices, refusals_and_odd_lines, self_cycle_is_collected, self_cycle_outlives_its_register, touched_between_slices, two_cycle_takes_four_units, value_lives_by_its_mapping};
+ghost use Rattle.cc_worked.specs.Inputs.{cascade_of_two, collect_refused_at_a_node, cycle_through_a_proxy_key, cycle_through_a_reflector, cycle_through_an_entry, delegate_read_after_its_mapping_was_noted, entry_does_not_keep_its_key, gc_sweeps_three_rounds, native_lives_by_an_exposed_reflector, proxy_key_lives_as_long_as_map_and_delegate, read_between_slices, refusals_and_odd_lines, self_cycle_is_collected, self_cycle_outlives_its_register, touched_between_slices, two_cycle_takes_four_units, value_lives_by_its_mapping};
 
 /// What these examples write.
 pub fn examples_write_their_lines()
@@ -15,6 +15,9 @@ pub fn examples_write_their_lines()
     ensures value_lives_by_its_mapping { plain_text version_one_forms default_limits ample value_lives_by_its_mapping
         ≡ codes "= #1\n= #2\n= @1\n= @2\n= @3\n= ~2\n= ok\n= ok\n= ok\n"
         ++ codes "= ok\n= ok\n= ok\n= ok\n= ok\n= ok\n= @2\n= @3\n= ~2\n= #2\n" }
+    ensures cycle_through_a_proxy_key { plain_text version_one_forms default_limits ample cycle_through_a_proxy_key
+        ≡ codes "= #1\n= ~1\n= @1\n= @2\n= @3\n= ok\n= ok\n= ok\n= ok\n= ok\n= ok\n= ok\n"
+        ++ codes "- unlink #1\n= ok\n- free ~1\n- free #1\n- free @2\n- free @3\n= ok\n" }
 {}
 
 /// The plain run of each of these examples is a transcript of an object graph from which nothing is freed.
@@ -31,6 +34,9 @@ pub fn examples_are_lawful()
     ensures entry_does_not_keep_its_key { IsLawfulRun default_limits ample entry_does_not_keep_its_key }
     ensures cycle_through_an_entry { IsLawfulRun default_limits ample cycle_through_an_entry }
     ensures value_lives_by_its_mapping { IsLawfulRun default_limits ample value_lives_by_its_mapping }
+    ensures proxy_key_lives_as_long_as_map_and_delegate { IsLawfulRun default_limits ample proxy_key_lives_as_long_as_map_and_delegate }
+    ensures cycle_through_a_proxy_key { IsLawfulRun default_limits ample cycle_through_a_proxy_key }
+    ensures delegate_read_after_its_mapping_was_noted { IsLawfulRun default_limits ample delegate_read_after_its_mapping_was_noted }
     ensures refusals_and_odd_lines { IsLawfulRun default_limits ample refusals_and_odd_lines }
     ensures collect_refused_at_a_node { IsLawfulRun default_limits (refused_at 3) collect_refused_at_a_node }
 {}
@@ -39,5 +45,6 @@ pub fn examples_are_lawful()
 pub fn examples_are_quiet()
     ensures cycle_through_a_reflector { IsQuietRun default_limits ample cycle_through_a_reflector }
     ensures cycle_through_an_entry { IsQuietRun default_limits ample cycle_through_an_entry }
+    ensures delegate_read_after_its_mapping_was_noted { IsQuietRun default_limits ample delegate_read_after_its_mapping_was_noted }
     ensures collect_refused_at_a_node { IsQuietRun default_limits (refused_at 3) collect_refused_at_a_node }
 {}

@@ -31,33 +31,25 @@ ended g c =
     (rw c.root_whites.ensures.whites at c.unlink_whites.ensures.order)
     (rw (c.unlink_whites.ensures.whites, c.root_whites.ensures.whites) at c.unroot_whites.ensures.heap)
 
-pub returns-clause-heap : goal.returns-clause-heap
-returns-clause-heap g c = ended g c
-
-pub returns-clause-told : goal.returns-clause-told
-returns-clause-told g c =
-    let first = c.args.heaps.now in
-    let telling = g.N.Notices.telling in
-    WhiteEnd-told (whites_of c.args.graph first.heap) first c.root_whites.new.heaps c.unlink_whites.new.heaps c.unroot_whites.new.heaps
-    c.root_whites.ensures.heap (rw c.root_whites.ensures.whites at c.unlink_whites.ensures.heap)
-    (telling c.args.out.now) (telling c.unlink_whites.new.out) (telling c.unroot_whites.new.out)
-    (rw c.root_whites.ensures.whites at c.unlink_whites.ensures.told)
-    (rw (c.unlink_whites.ensures.whites, c.root_whites.ensures.whites) at c.unroot_whites.ensures.told)
-
-pub returns-clause-stands : goal.returns-clause-stands
-returns-clause-stands g c = ended-stands c.args.graph c.args.heaps.now c.unroot_whites.new.heaps c.requires.order (ended g c)
-
-pub returns-clause-reached : goal.returns-clause-reached
-returns-clause-reached g c = ended-reached c.args.graph c.args.heaps.now c.unroot_whites.new.heaps c.requires.order (ended g c)
-
-pub returns-clause-objects : goal.returns-clause-objects
-returns-clause-objects g c = ended-objects c.args.graph c.args.heaps.now c.unroot_whites.new.heaps c.requires.order (ended g c)
-
-pub returns-clause-suspected : goal.returns-clause-suspected
-returns-clause-suspected g c = ended-suspected c.args.graph c.args.heaps.now c.unroot_whites.new.heaps c.requires.order (ended g c)
-
-pub returns-clause-kept : goal.returns-clause-kept
-returns-clause-kept g c =
+pub returns-clause-ended : goal.returns-clause-ended
+returns-clause-ended g c =
     let v = c.args.heaps.now in
     let w = c.unroot_whites.new.heaps in
-    kept-alone v w c.requires.order c.unroot_whites.ensures.order (KeepsKeys-left v w _ (ended g c)) (ended-colours c.args.graph v w c.requires.order (ended g c))
+    let o = c.requires.order in
+    let e = ended g c in
+    let a = c.args.graph in
+    let whites = whites_of a v.heap in
+    let telling = g.N.Notices.telling in
+    record {
+      heap = e;
+      told = WhiteEnd-told whites v c.root_whites.new.heaps c.unlink_whites.new.heaps w
+          c.root_whites.ensures.heap (rw c.root_whites.ensures.whites at c.unlink_whites.ensures.heap)
+          (telling c.args.out.now) (telling c.unlink_whites.new.out) (telling c.unroot_whites.new.out)
+          (rw c.root_whites.ensures.whites at c.unlink_whites.ensures.told)
+          (rw (c.unlink_whites.ensures.whites, c.root_whites.ensures.whites) at c.unroot_whites.ensures.told);
+      kept = kept-alone v w o c.unroot_whites.ensures.order (KeepsKeys-left v w _ e) (ended-colours a v w o e);
+      stands = ended-stands a v w o e;
+      reached = ended-reached a v w o e;
+      objects = ended-objects a v w o e;
+      suspected = ended-suspected a v w o e;
+    }

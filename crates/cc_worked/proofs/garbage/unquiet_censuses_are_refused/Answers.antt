@@ -1,5 +1,5 @@
 use Rattle.std.specs.Prelude.{refl}
-use Rattle.cc_worked.specs.Garbage.{garbage_is_kept, garbage_is_kept_after_two_gcs, garbage_is_kept_after_two_collections, garbage_is_kept_after_two_rows, garbage_is_kept_between_blank_lines, script_object_is_kept, reflector_is_kept, reflector_of_a_taken_out_entry_is_kept, reached_native_is_missing}
+use Rattle.cc_worked.specs.Garbage.{garbage_is_kept, garbage_is_kept_after_two_gcs, garbage_is_kept_after_two_collections, garbage_is_kept_after_two_rows, garbage_is_kept_between_blank_lines, script_object_is_kept, reflector_is_kept, reflector_of_a_taken_out_entry_is_kept, proxy_is_kept, delegate_of_a_key_is_kept, reached_native_is_missing}
 use Rattle.cc_worked.proofs.Opened.{all_of_a_run}
 use Rattle.cc_worked.proofs.Judged.{unquiet, unquiet-at_its_end}
 use Rattle.cc_worked.proofs.garbage.unquiet_censuses_are_refused.Goals as goal
@@ -35,6 +35,14 @@ returns-clause-reflector_is_kept c = unquiet-at_its_end reflector_is_kept refl r
 pub returns-clause-reflector_of_a_taken_out_entry_is_kept : goal.returns-clause-reflector_of_a_taken_out_entry_is_kept
 unfolding all_of_a_run
 returns-clause-reflector_of_a_taken_out_entry_is_kept c = unquiet-at_its_end reflector_of_a_taken_out_entry_is_kept refl refl refl
+
+pub returns-clause-proxy_is_kept : goal.returns-clause-proxy_is_kept
+unfolding all_of_a_run
+returns-clause-proxy_is_kept c = unquiet-at_its_end proxy_is_kept refl refl refl
+
+pub returns-clause-delegate_of_a_key_is_kept : goal.returns-clause-delegate_of_a_key_is_kept
+unfolding all_of_a_run
+returns-clause-delegate_of_a_key_is_kept c = unquiet-at_its_end delegate_of_a_key_is_kept refl refl refl
 
 pub returns-clause-reached_native_is_missing : goal.returns-clause-reached_native_is_missing
 unfolding all_of_a_run

@@ -1,5 +1,5 @@
 use Rattle.std.specs.Prelude.{refl}
-use Rattle.cc_worked.specs.Right.{memory_may_be_refused, reflector_may_be_refused_again, refused_collections_abandon, gc_abandons_first, two_collections_end, garbage_stays_for_a_while, value_goes_with_its_key, lines_that_ask_nothing, census_in_order}
+use Rattle.cc_worked.specs.Right.{memory_may_be_refused, reflector_may_be_refused_again, refused_collections_abandon, gc_abandons_first, two_collections_end, garbage_stays_for_a_while, value_goes_with_its_key, proxy_may_be_refused_memory, proxy_key_goes_with_its_delegate, lines_that_ask_nothing, census_in_order}
 use Rattle.cc_worked.proofs.Opened.{all_of_a_run}
 use Rattle.cc_worked.proofs.Judged.{right}
 use Rattle.cc_worked.proofs.right.right_transcripts_pass.Goals as goal
@@ -31,6 +31,14 @@ returns-clause-garbage_stays_for_a_while c = right garbage_stays_for_a_while ref
 pub returns-clause-value_goes_with_its_key : goal.returns-clause-value_goes_with_its_key
 unfolding all_of_a_run
 returns-clause-value_goes_with_its_key c = right value_goes_with_its_key refl
+
+pub returns-clause-proxy_may_be_refused_memory : goal.returns-clause-proxy_may_be_refused_memory
+unfolding all_of_a_run
+returns-clause-proxy_may_be_refused_memory c = right proxy_may_be_refused_memory refl
+
+pub returns-clause-proxy_key_goes_with_its_delegate : goal.returns-clause-proxy_key_goes_with_its_delegate
+unfolding all_of_a_run
+returns-clause-proxy_key_goes_with_its_delegate c = right proxy_key_goes_with_its_delegate refl
 
 pub returns-clause-lines_that_ask_nothing : goal.returns-clause-lines_that_ask_nothing
 unfolding all_of_a_run

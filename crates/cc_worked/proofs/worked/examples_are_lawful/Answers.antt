@@ -1,4 +1,4 @@
-use Rattle.cc_worked.proofs.Examples.{cascade_of_two, self_cycle_outlives_its_register, self_cycle_is_collected, two_cycle_takes_four_units, touched_between_slices, read_between_slices, native_lives_by_an_exposed_reflector, cycle_through_a_reflector, gc_sweeps_three_rounds, entry_does_not_keep_its_key, cycle_through_an_entry, value_lives_by_its_mapping, refusals_and_odd_lines, collect_refused_at_a_node}
+use Rattle.cc_worked.proofs.Examples.{cascade_of_two, self_cycle_outlives_its_register, self_cycle_is_collected, two_cycle_takes_four_units, touched_between_slices, read_between_slices, native_lives_by_an_exposed_reflector, cycle_through_a_reflector, gc_sweeps_three_rounds, entry_does_not_keep_its_key, cycle_through_an_entry, value_lives_by_its_mapping, refusals_and_odd_lines, collect_refused_at_a_node, proxy_key_lives_as_long_as_map_and_delegate, cycle_through_a_proxy_key, delegate_read_after_its_mapping_was_noted}
 use Rattle.cc_worked.proofs.Working.{works-lawful}
 use Rattle.cc_worked.proofs.worked.examples_are_lawful.Goals as goal
 
@@ -37,6 +37,15 @@ returns-clause-cycle_through_an_entry c = works-lawful cycle_through_an_entry
 
 pub returns-clause-value_lives_by_its_mapping : goal.returns-clause-value_lives_by_its_mapping
 returns-clause-value_lives_by_its_mapping c = works-lawful value_lives_by_its_mapping
+
+pub returns-clause-proxy_key_lives_as_long_as_map_and_delegate : goal.returns-clause-proxy_key_lives_as_long_as_map_and_delegate
+returns-clause-proxy_key_lives_as_long_as_map_and_delegate c = works-lawful proxy_key_lives_as_long_as_map_and_delegate
+
+pub returns-clause-cycle_through_a_proxy_key : goal.returns-clause-cycle_through_a_proxy_key
+returns-clause-cycle_through_a_proxy_key c = works-lawful cycle_through_a_proxy_key
+
+pub returns-clause-delegate_read_after_its_mapping_was_noted : goal.returns-clause-delegate_read_after_its_mapping_was_noted
+returns-clause-delegate_read_after_its_mapping_was_noted c = works-lawful delegate_read_after_its_mapping_was_noted
 
 pub returns-clause-refusals_and_odd_lines : goal.returns-clause-refusals_and_odd_lines
 returns-clause-refusals_and_odd_lines c = works-lawful refusals_and_odd_lines

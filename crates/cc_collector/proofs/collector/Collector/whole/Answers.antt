@@ -1,11 +1,12 @@
 use Rattle.std.specs.Prelude.{OnOk, OnErr}
 use Rattle.std.proofs.Common.{Result, Ok, Err, Option, None, sym, subst}
+use Rattle.std.proofs.lemmas.Result.{on_ok_weaker, on_err_weaker}
 use Rattle.cc_lists.proofs.KnownBytes.{on_err_of}
-use Rattle.cc_model.specs.End.{at_end, refused}
+use Rattle.cc_model.specs.End.{refused}
 use Rattle.cc_builder.specs.Building.{Built}
 use Rattle.cc_collector.specs.Kept.{machine_of}
 use Rattle.cc_collector.specs.Collected.{IsCollected}
-use Rattle.cc_collector.specs.Units.{Keeps, HasDoneAll}
+use Rattle.cc_collector.specs.Units.{Keeps}
 use Rattle.cc_collector.proofs.GivingUp.{collected-given_up}
 use Rattle.cc_collector.proofs.Keeping.{Keeps-then}
 use Rattle.cc_collector.proofs.UnitsSpare.{collected-keeps, collected-tells}
@@ -13,33 +14,16 @@ use Rattle.cc_collector.proofs.Coming.{collected, collected-refused}
 use Rattle.cc_collector.proofs.collector.Collector.whole.Given as given
 use Rattle.cc_collector.proofs.collector.Collector.whole.Goals as goal
 
--- what follows on a result that is none or is an error
-on_ok-then : {T E P Q : Type 0} (r : Result T E) → (P → Q) → OnOk r P → OnOk r Q
-on_ok-then (Ok x) f p = f p
-on_ok-then (Err e) f p = tt
-
-on_err-then : {T E P Q : Type 0} (r : Result T E) → (P → Q) → OnErr r P → OnErr r Q
-on_err-then (Ok x) f p = tt
-on_err-then (Err e) f p = f p
-
 -- what holds of each result holds
 on_both : {T E P : Type 0} (r : Result T E) → OnOk r P → OnErr r P → P
-on_both (Ok x) p q = p
-on_both (Err e) p q = q
+on_both r p q = grind arith
 
 -- The end of the running collection is refused
 
 -- what this comes to
 first-refused : (g : given.Over) (c : goal.After-from_residual g) → let telling = g.N.Notices.telling in let f = c.finish_running in
     IsCollected (machine_of c.args.heaps.now.heap c.args.self.now) (machine_of f.new.heaps.heap f.new.self) refused (telling c.args.out.now) (telling f.new.out)
-first-refused g c =
-    let telling = g.N.Notices.telling in
-    let v = c.args.heaps.now in
-    let w = c.finish_running.new.heaps in
-    let t = telling c.args.out.now in
-    let t₁ = telling c.finish_running.new.out in
-    subst (λ (d : Option Built). IsCollected (machine_of v.heap c.args.self.now) (machine_of w.heap d) refused t t₁) (sym c.finish_running.ensures.over)
-    (collected-refused v c.args.self.now c.requires.runs w t t₁ c.in_err-finish_running.ensures.ran c.in_err-finish_running.ensures.refused)
+first-refused g c = grind (arith, collected-refused)
 
 pub returns-in_err-finish_running-clause-refused : goal.returns-in_err-finish_running-clause-refused
 returns-in_err-finish_running-clause-refused g c = on_err_of c.from_residual.result (first-refused g c)
@@ -71,7 +55,7 @@ returns-clause-done g c =
     let t = telling c.args.out.now in
     let t₁ = telling c.finish_running.new.out in
     let t₂ = telling c.go_to_end.new.out in
-    on_ok-then c.go_to_end.result
+    on_ok_weaker c.go_to_end.result
     (λ a. subst (λ (d : Option Built). IsCollected (machine_of v.heap c.args.self.now) (machine_of w.heap d) at_end t t₂) (sym c.go_to_end.ensures.over)
     (collected v c.args.self.now c.requires.runs m w at_end t t₁ t₂ c.in_ok-finish_running.ensures.done
     (subst (λ (d : Option Built). HasDoneAll m d w at_end t₁ t₂) c.finish_running.ensures.over a)))
@@ -86,24 +70,24 @@ returns-clause-refused g c =
     let t = telling c.args.out.now in
     let t₁ = telling c.finish_running.new.out in
     let t₂ = telling c.go_to_end.new.out in
-    on_err-then c.go_to_end.result
+    on_err_weaker c.go_to_end.result
     (λ a. subst (λ (d : Option Built). IsCollected (machine_of v.heap c.args.self.now) (machine_of w.heap d) refused t t₂) (sym c.go_to_end.ensures.over)
     (collected v c.args.self.now c.requires.runs m w refused t t₁ t₂ c.in_ok-finish_running.ensures.done
     (subst (λ (d : Option Built). HasDoneAll m d w refused t₁ t₂) c.finish_running.ensures.over a)))
     c.go_to_end.ensures.refused
 
 pub returns-clause-given_up : goal.returns-clause-given_up
-returns-clause-given_up g c = on_err-then c.go_to_end.result (λ a. collected-given_up _ _ _ _ a) (returns-clause-refused g c)
+returns-clause-given_up g c = on_err_weaker c.go_to_end.result (λ a. collected-given_up _ _ _ _ a) (returns-clause-refused g c)
 
 pub returns-clause-keeps : goal.returns-clause-keeps
 returns-clause-keeps g c = on_both c.go_to_end.result
-    (on_ok-then c.go_to_end.result (λ a. collected-keeps _ _ c.requires.runs _ _ _ _ a) (returns-clause-done g c))
-    (on_err-then c.go_to_end.result (λ a. collected-keeps _ _ c.requires.runs _ _ _ _ a) (returns-clause-refused g c))
+    (on_ok_weaker c.go_to_end.result (λ a. collected-keeps _ _ c.requires.runs _ _ _ _ a) (returns-clause-done g c))
+    (on_err_weaker c.go_to_end.result (λ a. collected-keeps _ _ c.requires.runs _ _ _ _ a) (returns-clause-refused g c))
 
 pub returns-clause-tells : goal.returns-clause-tells
 returns-clause-tells g c = on_both c.go_to_end.result
-    (on_ok-then c.go_to_end.result (λ a. collected-tells _ _ _ _ _ a) (returns-clause-done g c))
-    (on_err-then c.go_to_end.result (λ a. collected-tells _ _ _ _ _ a) (returns-clause-refused g c))
+    (on_ok_weaker c.go_to_end.result (λ a. collected-tells _ _ _ _ _ a) (returns-clause-done g c))
+    (on_err_weaker c.go_to_end.result (λ a. collected-tells _ _ _ _ _ a) (returns-clause-refused g c))
 
 -- what is kept, however the second one came out
 keeps : (g : given.Over) (c : goal.After-go_to_end g) → Keeps c.args.heaps.now c.args.self.now c.go_to_end.new.heaps c.go_to_end.new.self
@@ -111,7 +95,7 @@ keeps g c =
     let m = c.finish_running.new.heaps in
     let w = c.go_to_end.new.heaps in
     let second : Keeps m c.finish_running.new.self w None = on_both c.go_to_end.result
-    (on_ok-then c.go_to_end.result (λ a. a.keeps) c.go_to_end.ensures.done) (on_err-then c.go_to_end.result (λ a. a.keeps) c.go_to_end.ensures.refused) in
+    (on_ok_weaker c.go_to_end.result (λ a. a.keeps) c.go_to_end.ensures.done) (on_err_weaker c.go_to_end.result (λ a. a.keeps) c.go_to_end.ensures.refused) in
     subst (Keeps c.args.heaps.now c.args.self.now w) (sym c.go_to_end.ensures.over)
     (Keeps-then c.args.heaps.now c.args.self.now m None w None c.in_ok-finish_running.ensures.done.keeps
     (subst (λ (d : Option Built). Keeps m d w None) c.finish_running.ensures.over second))

@@ -16,7 +16,7 @@ returns-clause-done g c =
     let r = c.requires.runs in
     let traversed = c.requires.traversed in
     let whites = c.blackened.ensures.whites in
-    let ended = c.collect_white-graph.ensures in
+    let ended = c.collect_white-graph.ensures.ended in
     subst (λ (d : Option Built). HasDoneUnit v (Some b) w d at_end t t₁) (sym (ap (λ (p : Place). p.running) c.self.view_is ∙ c.requires.idle))
     (end-done v b c.blackened.result r traversed whites w t t₁ ended.heap
     (record { order = ended.kept.order [] r.order; colours = ended.kept.colours r.colours; goes_on = tt })

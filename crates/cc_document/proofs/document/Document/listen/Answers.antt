@@ -1,28 +1,29 @@
-use Rattle.std.proofs.Common.{◌≡◌, true, Some, is_some, refl, sym, subst, inl, inr, ⊎_elim}
+use Rattle.std.proofs.Common.{◌≡◌, true, Some, is_some, sym, subst, inl, inr, ⊎_elim}
+use Rattle.cc_lists.proofs.KnownBytes.{on_err_of}
 use Rattle.cc_names.specs.declared.register.Reg.TheVariants.{N, S}
 use Rattle.cc_model.specs.Graph.{objects_of, register}
 use Rattle.cc_document.specs.Words.{element_of}
 use Rattle.cc_document.specs.Changes.{IsHeard}
-use Rattle.cc_document.specs.Shown.{Makes, MakesOneAtMost, Parts, Shows, parts, written, closed_over, listened}
+use Rattle.cc_document.specs.declared.parts.Parts.{Parts}
+use Rattle.cc_document.specs.Shown.{Makes, MakesOneAtMost, Shows, written, closed_over, listened}
 use Rattle.cc_document.proofs.Closures.{closed_over-reads, listened-reads}
 use Rattle.cc_document.proofs.Holding.{room-for_script}
 use Rattle.cc_document.proofs.Calls.{read-some, between-from, both-there}
 use Rattle.cc_heaps.proofs.Leaving.{nothing-told, tells-later}
 use Rattle.cc_document.proofs.Freed.{tells-after}
-use Rattle.cc_document.proofs.Growing.{grows-stays, made-then}
+use Rattle.cc_document.proofs.Growing.{grows-stays, makes-then}
 use Rattle.cc_heaps.specs.Leaving.{TellsWhatIsFreed}
 use Rattle.cc_document.proofs.Idle.{idle-after, listened-left}
-use Rattle.cc_document.proofs.Outcomes.{err-of}
 use Rattle.cc_document.proofs.Reached.{alike}
 use Rattle.cc_document.proofs.document.Document.listen.Goals as goal
 
 pub returns-clause-listens : goal.returns-clause-listens
 returns-clause-listens g c = λ k s.
-    let p = c.self.inside in
+    let p = c.self.inside.parts in
     let t = subst (λ p. Shows p k) (sym c.self.view_is) s in
     let v = c.args.to.0 in
     let w = c.args.about.0 in
-    let a = alike p.heaps p.collector k t in
+    let a = alike p.heaps p.running k t in
     let h = closed_over w k in
     let one = c.in_ok-close_over.ensures.closed k t in
     let two = c.hand_over.ensures.shows h one in
@@ -46,21 +47,19 @@ empty-requires-clause-shown g c =
 pub invariant_of-self : goal.invariant_of-self
 invariant_of-self g c =
     let s = c.self.invariant.0 in
-    let b = c.self.inside.collector in
     let x = c.in_err-close_over.ensures.same s.0 s.1 in
-    ((x.0, x.1), idle-after c.self.inside.heaps c.close_over.new.heaps b b s.0 x.0 s.1 x.1 x.2.scripts c.self.invariant.1)
+    ((x.0, x.1), idle-after c.self.inside.parts c.close_over.new.self s.0 x.0 s.1 x.1 x.2.scripts c.self.invariant.1)
 
 pub invariant_of-self-2 : goal.invariant_of-self-2
 invariant_of-self-2 g c =
     let s = c.self.invariant.0 in
-    let b = c.self.inside.collector in
     let h = closed_over c.args.about.0 s.0 in
     let k = listened c.args.to.0 c.args.about.0 s.0 in
     let t = c.empty.ensures.shows (written c.args.to.0 1 (Some (S 1)) h) (c.hand_over.ensures.shows h (c.in_ok-close_over.ensures.closed s.0 s.1)) in
-    ((k, t), idle-after c.self.inside.heaps c.empty.new.heaps b b s.0 k s.1 t (listened-left s.0 c.args.to.0 c.args.about.0 s.1.well.registers.1) c.self.invariant.1)
+    ((k, t), idle-after c.self.inside.parts c.empty.new.self s.0 k s.1 t (listened-left s.0 c.args.to.0 c.args.about.0 s.1.well.registers.1) c.self.invariant.1)
 
 pub returns-in_err-close_over-clause-same : goal.returns-in_err-close_over-clause-same
-returns-in_err-close_over-clause-same g c = err-of c.from_residual.result (λ k s.
+returns-in_err-close_over-clause-same g c = on_err_of c.from_residual.result (λ k s.
     let t = subst (λ p. Shows p k) (sym c.self.view_is) s in
     let x = c.in_err-close_over.ensures.same k t in
     (x.0, x.1, x.2.before))
@@ -70,37 +69,36 @@ returns-clause-tells g c =
     let s = c.self.invariant.0 in
     let before = g.N.Notices.telling c.args.out.now in
     let after = g.N.Notices.telling c.hand_over.new.out in
-    let x = c.self.inside.heaps.heap in
-    let y = c.close_over.new.heaps.heap in
-    let z = c.hand_over.new.heaps.heap in
+    let x = c.self.inside.parts.heaps.heap in
+    let y = c.close_over.new.self.heaps.heap in
+    let z = c.hand_over.new.self.heaps.heap in
     let h = closed_over c.args.about.0 s.0 in
     let one = c.in_ok-close_over.ensures.closed s.0 s.1 in
     let t = c.empty.ensures.shows (written c.args.to.0 1 (Some (S 1)) h) (c.hand_over.ensures.shows h one) in
-    subst (λ (p : Parts). TellsWhatIsFreed p.heaps.heap c.empty.new.heaps.heap before after) c.self.view_is
-    (tells-later x z c.empty.new.heaps.heap t.runs.order.sound.well_formed c.empty.ensures.none_came before after (grows-stays 0 z c.empty.new.heaps.heap c.empty.ensures.grows)
+    subst (λ (p : Parts). TellsWhatIsFreed p.heaps.heap c.empty.new.self.heaps.heap before after) c.self.view_is
+    (tells-later x z c.empty.new.self.heaps.heap t.runs.order.sound.well_formed c.empty.ensures.none_came before after (grows-stays 0 z c.empty.new.self.heaps.heap c.empty.ensures.grows)
     (tells-after x y z before after one.runs.order.sound.well_formed c.in_ok-close_over.ensures.grows c.hand_over.ensures.tells))
 
 pub returns-clause-makes : goal.returns-clause-makes
 returns-clause-makes g c =
-    let x = c.self.inside.heaps.heap in
-    let y = c.close_over.new.heaps.heap in
-    let z = c.hand_over.new.heaps.heap in
-    let w = c.empty.new.heaps in
-    subst (λ (p : Parts). Makes 0 1 p (parts w c.self.inside.collector)) c.self.view_is
-    (record { running = refl; made = made-then 0 1 0 0 x y w.heap c.in_ok-close_over.ensures.grows.made (made-then 0 0 0 0 y z w.heap c.hand_over.ensures.made c.empty.ensures.grows.made) })
+    let p = c.self.inside.parts in
+    let a = c.in_ok-close_over.ensures in
+    let d = c.empty.ensures in
+    subst (λ q. Makes 0 1 q c.empty.new.self) c.self.view_is (makes-then 0 1 0 0 p c.close_over.new.self c.empty.new.self (record { running = a.running; made = a.grows.made })
+    (makes-then 0 0 0 0 c.close_over.new.self c.hand_over.new.self c.empty.new.self c.hand_over.ensures.makes (record { running = d.running; made = d.grows.made })))
 
 pub returns-in_err-close_over-clause-tells : goal.returns-in_err-close_over-clause-tells
 returns-in_err-close_over-clause-tells g c =
-    let x = c.self.inside.heaps.heap in
-    let y = c.close_over.new.heaps.heap in
+    let x = c.self.inside.parts.heaps.heap in
+    let y = c.close_over.new.self.heaps.heap in
     let told = g.N.Notices.telling c.args.out.now in
     subst (λ (p : Parts). TellsWhatIsFreed p.heaps.heap y told told) c.self.view_is
     (nothing-told x y told (⊎_elim (grows-stays 0 x y) (grows-stays 1 x y) c.in_err-close_over.ensures.tried))
 
 pub returns-in_err-close_over-clause-tried : goal.returns-in_err-close_over-clause-tried
-returns-in_err-close_over-clause-tried g c = err-of c.from_residual.result
-    (subst (λ (p : Parts). MakesOneAtMost p (parts c.close_over.new.heaps c.self.inside.collector)) c.self.view_is
-    (⊎_elim (λ t. inl (record { running = refl; made = t.made })) (λ t. inr (record { running = refl; made = t.made })) c.in_err-close_over.ensures.tried))
+returns-in_err-close_over-clause-tried g c = on_err_of c.from_residual.result
+    (subst (λ p. MakesOneAtMost p c.close_over.new.self) c.self.view_is
+    (⊎_elim (λ t. inl (record { running = c.close_over.ensures.running; made = t.made })) (λ t. inr (record { running = c.close_over.ensures.running; made = t.made })) c.in_err-close_over.ensures.tried))
 
 pub returns-in_err-close_over-clause-empty : goal.returns-in_err-close_over-clause-empty
 returns-in_err-close_over-clause-empty g c = λ k s lacks.

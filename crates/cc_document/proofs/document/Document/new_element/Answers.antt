@@ -6,7 +6,8 @@ use Rattle.cc_model.specs.Graph as graph
 use Rattle.cc_laws_heap.proofs.Face.{objects-stand}
 use Rattle.cc_document.specs.Words.{element}
 use Rattle.cc_document.specs.Changes.{IsAssigned}
-use Rattle.cc_document.specs.Shown.{Makes, Parts, Shows, parts, made_in}
+use Rattle.cc_document.specs.declared.parts.Parts.{Parts}
+use Rattle.cc_document.specs.Shown.{Makes, Shows, parts, made_in}
 use Rattle.cc_document.proofs.Assigning.{made-reads}
 use Rattle.cc_document.proofs.Documents.{made_in-document}
 use Rattle.cc_document.proofs.Holding.{room-for_native}
@@ -23,17 +24,17 @@ pub invariant_of-self-2 : goal.invariant_of-self-2
 invariant_of-self-2 g c =
     let s = c.self.invariant.0 in
     let e = c.in_ok-number.ensures in
-    let v = c.self.inside.heaps in
+    let v = c.self.inside.parts.heaps in
     let w = c.new_native.new.self in
-    let b = c.self.inside.collector in
+    let b = c.self.inside.parts.running in
     let k = made_in c.args.into.0 s.0 in
     let t = Shows-step v w b (made_in c.args.into.0)
     (record { kept = e.kept; stands = e.stands }) s.0 s.1 (made_in-document s.0 s.1.document c.args.into.0) in
-    ((k, t), idle-after v w b b s.0 k s.1 t (made_in-left s.0 c.args.into.0) c.self.invariant.1)
+    ((k, t), idle-after c.self.inside.parts (parts w b) s.0 k s.1 t (made_in-left s.0 c.args.into.0) c.self.invariant.1)
 
 pub returns-clause-made : goal.returns-clause-made
 returns-clause-made g c = λ k s.
-    let v = c.self.inside.heaps in
+    let v = c.self.inside.parts.heaps in
     let r = c.args.into.0 in
     let t = subst (λ p. Shows p k) (sym c.self.view_is) s in
     let e = c.in_ok-number.ensures in
@@ -46,7 +47,7 @@ returns-clause-made g c = λ k s.
     let named : native c.in-Native.number.0 ≡ native (v.heap.natives_made + 1) = sym c.in-Native.is ∙ e.name in
     let numbered : element c.in-Native.number.0 ≡ element (length k.natives + 1) = ap (λ x. Some x) named ∙ ap (λ n. element (n + 1)) a.natives_made in (
       made_in r k,
-      Shows-step v c.new_native.new.self c.self.inside.collector (made_in r)
+      Shows-step v c.new_native.new.self c.self.inside.parts.running (made_in r)
           (record { kept = e.kept; stands = e.stands }) k t (made_in-document k t.document r),
       subst (IsAssigned (graph.objects_of k) (graph.objects_of (made_in r k)) r) (sym numbered) (made-reads k r (omega (arith, within, t.well.registers.0)) (room-for_native (graph.objects_of k) r room)),
     )
@@ -69,13 +70,13 @@ returns-clause-tells g c =
 
 pub returns-clause-makes : goal.returns-clause-makes
 returns-clause-makes g c =
-    let h = c.self.inside.heaps.heap in
+    let h = c.self.inside.parts.heaps.heap in
     let k = c.new_native.new.self.heap in
     let within : c.args.into.0 < bank_length = search rules in
     let full = c.new_native.ensures.full_always in
     let made = c.in_ok-number.was in
     let room : h.natives_made < h.limits.natives = below h.limits.natives h.natives_made (λ few. let stop = full few in cc) in
-    subst (λ (p : Parts). Makes 1 0 p (parts c.new_native.new.self c.self.inside.collector)) c.self.view_is
+    subst (λ (p : Parts). Makes 1 0 p (parts c.new_native.new.self c.self.inside.parts.running)) c.self.view_is
     (record {
       running = refl;
       made = make_native-made h k c.args.into.0 10 within (omega arith) room

@@ -1,11 +1,13 @@
 use Rattle.std.proofs.Common.{◌≡◌, true, Err, is_some, refl, sym, ◌∙◌, ap, subst, inl, inr, ⊎_elim}
+use Rattle.cc_lists.proofs.KnownBytes.{on_err_of}
 use Rattle.cc_names.specs.declared.register.Reg.TheVariants.{N}
 use Rattle.cc_model.specs.Graph.{objects_of, register}
 use Rattle.cc_model.specs.Heap as heap
 use Rattle.cc_document.specs.Words.{element_of}
 use Rattle.cc_document.specs.Changes.{HasData}
 use Rattle.cc_document.specs.Stops.{StopsListening}
-use Rattle.cc_document.specs.Shown.{Makes, MakesOneAtMost, Parts, Shows, parts, without, closed_over, entered, with_data}
+use Rattle.cc_document.specs.declared.parts.Parts.{Parts}
+use Rattle.cc_document.specs.Shown.{Makes, MakesOneAtMost, Shows, without, closed_over, entered, with_data}
 use Rattle.cc_document.proofs.Assigning.{as_before-then}
 use Rattle.cc_document.proofs.Closures.{closed_over-reads, closed_over-before, with_data-reads, without-before}
 use Rattle.cc_document.proofs.Growing.{grows-stays, grows-then}
@@ -14,17 +16,17 @@ use Rattle.cc_document.specs.Told.{Grows}
 use Rattle.cc_document.proofs.Holding.{room-for_script}
 use Rattle.cc_document.proofs.Calls.{read-some, between-from, both-there, element-found, stops-entering}
 use Rattle.cc_document.proofs.Idle.{idle-after, with_data-left, left-closed}
-use Rattle.cc_document.proofs.Outcomes.{err-of, stopped-alike}
+use Rattle.cc_document.proofs.Outcomes.{stopped-alike}
 use Rattle.cc_document.proofs.Reached.{alike}
 use Rattle.cc_document.proofs.document.Document.put_data.Goals as goal
 
 pub returns-clause-has : goal.returns-clause-has
 returns-clause-has c = λ k s.
-    let p = c.self.inside in
+    let p = c.self.inside.parts in
     let t = subst (λ p. Shows p k) (sym c.self.view_is) s in
     let v = c.args.of.0 in
     let w = c.args.about.0 in
-    let a = alike p.heaps p.collector k t in
+    let a = alike p.heaps p.running k t in
     let h = closed_over w k in
     let one = c.in_ok-close_over.ensures.closed k t in
     let two = c.in_default.ensures.entered h one in
@@ -48,12 +50,11 @@ empty-requires-clause-shown c =
 pub invariant_of-self : goal.invariant_of-self
 invariant_of-self c =
     let s = c.self.invariant.0 in
-    let b = c.self.inside.collector in
     let x = c.in_err-close_over.ensures.same s.0 s.1 in
-    ((x.0, x.1), idle-after c.self.inside.heaps c.close_over.new.heaps b b s.0 x.0 s.1 x.1 x.2.scripts c.self.invariant.1)
+    ((x.0, x.1), idle-after c.self.inside.parts c.close_over.new.self s.0 x.0 s.1 x.1 x.2.scripts c.self.invariant.1)
 
 pub returns-in_err-close_over-clause-same : goal.returns-in_err-close_over-clause-same
-returns-in_err-close_over-clause-same c = err-of c.from_residual.result (λ k s.
+returns-in_err-close_over-clause-same c = on_err_of c.from_residual.result (λ k s.
     let t = subst (λ p. Shows p k) (sym c.self.view_is) s in
     let x = c.in_err-close_over.ensures.same k t in
     (x.0, x.1, x.2.before))
@@ -61,35 +62,34 @@ returns-in_err-close_over-clause-same c = err-of c.from_residual.result (λ k s.
 pub invariant_of-self-in-Err : goal.invariant_of-self-in-Err
 invariant_of-self-in-Err c =
     let s = c.self.invariant.0 in
-    let b = c.self.inside.collector in
     let x = c.in-Err.ensures.same (closed_over c.args.about.0 s.0) (c.in_ok-close_over.ensures.closed s.0 s.1) in
     let t = c.empty.ensures.shows x.0 x.1 in
-    ((without 1 x.0, t), idle-after c.self.inside.heaps c.empty.new.heaps b b s.0 (without 1 x.0) s.1 t (left-closed s.0 x.0 c.args.about.0 s.1.well.registers.1 x.2.scripts) c.self.invariant.1)
+    ((without 1 x.0, t), idle-after c.self.inside.parts c.empty.new.self s.0 (without 1 x.0) s.1 t (left-closed s.0 x.0 c.args.about.0 s.1.well.registers.1 x.2.scripts) c.self.invariant.1)
 
 pub returns-in-Err-clause-stops : goal.returns-in-Err-clause-stops
 returns-in-Err-clause-stops c = λ e is k s.
-    let p = c.self.inside in
+    let p = c.self.inside.parts in
     let t = subst (λ p. Shows p k) (sym c.self.view_is) s in
     let v = c.args.of.0 in
     let w = c.args.about.0 in
-    let a = alike p.heaps p.collector k t in
+    let a = alike p.heaps p.running k t in
     let h = closed_over w k in
     let one = c.in_ok-close_over.ensures.closed k t in
     let there = read-some c.element-else-is_none.result (element_of (register k (N w))) c.is_none-else-is_none.result (c.element-else-is_none.ensures k s) c.is_none-else-is_none.ensures c.if-is_none-2.false in
     let room = room-for_script (objects_of k) (λ full. c.in_ok-close_over.ensures.room (rw (a.limits, a.scripts_made) full)) in
     let b = element-found (register k (N w)) there in
     let closed = closed_over-reads k w b.0 t.well.registers.1 b.1 room in
-    let q = c.close_over.new.heaps in
-    let same = (alike q p.collector h one).register (N v) ∙ closed.variables v in
+    let q = c.close_over.new.self.heaps in
+    let same = (alike q c.close_over.new.self.running h one).register (N v) ∙ closed.variables v in
     stopped-alike (StopsListening (objects_of k) v w) (Err c.in-Err.stop) c.in-Err.stop refl
     (stops-entering (objects_of k) (heap.objects_of q.heap) v w c.in-Err.stop (λ n. ap element_of (sym same) ∙ n) (c.enter.ensures.stops c.in-Err.stop c.in-Err.is)) e is
 
 pub returns-in-Err-clause-same : goal.returns-in-Err-clause-same
 returns-in-Err-clause-same c = λ k s.
-    let p = c.self.inside in
+    let p = c.self.inside.parts in
     let t = subst (λ p. Shows p k) (sym c.self.view_is) s in
     let w = c.args.about.0 in
-    let a = alike p.heaps p.collector k t in
+    let a = alike p.heaps p.running k t in
     let h = closed_over w k in
     let one = c.in_ok-close_over.ensures.closed k t in
     let x = c.in-Err.ensures.same h one in
@@ -111,12 +111,11 @@ empty-requires-2-clause-shown c =
 pub invariant_of-self-2 : goal.invariant_of-self-2
 invariant_of-self-2 c =
     let s = c.self.invariant.0 in
-    let b = c.self.inside.collector in
     let h = closed_over c.args.about.0 s.0 in
     let one = c.in_ok-close_over.ensures.closed s.0 s.1 in
     let k = with_data c.args.of.0 c.args.about.0 s.0 in
     let t = c.empty-2.ensures.shows (entered c.args.of.0 h) (c.in_default.ensures.entered h one) in
-    ((k, t), idle-after c.self.inside.heaps c.empty-2.new.heaps b b s.0 k s.1 t (with_data-left s.0 c.args.of.0 c.args.about.0 s.1.well.registers.1 one.well.registers.1) c.self.invariant.1)
+    ((k, t), idle-after c.self.inside.parts c.empty-2.new.self s.0 k s.1 t (with_data-left s.0 c.args.of.0 c.args.about.0 s.1.well.registers.1 one.well.registers.1) c.self.invariant.1)
 
 pub returns-in_err-close_over-clause-empty : goal.returns-in_err-close_over-clause-empty
 returns-in_err-close_over-clause-empty c = λ k s lacks.
@@ -144,44 +143,46 @@ returns-clause-empty c = λ k s lacks.
 
 pub returns-in_err-close_over-clause-stays : goal.returns-in_err-close_over-clause-stays
 returns-in_err-close_over-clause-stays c =
-    let x = c.self.inside.heaps.heap in
-    let y = c.close_over.new.heaps.heap in
+    let x = c.self.inside.parts.heaps.heap in
+    let y = c.close_over.new.self.heaps.heap in
     subst (λ (p : Parts). NothingLeft p.heaps.heap y) c.self.view_is (⊎_elim (grows-stays 0 x y) (grows-stays 1 x y) c.in_err-close_over.ensures.tried)
 
 pub returns-in_err-close_over-clause-tried : goal.returns-in_err-close_over-clause-tried
-returns-in_err-close_over-clause-tried c = err-of c.from_residual.result
-    (subst (λ (p : Parts). MakesOneAtMost p (parts c.close_over.new.heaps c.self.inside.collector)) c.self.view_is
-    (⊎_elim (λ t. inl (record { running = refl; made = t.made })) (λ t. inr (record { running = refl; made = t.made })) c.in_err-close_over.ensures.tried))
+returns-in_err-close_over-clause-tried c = on_err_of c.from_residual.result
+    (subst (λ p. MakesOneAtMost p c.close_over.new.self) c.self.view_is
+    (⊎_elim (λ t. inl (record { running = c.close_over.ensures.running; made = t.made })) (λ t. inr (record { running = c.close_over.ensures.running; made = t.made })) c.in_err-close_over.ensures.tried))
 
 -- what was made and entered, or not
-grown-in-Err : (c : goal.After-empty) → Grows 1 c.self.inside.heaps.heap c.empty.new.heaps.heap
+grown-in-Err : (c : goal.After-empty) → Grows 1 c.self.inside.parts.heaps.heap c.empty.new.self.heaps.heap
 grown-in-Err c =
-    let x = c.self.inside.heaps.heap in
-    let y = c.close_over.new.heaps.heap in
-    let z = c.enter.new.heaps.heap in
-    let w = c.empty.new.heaps.heap in
+    let x = c.self.inside.parts.heaps.heap in
+    let y = c.close_over.new.self.heaps.heap in
+    let z = c.enter.new.self.heaps.heap in
+    let w = c.empty.new.self.heaps.heap in
     grows-then 1 0 x y w c.in_ok-close_over.ensures.grows (grows-then 0 0 y z w c.enter.ensures.grows c.empty.ensures.grows)
 
 pub returns-in-Err-clause-stays : goal.returns-in-Err-clause-stays
 returns-in-Err-clause-stays c =
-    subst (λ (p : Parts). NothingLeft p.heaps.heap c.empty.new.heaps.heap) c.self.view_is (grows-stays 1 c.self.inside.heaps.heap c.empty.new.heaps.heap (grown-in-Err c))
+    subst (λ (p : Parts). NothingLeft p.heaps.heap c.empty.new.self.heaps.heap) c.self.view_is (grows-stays 1 c.self.inside.parts.heaps.heap c.empty.new.self.heaps.heap (grown-in-Err c))
 
 pub returns-in-Err-clause-tried : goal.returns-in-Err-clause-tried
 returns-in-Err-clause-tried c =
-    subst (λ (p : Parts). MakesOneAtMost p (parts c.empty.new.heaps c.self.inside.collector)) c.self.view_is (inr (record { running = refl; made = (grown-in-Err c).made }))
+    let same = c.empty.ensures.running ∙ (c.enter.ensures.running ∙ c.close_over.ensures.running) in
+    subst (λ p. MakesOneAtMost p c.empty.new.self) c.self.view_is (inr (record { running = same; made = (grown-in-Err c).made }))
 
-grown : (c : goal.After-empty-2) → Grows 1 c.self.inside.heaps.heap c.empty-2.new.heaps.heap
+grown : (c : goal.After-empty-2) → Grows 1 c.self.inside.parts.heaps.heap c.empty-2.new.self.heaps.heap
 grown c =
-    let x = c.self.inside.heaps.heap in
-    let y = c.close_over.new.heaps.heap in
-    let z = c.enter.new.heaps.heap in
-    let w = c.empty-2.new.heaps.heap in
+    let x = c.self.inside.parts.heaps.heap in
+    let y = c.close_over.new.self.heaps.heap in
+    let z = c.enter.new.self.heaps.heap in
+    let w = c.empty-2.new.self.heaps.heap in
     grows-then 1 0 x y w c.in_ok-close_over.ensures.grows (grows-then 0 0 y z w c.enter.ensures.grows c.empty-2.ensures.grows)
 
 pub returns-clause-stays : goal.returns-clause-stays
 returns-clause-stays c =
-    subst (λ (p : Parts). NothingLeft p.heaps.heap c.empty-2.new.heaps.heap) c.self.view_is (grows-stays 1 c.self.inside.heaps.heap c.empty-2.new.heaps.heap (grown c))
+    subst (λ (p : Parts). NothingLeft p.heaps.heap c.empty-2.new.self.heaps.heap) c.self.view_is (grows-stays 1 c.self.inside.parts.heaps.heap c.empty-2.new.self.heaps.heap (grown c))
 
 pub returns-clause-makes : goal.returns-clause-makes
 returns-clause-makes c =
-    subst (λ (p : Parts). Makes 0 1 p (parts c.empty-2.new.heaps c.self.inside.collector)) c.self.view_is (record { running = refl; made = (grown c).made })
+    let same = c.empty-2.ensures.running ∙ (c.enter.ensures.running ∙ c.close_over.ensures.running) in
+    subst (λ p. Makes 0 1 p c.empty-2.new.self) c.self.view_is (record { running = same; made = (grown c).made })

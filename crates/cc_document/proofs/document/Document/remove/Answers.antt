@@ -4,7 +4,8 @@ use Rattle.cc_names.specs.declared.register.Reg.TheVariants.{N}
 use Rattle.cc_model.specs.Graph.{objects_of, register}
 use Rattle.cc_document.specs.Words.{element_of, child_of}
 use Rattle.cc_document.specs.Changes.{IsRemoved}
-use Rattle.cc_document.specs.Shown.{Makes, Parts, Shows, parts, written, removed}
+use Rattle.cc_document.specs.declared.parts.Parts.{Parts}
+use Rattle.cc_document.specs.Shown.{Makes, Shows, written, removed}
 use Rattle.cc_document.proofs.Appending.{removed-reads}
 use Rattle.cc_document.proofs.Calls.{both-there, read-some, between-from}
 use Rattle.cc_document.specs.declared.error.DocumentError.TheVariants.{NoChild}
@@ -12,7 +13,7 @@ use Rattle.cc_document.specs.Stops.{StopsRemoving}
 use Rattle.cc_document.proofs.Outcomes.{stopped-alike}
 use Rattle.cc_heaps.specs.Leaving.{TellsWhatIsFreed}
 use Rattle.cc_heaps.proofs.Leaving.{tells-then}
-use Rattle.cc_document.proofs.Growing.{made-then}
+use Rattle.cc_document.proofs.Growing.{makes-then}
 use Rattle.cc_document.proofs.Idle.{idle-after, removed-left}
 use Rattle.cc_document.proofs.document.Document.remove.Goals as goal
 
@@ -53,24 +54,20 @@ invariant_of-self g c =
     let s = c.self.invariant.0 in
     let v = c.args.parent.0 in
     let w = c.args.child.0 in
-    let b = c.self.inside.collector in
     let k = removed v c.in-Some.place w s.0 in
     let t = c.write-2.ensures.shows (written w 0 None s.0) (c.write.ensures.shows s.0 s.1) in
-    ((k, t), idle-after c.self.inside.heaps c.write-2.new.heaps b b s.0 k s.1 t (removed-left s.0 v c.in-Some.place w) c.self.invariant.1)
+    ((k, t), idle-after c.self.inside.parts c.write-2.new.self s.0 k s.1 t (removed-left s.0 v c.in-Some.place w) c.self.invariant.1)
 
 pub returns-clause-tells : goal.returns-clause-tells
 returns-clause-tells g c =
-    let v = c.self.inside.heaps in
-    let w = c.write-2.new.heaps in
+    let v = c.self.inside.parts.heaps in
+    let w = c.write-2.new.self.heaps in
     let s = c.self.invariant.0 in
     let t = c.write-2.ensures.shows (written c.args.child.0 0 (None) s.0) (c.write.ensures.shows s.0 s.1) in
     subst (λ (p : Parts). TellsWhatIsFreed p.heaps.heap w.heap (g.N.Notices.telling c.args.out.now) (g.N.Notices.telling c.write-2.new.out)) c.self.view_is
-    (tells-then v.heap c.write.new.heaps.heap w.heap t.runs.order.sound.well_formed c.write-2.ensures.none_came c.write.ensures.none_came
+    (tells-then v.heap c.write.new.self.heaps.heap w.heap t.runs.order.sound.well_formed c.write-2.ensures.none_came c.write.ensures.none_came
     (g.N.Notices.telling c.args.out.now) (g.N.Notices.telling c.write.new.out) (g.N.Notices.telling c.write-2.new.out) c.write.ensures.tells c.write-2.ensures.tells)
 
 pub returns-clause-makes : goal.returns-clause-makes
 returns-clause-makes g c =
-    let v = c.self.inside.heaps in
-    let w = c.write-2.new.heaps in
-    subst (λ (p : Parts). Makes 0 0 p (parts w c.self.inside.collector)) c.self.view_is
-    (record { running = refl; made = made-then 0 0 0 0 v.heap c.write.new.heaps.heap w.heap c.write.ensures.made c.write-2.ensures.made })
+    subst (λ p. Makes 0 0 p c.write-2.new.self) c.self.view_is (makes-then 0 0 0 0 c.self.inside.parts c.write.new.self c.write-2.new.self c.write.ensures.makes c.write-2.ensures.makes)

@@ -1,10 +1,10 @@
 use Rattle.std.proofs.Common.{get_or, Some, ap, sym, ◌∙◌, arith}
 use Rattle.std.proofs.lemmas.List.{get_or_default}
+use Rattle.cc_lists.proofs.Held.{is_some-found}
 use Rattle.slab.specs.Slab.{get}
 use Rattle.cc_names.specs.declared.kind.Colour.TheVariants.{White}
 use Rattle.cc_script.specs.Cells.{Content, filled, filled_slab, in_colour, nothing}
 use Rattle.cc_script.proofs.Coloured.{held-bare, held-label, read-coloured, read-filled}
-use Rattle.cc_script.proofs.Paired.{some-of}
 use Rattle.cc_script.proofs.cells.Cells.body.Goals as goal
 
 pub index-requires : goal.index-requires
@@ -21,7 +21,7 @@ returns c =
     let content = get_or contents c.args.key nothing in
     let colour = get_or c.self.inside.colours.items c.args.key White in
     let held = held-label s contents c.args.key (held-bare (filled_slab s contents) c.self.inside.colours.items c.args.self.now c.self.view_is c.args.key c.requires) in
-    let there = some-of (get s c.args.key) held in (
+    let there = is_some-found (get s c.args.key) held in (
       colour,
       (
         there.0,

@@ -1,13 +1,14 @@
 use Rattle.std.proofs.Common.{◌≡◌, Some, ap, sym, ◌∙◌, arith, rules}
 use Rattle.std.proofs.lemmas.Bool.{false≢true}
 use Rattle.std.proofs.lemmas.List.{get_or_default}
+use Rattle.cc_lists.proofs.Held.{is_some-found}
 use Rattle.slab.specs.Slab.{get}
 use denote.Enum.Bare.{differs_true, differs_false}
 use Rattle.cc_names.specs.contracts.kind.Colour.{the_type}
 use Rattle.cc_names.specs.declared.kind.Colour.TheVariants.{White}
 use Rattle.cc_script.specs.Cells.{filled, filled_slab, nothing}
 use Rattle.cc_script.proofs.Coloured.{colour-coloured, held-coloured, held-label, reaches-filled}
-use Rattle.cc_script.proofs.Paired.{held-out, some-of}
+use Rattle.cc_script.proofs.Paired.{held-out}
 use Rattle.cc_script.proofs.cells.Cells.has_colour_at.Goals as goal
 
 pub returns-then-key-len : goal.returns-then-key-len
@@ -25,7 +26,7 @@ returns-then-ne c =
       λ is. absurd (false≢true is),
       λ is.
           let held = held-coloured s colours c.args.self.now c.self.view_is c.args.key is in
-          let there = some-of (get s c.args.key) held in
+          let there = is_some-found (get s c.args.key) held in
           let read = get_or_default colours c.args.key c.index.result.now White (reaches-filled c.self.inside.slab c.self.inside.bodies.items colours c.self.invariant.coloured c.args.key held) in
           let seen : Some c.args.colour ≡ Some c.index.result.now = sym is ∙ (colour-coloured s colours c.args.self.now c.self.view_is c.args.key there.0 there.1 ∙ ap Some (sym read ∙ sym c.index.ensures)) in
           let same : c.args.colour ≡ c.index.result.now = cc in
@@ -38,7 +39,7 @@ returns c =
     let colours = c.self.inside.colours.items in (
       λ is.
           let held = held-out filled nothing c.self.inside.slab c.self.inside.bodies.items c.args.key (c.contains.ensures.0 is) in
-          let there = some-of (get s c.args.key) held in
+          let there = is_some-found (get s c.args.key) held in
           let read = get_or_default colours c.args.key c.index.result.now White (reaches-filled c.self.inside.slab c.self.inside.bodies.items colours c.self.invariant.coloured c.args.key held) in
           let same = differs_false the_type (search rules) c.index.result.now c.args.colour (sym c.if-ne.ensures) in
           colour-coloured s colours c.args.self.now c.self.view_is c.args.key there.0 there.1 ∙ ap Some (sym read ∙ (sym c.index.ensures ∙ same)),

@@ -2,13 +2,13 @@ use Rattle.std.proofs.Common.{◌+◌, List, Option, length, map, get_or, refl, 
 use Rattle.std.specs.Prelude.{vec_capacity}
 use Rattle.std.proofs.Math.ListN.{set}
 use Rattle.std.proofs.lemmas.List.{get_or_default, length-map, map-set}
+use Rattle.cc_lists.proofs.Held.{is_some-found}
 use Rattle.slab.specs.Slab.{Slab, get}
 use Rattle.cc_names.specs.declared.kind.Colour.TheVariants.{White}
 use Rattle.cc_script.specs.Lists.{slots_placed, written}
 use Rattle.cc_script.specs.Cells.{Bare, Changes, Content, Linked, coloured_slab, filled, filled_slab, in_colour, nothing}
 use Rattle.cc_script.proofs.Reading.{held_key}
 use Rattle.cc_script.proofs.Linking.{cell-held, cell-read}
-use Rattle.cc_script.proofs.Paired.{some-of}
 use Rattle.cc_script.proofs.Coloured.{changes-bare, content-set, held-bare, held-label, read-coloured, read-filled}
 use Rattle.cc_script.proofs.cells.Cells.write.Goals as goal
 
@@ -26,7 +26,7 @@ index_mut-requires c =
     let contents = c.self.inside.bodies.items in
     let held = held-label s contents c.args.key.0
     (held-bare (filled_slab s contents) c.self.inside.colours.items c.args.self.now c.self.view_is c.args.key.0 (cell-held c.args.self.now.slots c.args.key.0 c.requires.live)) in
-    let there = some-of (get s c.args.key.0) held in
+    let there = is_some-found (get s c.args.key.0) held in
     let colour = get_or c.self.inside.colours.items c.args.key.0 White in
     let b = filled (get_or contents c.args.key.0 nothing) there.0 in
     let read = cell-read c.args.self.now.slots c.args.key.0 (in_colour colour b)
@@ -49,7 +49,7 @@ returns c =
     let held = held-label s contents c.args.key.0
     (held-bare (filled_slab s contents) c.self.inside.colours.items c.args.self.now c.self.view_is c.args.key.0 (cell-held c.args.self.now.slots c.args.key.0 c.requires.live)) in
     let f = filled_slab s contents in
-    let there = some-of (get s c.args.key.0) held in
+    let there = is_some-found (get s c.args.key.0) held in
     let within = c.self.invariant.filled c.args.key.0 held in
     let colours = c.self.inside.colours.items in
     let colour = get_or colours c.args.key.0 White in

@@ -1,6 +1,6 @@
 use Rattle.std.proofs.Common.{Some, get_or, option_map, ap, sym, ◌∙◌}
+use Rattle.cc_lists.proofs.Held.{is_some-map}
 use Rattle.slab.specs.Slab.{get}
-use Rattle.cc_chain.proofs.Slots.{some-map}
 use Rattle.cc_script.specs.Cells.{Label, Linked, filled, filled_slab, nothing}
 use Rattle.cc_script.proofs.Coloured.{held-bare, held-label, read-coloured, read-filled}
 use Rattle.cc_script.proofs.links.CellsLinkStoreOrder.get.Goals as goal
@@ -11,7 +11,7 @@ index-requires c =
     let contents = c.self.inside.bodies.items in
     held-label s contents c.args.key
     (held-bare (filled_slab s contents) c.self.inside.colours.items c.args.self.now c.self.view_is c.args.key
-    (sym (some-map (λ (z : Linked). z.order) (get c.args.self.now c.args.key)) ∙ c.requires))
+    (sym (is_some-map (λ (z : Linked). z.order) (get c.args.self.now c.args.key)) ∙ c.requires))
 
 pub returns : goal.returns
 returns c =

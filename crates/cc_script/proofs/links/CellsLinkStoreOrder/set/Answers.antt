@@ -1,11 +1,11 @@
 use Rattle.std.proofs.Common.{◌+◌, ◌≡◌, List, Option, Some, get_or, refl, ap, sym, subst, ◌∙◌}
 use Rattle.std.specs.Prelude.{vec_capacity}
 use Rattle.std.proofs.Math.ListN.{set}
+use Rattle.cc_lists.proofs.Held.{is_some-map}
 use Rattle.slab.specs.Slab.{Slab, get}
 use Rattle.cc_names.specs.declared.kind.Colour.TheVariants.{White}
 use Rattle.cc_chain.specs.declared.link.Link.{Link}
 use Rattle.cc_chain.specs.Links.{with_link}
-use Rattle.cc_chain.proofs.Slots.{some-map}
 use Rattle.cc_script.specs.Beings.{delegate_key_of, kind_of, name_of, native_key_of}
 use Rattle.cc_script.specs.Paired.{paired}
 use Rattle.cc_script.specs.Cells.{Bare, Label, Linked, beside_order, coloured_slab, filled, filled_slab, in_colour, nothing, order_links}
@@ -20,7 +20,7 @@ index_mut-requires c =
     let contents = c.self.inside.bodies.items in
     held-label s contents c.args.key
     (held-bare (filled_slab s contents) c.self.inside.colours.items c.args.self.now c.self.view_is c.args.key
-    (sym (some-map (λ (z : Linked). z.order) (get c.args.self.now c.args.key)) ∙ c.requires))
+    (sym (is_some-map (λ (z : Linked). z.order) (get c.args.self.now c.args.key)) ∙ c.requires))
 
 pub returns-clause-links : goal.returns-clause-links
 returns-clause-links c =

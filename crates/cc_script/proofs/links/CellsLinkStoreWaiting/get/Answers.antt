@@ -1,9 +1,8 @@
 use Rattle.std.proofs.Common.{Some, get_or, option_map, ap, sym, ◌∙◌, arith}
 use Rattle.std.proofs.lemmas.List.{get_or_default}
+use Rattle.cc_lists.proofs.Held.{is_some-map, is_some-found}
 use Rattle.slab.specs.Slab.{get}
-use Rattle.cc_chain.proofs.Slots.{some-map}
 use Rattle.cc_script.specs.Cells.{Content, Linked, filled, filled_slab, nothing}
-use Rattle.cc_script.proofs.Paired.{some-of}
 use Rattle.cc_script.proofs.Coloured.{held-bare, held-label, read-coloured, read-filled}
 use Rattle.cc_script.proofs.links.CellsLinkStoreWaiting.get.Goals as goal
 
@@ -13,7 +12,7 @@ index-requires c =
     let contents = c.self.inside.bodies.items in
     let held = held-label s contents c.args.key
     (held-bare (filled_slab s contents) c.self.inside.colours.items c.args.self.now c.self.view_is c.args.key
-    (sym (some-map (λ (z : Linked). z.waiting) (get c.args.self.now c.args.key)) ∙ c.requires)) in
+    (sym (is_some-map (λ (z : Linked). z.waiting) (get c.args.self.now c.args.key)) ∙ c.requires)) in
     omega (arith, c.self.invariant.filled c.args.key held, c.self.inside.bodies.ok.0)
 
 pub returns : goal.returns
@@ -22,8 +21,8 @@ returns c =
     let contents = c.self.inside.bodies.items in
     let held = held-label s contents c.args.key
     (held-bare (filled_slab s contents) c.self.inside.colours.items c.args.self.now c.self.view_is c.args.key
-    (sym (some-map (λ (z : Linked). z.waiting) (get c.args.self.now c.args.key)) ∙ c.requires)) in
-    let there = some-of (get s c.args.key) held in
+    (sym (is_some-map (λ (z : Linked). z.waiting) (get c.args.self.now c.args.key)) ∙ c.requires)) in
+    let there = is_some-found (get s c.args.key) held in
     ap (option_map (λ (z : Linked). z.waiting))
     (read-coloured (filled_slab s contents) c.self.inside.colours.items c.args.self.now c.self.view_is c.args.key (filled (get_or contents c.args.key nothing) there.0)
     (read-filled s contents c.args.key there.0 there.1))

@@ -2,15 +2,14 @@ use Rattle.std.proofs.Common.{◌+◌, ◌≡◌, Option, Some, map, get_or, ref
 use Rattle.std.specs.Prelude.{vec_capacity}
 use Rattle.std.proofs.Math.ListN.{set}
 use Rattle.std.proofs.lemmas.List.{get_or_default}
+use Rattle.cc_lists.proofs.Held.{is_some-map, is_some-found}
 use Rattle.slab.specs.Slab.{Slab, get}
 use Rattle.cc_names.specs.declared.kind.Colour.TheVariants.{White}
 use Rattle.cc_chain.specs.declared.link.Link.{Link}
 use Rattle.cc_chain.specs.Links.{with_link}
-use Rattle.cc_chain.proofs.Slots.{some-map}
 use Rattle.cc_script.specs.Cells.{Bare, Content, Linked, beside_waiting, coloured_slab, filled, filled_slab, in_colour, nothing, waiting_links}
 use Rattle.cc_script.proofs.Reading.{held_key}
 use Rattle.cc_script.proofs.Linking.{beside-same}
-use Rattle.cc_script.proofs.Paired.{some-of}
 use Rattle.cc_script.proofs.Coloured.{HaveAll-written, content-set, held-bare, held-label, link-kept, link-set, object-kept, read-filled}
 use Rattle.cc_script.proofs.links.CellsLinkStoreWaiting.set.Goals as goal
 
@@ -20,7 +19,7 @@ index_mut-requires c =
     let contents = c.self.inside.bodies.items in
     let held = held-label s contents c.args.key
     (held-bare (filled_slab s contents) c.self.inside.colours.items c.args.self.now c.self.view_is c.args.key
-    (sym (some-map (λ (z : Linked). z.waiting) (get c.args.self.now c.args.key)) ∙ c.requires)) in
+    (sym (is_some-map (λ (z : Linked). z.waiting) (get c.args.self.now c.args.key)) ∙ c.requires)) in
     omega (arith, c.self.invariant.filled c.args.key held, c.self.inside.bodies.ok.0)
 
 pub returns-clause-links : goal.returns-clause-links
@@ -31,8 +30,8 @@ returns-clause-links c =
     let colours = c.self.inside.colours.items in
     let held = held-label s contents c.args.key
     (held-bare (filled_slab s contents) c.self.inside.colours.items c.args.self.now c.self.view_is c.args.key
-    (sym (some-map (λ (z : Linked). z.waiting) (get c.args.self.now c.args.key)) ∙ c.requires)) in
-    let there = some-of (get s c.args.key) held in
+    (sym (is_some-map (λ (z : Linked). z.waiting) (get c.args.self.now c.args.key)) ∙ c.requires)) in
+    let there = is_some-found (get s c.args.key) held in
     let content : Content = record { slots = map held_key c.behind-self.inside.slots.items; is_proxy = c.behind-self.inside.is_proxy; waiting = c.of.result } in
     ap (λ (z : Slab Bare). waiting_links (coloured_slab room z colours).slots) (content-set s contents c.args.key there.0 content (c.self.invariant.filled c.args.key held) there.1)
     ∙ (link-set (filled_slab s contents) colours c.args.self.now c.self.view_is c.args.key (λ (z : Linked). z.waiting) (filled (get_or contents c.args.key nothing) there.0) (filled content there.0)
@@ -49,8 +48,8 @@ returns-clause-rest c =
     let colour = get_or colours c.args.key White in
     let held = held-label s contents c.args.key
     (held-bare (filled_slab s contents) c.self.inside.colours.items c.args.self.now c.self.view_is c.args.key
-    (sym (some-map (λ (z : Linked). z.waiting) (get c.args.self.now c.args.key)) ∙ c.requires)) in
-    let there = some-of (get s c.args.key) held in
+    (sym (is_some-map (λ (z : Linked). z.waiting) (get c.args.self.now c.args.key)) ∙ c.requires)) in
+    let there = is_some-found (get s c.args.key) held in
     let content : Content = record { slots = map held_key c.behind-self.inside.slots.items; is_proxy = c.behind-self.inside.is_proxy; waiting = c.of.result } in
     let b = filled (get_or contents c.args.key nothing) there.0 in
     let d = filled content there.0 in
@@ -68,5 +67,5 @@ invariant_of-self c =
     let contents = c.self.inside.bodies.items in
     let held = held-label s contents c.args.key
     (held-bare (filled_slab s contents) c.self.inside.colours.items c.args.self.now c.self.view_is c.args.key
-    (sym (some-map (λ (z : Linked). z.waiting) (get c.args.self.now c.args.key)) ∙ c.requires)) in
+    (sym (is_some-map (λ (z : Linked). z.waiting) (get c.args.self.now c.args.key)) ∙ c.requires)) in
     HaveAll-written s contents c.self.inside.colours.items c.args.key _ held c.self.invariant

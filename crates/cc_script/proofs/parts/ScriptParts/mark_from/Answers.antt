@@ -1,5 +1,5 @@
 use Rattle.std.proofs.Common.{is_some, ap, sym, subst, ◌∙◌, arith}
-use Rattle.cc_chain.proofs.Slots.{some-map}
+use Rattle.cc_lists.proofs.Held.{is_some-map}
 use Rattle.cc_script.specs.Objects.{AreWhole}
 use Rattle.cc_script.specs.Marking.{Marking, raise_key, to_do}
 use Rattle.cc_script.specs.Parts.{lists_of, shows, marking_of}
@@ -29,7 +29,7 @@ loop-to-init c =
 
 pub loop-to-smaller : goal.loop-to-smaller
 loop-to-smaller c =
-    let some = ap is_some (sym c.look_into_first.ensures.first) ∙ (some-map (λ k. k.0) c.look_into_first.result ∙ sym c.loop-to-test.ensures) in
+    let some = ap is_some (sym c.look_into_first.ensures.first) ∙ (is_some-map (λ k. k.0) c.look_into_first.result ∙ sym c.loop-to-test.ensures) in
     omega (arith, ap (to_do c.args.to) c.look_into_first.ensures.looked, looked-spends c.args.to (marking_of c.loop-to.self) some)
 
 pub loop-to-preserved : goal.loop-to-preserved
@@ -47,14 +47,14 @@ loop-to-preserved c =
 pub returns-clause-shows : goal.returns-clause-shows
 returns-clause-shows c =
     let m = marking_of c.loop-to.self in
-    let emptied = none-first m.waiting (ap is_some (sym c.look_into_first.ensures.first) ∙ (some-map (λ k. k.0) c.look_into_first.result ∙ sym c.loop-to-test.ensures)) in
+    let emptied = none-first m.waiting (ap is_some (sym c.look_into_first.ensures.first) ∙ (is_some-map (λ k. k.0) c.look_into_first.result ∙ sym c.loop-to-test.ensures)) in
     ap (λ (z : Marking). z.objects) (c.look_into_first.ensures.looked ∙ looked-none c.args.to m emptied)
     ∙ walk-end (shows c.args.self.now) c.args.key.0 c.args.to (object_at-own (lists_of c.args.self.now) c.requires.at_rest.placed) c.requires.at_rest.coloured m c.loop-to.invariant.walk emptied
 
 pub returns-clause-at_rest : goal.returns-clause-at_rest
 returns-clause-at_rest c =
     let m = marking_of c.loop-to.self in
-    let emptied = none-first m.waiting (ap is_some (sym c.look_into_first.ensures.first) ∙ (some-map (λ k. k.0) c.look_into_first.result ∙ sym c.loop-to-test.ensures)) in
+    let emptied = none-first m.waiting (ap is_some (sym c.look_into_first.ensures.first) ∙ (is_some-map (λ k. k.0) c.look_into_first.result ∙ sym c.loop-to-test.ensures)) in
     let none = ap (λ (z : Marking). z.waiting) (c.look_into_first.ensures.looked ∙ looked-none c.args.to m emptied) ∙ emptied in
     record {
       placed = c.look_into_first.ensures.begun.under_way.placed;

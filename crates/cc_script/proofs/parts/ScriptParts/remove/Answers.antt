@@ -1,4 +1,5 @@
 use Rattle.std.proofs.Common.{is_some, ap, sym, subst, ◌∙◌}
+use Rattle.cc_lists.proofs.Held.{is_some-found}
 use Rattle.cc_chain.proofs.Slots.{among-linked}
 use Rattle.cc_script.specs.ColourOrder.{HasColourOrder}
 use Rattle.cc_script.specs.Lists.{cell_at, objects_of, IsPlaced}
@@ -8,7 +9,6 @@ use Rattle.cc_script.proofs.Places.{live-cell, live-some}
 use Rattle.cc_script.proofs.Keys.{coloured-there}
 use Rattle.cc_script.proofs.Leaving.{IsPlaced-left, objects-left}
 use Rattle.cc_script.proofs.Linking.{cell-held}
-use Rattle.cc_script.proofs.Paired.{some-of}
 use Rattle.cc_script.proofs.Parting.{lists-parted}
 use Rattle.cc_script.proofs.InOrder.{HasColourOrder-without}
 use Rattle.cc_script.proofs.parts.ScriptParts.remove.Goals as goal
@@ -37,7 +37,7 @@ returns-clause-shows c =
     let h = c.requires.at_rest.chained in
     let f = live-cell l c.requires.at_rest.placed c.args.key.0 (coloured-there (shows p) c.args.key.0 _ c.requires.white) in
     let removed = c.remove.ensures in
-    let held = some-of _ (cell-held c.unlink_at.new.store.slots c.args.key.0
+    let held = is_some-found _ (cell-held c.unlink_at.new.store.slots c.args.key.0
     (ap (λ (b : Beside). is_some (cell_at b.cells c.args.key.0)) c.unlink_at.ensures.rest ∙ ap is_some f.1)) in
     let a = lists-parted p h c.requires.at_rest.emptied c.args.key.0 _ _ (c.unlink_at.ensures.keys l.order h.order) c.unlink_at.ensures.rest _ held.0 held.1 removed.slots removed.updates in
     ap objects_of a.lists ∙ objects-left l c.requires.at_rest.placed c.args.key.0 f.0 f.1
@@ -49,7 +49,7 @@ returns-clause-at_rest c =
     let h = c.requires.at_rest.chained in
     let f = live-cell l c.requires.at_rest.placed c.args.key.0 (coloured-there (shows p) c.args.key.0 _ c.requires.white) in
     let removed = c.remove.ensures in
-    let held = some-of _ (cell-held c.unlink_at.new.store.slots c.args.key.0
+    let held = is_some-found _ (cell-held c.unlink_at.new.store.slots c.args.key.0
     (ap (λ (b : Beside). is_some (cell_at b.cells c.args.key.0)) c.unlink_at.ensures.rest ∙ ap is_some f.1)) in
     let a = lists-parted p h c.requires.at_rest.emptied c.args.key.0 _ _ (c.unlink_at.ensures.keys l.order h.order) c.unlink_at.ensures.rest _ held.0 held.1 removed.slots removed.updates in
     record {
