@@ -24,6 +24,7 @@ use Rattle.cc_model.specs.Checks.{is_map_in, slots_or_none, slot_at, slots_at}
 use Rattle.cc_model.specs.Heap.{Heap, HeapScript, objects_of, register, script_at, source, slots_in, slots_of_kind, slots_of_script}
 use Rattle.cc_model.specs.WellFormed.{FitsName}
 use Rattle.cc_laws_heap.proofs.Face.{IsColoured, IsHeldBlack, contents-at-of_writes as contents-at, script-named, scripts-once}
+use Rattle.cc_script.proofs.PlacesOf.{slot-place}
 use Rattle.cc_script.specs.Objects.{Object, object_at, is_there, kind_at, colour_at}
 use Rattle.cc_script.specs.Objects as objects
 use Rattle.cc_heaps.specs.Keyed.{Keyed, IsInOrder, name_held, named_object}
@@ -145,7 +146,7 @@ module _ (owned : List ℕ) (v : Keyed) (order : IsInOrder owned v) where
         go : (x : Option SKey) → get_or object-at.object.slots i None ≡ option_map (λ (k : SKey). k.0) x → IsScriptThere v x
         go None e = tt
         go (Some k) e = order.whole object-at.object k.0 (find-among (λ (p : Object). p.key == key.0) v.scripts object-at.object object-at.at)
-            (among-get object-at.object.slots i k.0 e)
+            (slot-place object-at.object k.0 (among-get object-at.object.slots i k.0 e))
 
   -- WHAT A REGISTER HOLDS IS BLACK.
   pub held-black : IsColoured v.heap → (r : ℕ) (x : Option SKey) → script_name v x ≡ register v.heap (S r) → IsScriptThere v x →
