@@ -2,7 +2,7 @@
 -- snapshot that was fresh is fresh where neither key nor value is gray, and no unreached native is forgotten.
 use Rattle.cc_heaps.proofs.ReflectingWritten.{handed-reached}
 use Rattle.cc_lists.proofs.Held.{option_and_then-found}
-use Rattle.cc_laws_heap.proofs.Face.{AreColoured-from_view, Follows-set_entry, Grows, Grows-change_native, HasColourInvariant-from, IsHeldBlack, IsMadeEntry-grows, IsWellMade-change_native, IsWellMade-entries, KeepsNative-preserved, MadeScript, OfSome, SameScripts, SameScripts-coloured, entries_of-set, follows-stands, in-reached, option_map-found, script-behind, stands-follows, with_entry-cases, without_entry-sound}
+use Rattle.cc_laws_heap.proofs.Face.{AreColoured-from_view, Follows-set_entry, Grows, Grows-change_native, HasColourInvariant-from, IsHeldBlack, IsMadeEntry-grows, IsWellMade-change_native, IsWellMade-entries, KeepsNative-preserved, MadeScript, OfSome, SameScripts, SameScripts-coloured, delegate-stands, entries_of-set, follows-stands, in-reached, option_map-found, script-behind, stands-follows, with_entry-cases, without_entry-sound}
 use Rattle.std.proofs.Common.{◌≡◌, ℕ, not, List, Option, Some, None, refl, sym, ◌∙◌, ap, subst, inl, ⊎_elim, arith, option_map}
 use Rattle.std.specs.Prelude.{IfSome, IsTrue}
 use Rattle.std.specs.Option.{option_and_then}
@@ -12,13 +12,15 @@ use Rattle.cc_lists.proofs.Filtering.{count_by-filter-le}
 use Rattle.cc_names.specs.declared.name.Name.{Name}
 use Rattle.cc_names.specs.declared.name.Name.TheVariants as name
 use Rattle.cc_names.specs.declared.kind.Kind.TheVariants.{Reflector, Map}
-use Rattle.cc_names.specs.Names.{object}
+use Rattle.cc_names.specs.Names.{object, is_script}
 use Rattle.cc_model.specs.Entries.{Entry, entry, is_entry_of, with_entry, without_entry}
 use Rattle.cc_model.specs.Graph as graph
-use Rattle.cc_model.specs.Graph.{Graph, GraphNative, GraphScript, plain_object, weak_map, as_preserved, native_in, script_in}
+use Rattle.cc_model.specs.Graph.{Graph, GraphNative, GraphScript, plain_object, weak_map, as_preserved, delegate_in, native_in, script_in}
 use Rattle.cc_model.specs.Reached.{Reached}
-use Rattle.cc_model.specs.WellMade.{IsWellMade, IsMadeEntry}
-use Rattle.cc_model.specs.Heap.{Heap, preserve}
+use Rattle.cc_model.specs.WellMade.{IsWellMade, IsMadeEntry, was_made}
+use Rattle.cc_model.specs.Heap.{Heap, delegate_at, preserve}
+use Rattle.cc_model.proofs.Joints.{joint-cases, gives-joint}
+use Rattle.std.proofs.lemmas.Bool.{and_parts}
 use Rattle.cc_model.specs.Effects.{set_entry}
 use Rattle.cc_model.specs.WellFormed.{HasMembers, script_names}
 use Rattle.cc_model.specs.StandsFor.{StandsFor, kind_in, kind_of, reflector_kind}
@@ -45,16 +47,16 @@ preserved-well g (name.Reflector k) m w = (IsWellMade-change_native g k.0 as_pre
 
 module _ {owned : List ℕ} (h : Heap) (m k : Name) (s : IsSound owned h) where
   -- a graph that the heaps stand for is well made with an entry of what is there, or with one less
-  set-well : (v : Option Name) → OfSome (λ x. HasMembers h (entry m k x)) v → (g : Graph) → IsWellMade g → StandsFor h g → IsWellMade (graph.set_entry g (Some m) (Some k) v)
+  set-well : (v : Option Name) → OfSome (λ x. HasMembers h (entry m k (delegate_at h k) x)) v → (g : Graph) → IsWellMade g → StandsFor h g → IsWellMade (graph.set_entry g (Some m) (Some k) v)
   set-well None there g w t = IsWellMade-entries g (without_entry g.entries m k) w
       (λ e i. w.entries e (Among-filtered (λ f. not (is_entry_of m k f)) e g.entries i))
       (λ a b. omega (arith, count_by-filter-le (is_entry_of a b) (λ e. not (is_entry_of m k e)) g.entries, w.one_entry a b))
   set-well (Some x) there g w t =
       let kept = preserved-well g k key w in
-      IsWellMade-entries (graph.preserve g (Some k)) (with_entry g.entries m k x) kept.0
+      IsWellMade-entries (graph.preserve g (Some k)) (with_entry g.entries m k (delegate_in g k) x) kept.0
       (λ e i. IsMadeEntry-grows g (graph.preserve g (Some k)) kept.1 e
-      (⊎_elim (λ same. subst (IsMadeEntry g) same new) (w.entries e) (with_entry-cases g.entries m k x e i)))
-      (entries_of-set g.entries m k x w.one_entry)
+      (⊎_elim (λ same. subst (IsMadeEntry g) same new) (w.entries e) (with_entry-cases g.entries m k (delegate_in g k) x e i)))
+      (entries_of-set g.entries m k (delegate_in g k) x w.one_entry)
     where
       key : MadeScript g k
       key = there-made h g k s.well_formed t there.key
@@ -64,20 +66,22 @@ module _ {owned : List ℕ} (h : Heap) (m k : Name) (s : IsSound owned h) where
           let f = there.the_map in
           ap (kind_in g) (sym f.2) ∙ ((t.scripts f.0 f.1).kind ∙ ap (λ kind. Some kind) f.3)
 
-      new : IsMadeEntry g (entry m k x)
-      new = record { the_map = kind-map g m the_map; key = key; value = there-made h g x s.well_formed t there.value }
+      new : IsMadeEntry g (entry m k (delegate_in g k) x)
+      new = record { the_map = kind-map g m the_map; key = key; value = there-made h g x s.well_formed t there.value; delegate = refl }
 
   module _ (v : Option Name) (after : IsSound owned (set_entry h (Some m) (Some k) v)) where
     -- THE HEAPS STAND FOR THE GRAPH with the entry set, or without it, where all that is handed in is reached.
-    set-stands : OfSome (λ x. HasMembers h (entry m k x)) v → Among k (script_names h) → IsReached h (Some m) → IsReached h (Some k) → IsReached h v →
+    set-stands : OfSome (λ x. HasMembers h (entry m k (delegate_at h k) x)) v → Among k (script_names h) → IsReached h (Some m) → IsReached h (Some k) → IsReached h v →
         StandsAfter h (set_entry h (Some m) (Some k) v) (λ g. graph.set_entry g (Some m) (Some k) v)
     set-stands there at a b c g w t =
         let well = set-well v there g w t in
-        let key = in-reached h g s.well_formed w t k b in (
+        let key = in-reached h g s.well_formed w t k b in
+        let made = there-made h g k s.well_formed t at in (
           well,
           follows-stands (Reached g) (set_entry h (Some m) (Some k) v) (graph.set_entry g (Some m) (Some k) v) after.well_formed well
               (Follows-set_entry (Reached g) h g (Some m) (Some k) v (in-reached h g s.well_formed w t m a) key
-              (script-behind g (Some k) (there-made h g k s.well_formed t at) key) (handed-reached h g v s.well_formed w t c) w.one_entry (stands-follows h g s.well_formed t)),
+              (script-behind g (Some k) made key) (handed-reached h g v s.well_formed w t c)
+              (delegate-stands h g t k (and_parts (is_script k) (was_made g k) made).0 key) w.one_entry (stands-follows h g s.well_formed t)),
         )
 
     -- script objects and script registers are as they were
@@ -113,7 +117,9 @@ module _ {owned : List ℕ} (h : Heap) (m k : Name) (s : IsSound owned h) where
     outside = λ u c i o l. (i, o);
     as_often = λ u w c i o l. refl;
     gray_edge = λ x y i g. (i, g);
-    gray_entry = λ e i g. (Among-filtered (λ (f : Entry). not (is_entry_of m k f)) e h.entries i, g);
+    gray_joint = λ j i g.
+        let f = joint-cases (without_entry h.entries m k) j i in
+        (gives-joint h.entries f.0 j (Among-filtered (λ (f : Entry). not (is_entry_of m k f)) f.0 h.entries f.1) f.2, g);
     black_stays = λ x i. i;
     scripts_stay = λ x i. i;
     lives = λ i c l. inl (c, l);
@@ -128,7 +134,7 @@ pub record SetKeeps (h g : Heap) (m k v : Option Name) : Type 0 where
   pub fresh_without : v ≡ None → KeepsFresh h g
 
 set-keeps : {owned : List ℕ} (h : Heap) (m k : Name) (v : Option Name) → IsSound owned h → IsSound owned (set_entry h (Some m) (Some k) v) →
-    OfSome (λ x. HasMembers h (entry m k x)) v → Among k (script_names h) → SetKeeps h (set_entry h (Some m) (Some k) v) (Some m) (Some k) v
+    OfSome (λ x. HasMembers h (entry m k (delegate_at h k) x)) v → Among k (script_names h) → SetKeeps h (set_entry h (Some m) (Some k) v) (Some m) (Some k) v
 set-keeps h m k v s after there at = record {
   stands = set-stands h m k s v after there at;
   colours = set-colours h m k s v after;
@@ -152,11 +158,11 @@ module _ {owned : List ℕ} (v w : Keyed) (o : IsInOrder owned v) (p : IsInOrder
   value : named x ≡ option_map (the_name_at v.scripts) x
   value = grind (arith, the_name-there)
 
-  members : OfSome (λ y. HasMembers v.heap (entry (the_name_at v.scripts m) (the_name_at v.scripts k) y)) (option_map (the_name_at v.scripts) x)
+  members : OfSome (λ y. HasMembers v.heap (entry (the_name_at v.scripts m) (the_name_at v.scripts k) (delegate_at v.heap (the_name_at v.scripts k)) y)) (option_map (the_name_at v.scripts) x)
   members = go x x-there
     where
       go : (y : Option ℕ) → IfSome y (λ q. IsTrue (is_there v.scripts q)) →
-          OfSome (λ z. HasMembers v.heap (entry (the_name_at v.scripts m) (the_name_at v.scripts k) z)) (option_map (the_name_at v.scripts) y)
+          OfSome (λ z. HasMembers v.heap (entry (the_name_at v.scripts m) (the_name_at v.scripts k) (delegate_at v.heap (the_name_at v.scripts k)) z)) (option_map (the_name_at v.scripts) y)
       go None t = tt
       go (Some q) t = entry-members owned v o m k q is_map k-there t
 
@@ -176,6 +182,6 @@ preserve-entries : (h : Heap) (es : List Entry) (x : Name) → preserve (record 
 preserve-entries h es x = grind arith
 
 pub set-preserved : (v mid w : Keyed) (m k x : ℕ) → IsTrue (is_there v.scripts m) → IsTrue (is_there v.scripts k) → IsTrue (is_there v.scripts x) →
-    mid.heap ≡ record v.heap { entries = with_entry v.heap.entries (the_name_at v.scripts m) (the_name_at v.scripts k) (the_name_at v.scripts x) } → mid.scripts ≡ v.scripts →
+    mid.heap ≡ record v.heap { entries = with_entry v.heap.entries (the_name_at v.scripts m) (the_name_at v.scripts k) (delegate_at v.heap (the_name_at v.scripts k)) (the_name_at v.scripts x) } → mid.scripts ≡ v.scripts →
     w ≡ changed_to mid (preserve mid.heap (name_at mid.scripts k)) → w.heap ≡ set_entry v.heap (name_at v.scripts m) (name_at v.scripts k) (name_at v.scripts x)
 set-preserved v mid w m k x s t u heap scripts e = grind (arith, the_name-there, preserve-entries)

@@ -1,23 +1,24 @@
 -- WHAT A SWEEP LEAVES OF THE ENTRIES OF WEAK MAPS, where the colours are those of marking: an entry whose map and key stay
 -- has a value that stays, so it keeps its names. What is left by keys is what the definitions leave by names.
-use Rattle.std.proofs.Common.{◌≡◌, ℕ, Bool, true, false, not, ◌&&◌, List, map, Option, Some, None, sym, ◌∙◌, ap, subst, ⊎_elim}
+use Rattle.std.proofs.Common.{◌≡◌, ℕ, Bool, true, false, not, ◌&&◌, List, map, Option, Some, None, refl, sym, ◌∙◌, ap, subst, ⊎_elim}
 use Rattle.std.specs.Prelude.{IsTrue}
 use Rattle.std.specs.List.{filter}
 use Rattle.std.proofs.lemmas.Bool.{and_parts}
 use Rattle.cc_lists.specs.Members.{Among, has}
 use Rattle.cc_lists.proofs.Members.{Among-map, Among-filtered, Among-passes}
 use Rattle.cc_lists.proofs.Filtering.{filter-agree}
+use Rattle.cc_lists.proofs.Held.{held-is}
 use Rattle.cc_lists.proofs.Searching.{filter-map}
 use Rattle.cc_lists.proofs.ListWrites.{map-agree}
 use Rattle.cc_names.specs.Names.{same_name}
 use Rattle.cc_model.specs.Colours.{IsMarked, HasColours}
 use Rattle.cc_model.specs.Sweep.{unmarked}
-use Rattle.cc_laws_heap.proofs.Face.{is_spared_entry, marked-value}
+use Rattle.cc_laws_heap.proofs.Face.{is_spared_entry, marked-delegate, marked-value}
 use Rattle.cc_script.specs.Objects.{Object, is_there, name_at}
 use Rattle.cc_weakmaps.specs.Entries.{KeyedEntry}
 use Rattle.cc_weakmaps.specs.Living.{living}
 use Rattle.cc_marking.specs.Marking.{AreEntriesThere}
-use Rattle.cc_heaps.specs.Keyed.{IsInOrder, named_entry, named_entries, the_name_at}
+use Rattle.cc_heaps.specs.Keyed.{IsInOrder, name_held, named_entry, named_entries, named_object, the_name_at}
 use Rattle.cc_heaps.specs.Fields.{heap_of, keyed_of, IsLinked}
 use Rattle.cc_heaps.specs.Sweeping.{is_marked}
 use Rattle.cc_heaps.specs.declared.heaps.Heaps.TheInside.{Inside}
@@ -61,6 +62,18 @@ module _ {owned : List ℕ} (p : Inside) (l : IsLinked p) (o : IsInOrder owned (
       marked-value (heap_of p) (named_entry p.scripts e) (Among-map (named_entry p.scripts) e p.weak m)
       (name-marked e.the_map there.the_map t.0) (name-marked e.key there.key t.1)
 
+  -- and so is the delegate of its key
+  delegate-marked : (e : KeyedEntry) → Among e p.weak → lives p e ≡ true → (d : ℕ) → e.delegate ≡ Some d → IsMarked (heap_of p) (the_name_at p.scripts d)
+  delegate-marked e m s d is =
+      let t = and_parts (is_marked p.scripts e.the_map) (is_marked p.scripts e.key) s in
+      let there = o.entries_there e m in
+      let f = name_at-found p.scripts e.key (the_name_at p.scripts e.key) (the_name-there p.scripts e.key there.key) in
+      let i : Among (named_object p.scripts f.0) (heap_of p).scripts = Among-map (named_object p.scripts) f.0 p.scripts f.1 in
+      marked-delegate (heap_of p) (named_object p.scripts f.0) (the_name_at p.scripts d) i
+      ((o.sound.well_formed.entries (named_entry p.scripts e) (Among-map (named_entry p.scripts) e p.weak m)).delegate (named_object p.scripts f.0) i f.3
+      ∙ (ap (name_held p.scripts) is ∙ the_name-there p.scripts d (there.delegate d is)))
+      (subst (IsMarked (heap_of p)) (sym f.3) (name-marked e.key there.key t.1))
+
   -- so each of its members has its name still
   member-left : (e : KeyedEntry) → Among e (left_entries p) → (k : ℕ) → Among k (members e) → name_at (left_objects p) k ≡ name_at p.scripts k
   member-left e m k i =
@@ -70,7 +83,8 @@ module _ {owned : List ℕ} (p : Inside) (l : IsLinked p) (o : IsInOrder owned (
       let there = o.entries_there e before in
       ⊎_elim (λ f. kept e.the_map f there.the_map (name-marked e.the_map there.the_map t.0))
       (λ i. ⊎_elim (λ f. kept e.key f there.key (name-marked e.key there.key t.1))
-      (λ i. ⊎_elim (λ f. kept e.value f there.value (value-marked e before s)) (λ n. absurd n) i) i) i
+      (λ i. ⊎_elim (λ f. kept e.value f there.value (value-marked e before s))
+      (λ n. let is = held-is e.delegate k n in kept k refl (there.delegate k is) (delegate-marked e before s k is)) i) i) i
     where
       kept : (j : ℕ) → j ≡ k → IsTrue (is_there p.scripts j) → IsMarked (heap_of p) (the_name_at p.scripts j) → name_at (left_objects p) k ≡ name_at p.scripts k
       kept j e t d = subst (λ j. name_at (left_objects p) j ≡ name_at p.scripts j) e (name-left p l o c j (the_name_at p.scripts j) (the_name-there p.scripts j t) d)

@@ -1,7 +1,7 @@
 -- AN ENTRY SET OR TAKEN OUT BY KEYS, which is set or taken out by names, and its key, preserved where it is a reflector.
 use Rattle.std.proofs.lemmas.Bool.{cases_Bool}
 use Rattle.cc_lists.proofs.Held.{option_and_then-found}
-use Rattle.cc_laws_heap.proofs.Face.{has_reflector-none, option_map-found, with_entries, with_entry-sound, without_entry-sound}
+use Rattle.cc_laws_heap.proofs.Face.{delegate_at-found, has_reflector-none, is_some-found, option_map-found, with_entries, with_entry-sound, without_entry-sound}
 use Rattle.std.proofs.Common.{arith, ◌≡◌, ℕ, true, List, Option, Some, None, Result, Ok, Err, OnOk, OnErr, is_some, option_map, refl, sym, ◌∙◌, ap, subst, ⊎_elim}
 use Rattle.std.specs.Prelude.{IsTrue, IsSome}
 use Rattle.std.specs.Option.{option_and_then}
@@ -14,16 +14,18 @@ use Rattle.cc_names.specs.Names.{reflector}
 use Rattle.cc_model.specs.Entries as model
 use Rattle.cc_model.specs.Entries.{Entry}
 use Rattle.cc_model.specs.Heap.{Heap, HeapScript, has_reflector, preserve}
+use Rattle.cc_model.specs.Heap as by_name
 use Rattle.cc_model.specs.Effects.{set_entry}
 use Rattle.cc_model.specs.WellFormed.{HasMembers, script_names}
 use Rattle.cc_laws_heap.specs.Sound.{IsSound}
-use Rattle.cc_script.specs.Objects.{Object, is_there, kind_at, name_at, native_at, object_at}
+use Rattle.cc_script.specs.Objects.{Object, delegate_at, is_there, kind_at, name_at, native_at, object_at}
+use Rattle.cc_script.proofs.PlacesOf.{delegate-place}
 use Rattle.cc_weakmaps.specs.Entries.{KeyedEntry, with_entry, without_entry}
 use Rattle.cc_marking.specs.Marking.{AreEntriesThere}
 use Rattle.cc_heaps.specs.declared.heaps.Heaps.TheInside.{Inside}
-use Rattle.cc_heaps.specs.Keyed.{Keyed, IsInOrder, Reflects, named_entries, named_object, number_at, the_name_at, the_number}
+use Rattle.cc_heaps.specs.Keyed.{Keyed, IsInOrder, Reflects, name_held, named_entries, named_object, number_at, the_name_at, the_number}
 use Rattle.cc_heaps.specs.Fields.{heap_of, keyed_of, IsLinked}
-use Rattle.cc_heaps.proofs.EntryNames.{with_entry-named, without_entry-named, entries_there-set, entries_there-without}
+use Rattle.cc_heaps.proofs.EntryNames.{script_at-named, with_entry-named, without_entry-named, entries_there-set, entries_there-without}
 use Rattle.cc_heaps.proofs.Keys.{Reflects-kept, object-name, Reflects-some, Reflects-cases}
 use Rattle.cc_heaps.proofs.Reaching.{name_at-found, object_at-found, the_name-there, the_name-is}
 use Rattle.cc_heaps.proofs.ScriptCalls.{Becomes}
@@ -46,9 +48,30 @@ module _ (owned : List ℕ) (v : Keyed) (o : IsInOrder owned v) where
         f.2,
       )
 
+  -- its delegate by names is that of its key
   pub entry-members : (m k x : ℕ) → kind_at v.scripts m ≡ Some Map → IsTrue (is_there v.scripts k) → IsTrue (is_there v.scripts x) →
-      HasMembers v.heap (model.entry (the_name_at v.scripts m) (the_name_at v.scripts k) (the_name_at v.scripts x))
-  entry-members m k x is s t = record { the_map = the_map-among m is; key = the_name-among k s; value = the_name-among x t }
+      HasMembers v.heap (model.entry (the_name_at v.scripts m) (the_name_at v.scripts k) (by_name.delegate_at v.heap (the_name_at v.scripts k)) (the_name_at v.scripts x))
+  entry-members m k x is s t = record {
+    the_map = the_map-among m is;
+    key = the_name-among k s;
+    value = the_name-among x t;
+    delegate = λ q i named. sym (delegate_at-found v.heap o.sound.well_formed q i) ∙ ap (by_name.delegate_at v.heap) named;
+  }
+
+  -- THE DELEGATE BY NAMES is that by keys
+  pub delegate-named : (key : ℕ) → IsTrue (is_there v.scripts key) →
+      by_name.delegate_at v.heap (the_name_at v.scripts key) ≡ name_held v.scripts (delegate_at v.scripts key)
+  delegate-named key t =
+      let f = is_some-found (object_at v.scripts key) t in
+      ap (by_name.delegate_at v.heap) (the_name-is v.scripts key f.0.name (ap (option_map (λ (q : Object). q.name)) f.1))
+      ∙ (ap (option_and_then (λ (s : HeapScript). s.delegate)) (script_at-named owned v o f.0 (object_at-found v.scripts key f.0 f.1).0)
+      ∙ ap (λ q. name_held v.scripts (option_and_then (λ (r : Object). r.delegate) q)) (sym f.1))
+
+  -- and it is there
+  pub delegate-live : (key : ℕ) → IsTrue (is_there v.scripts key) → (d : ℕ) → delegate_at v.scripts key ≡ Some d → IsTrue (is_there v.scripts d)
+  delegate-live key t d e =
+      let f = is_some-found (object_at v.scripts key) t in
+      o.whole f.0 d (object_at-found v.scripts key f.0 f.1).0 (delegate-place f.0 d (sym (ap (option_and_then (λ (r : Object). r.delegate)) f.1) ∙ e))
 
 -- a weak map is there
 pub map-there : (objects : List Object) (key : ℕ) → kind_at objects key ≡ Some Map → IsTrue (is_there objects key)
@@ -70,19 +93,27 @@ module _ {owned : List ℕ} (p : Inside) (l : IsLinked p) (o : IsInOrder owned (
     m-there = map-there p.scripts m is_map
 
     -- AN ENTRY IS SET,
-    pub becomes-set : (v : ℕ) → IsTrue (is_there p.scripts v) → (es : List KeyedEntry) → es ≡ with_entry p.weak m k v →
-        Becomes owned p (with_weak p es) (with_entries (heap_of p) (model.with_entry (heap_of p).entries (the_name_at p.scripts m) (the_name_at p.scripts k) (the_name_at p.scripts v)))
-    becomes-set v v-there es e = becomes-entries es (model.with_entry (heap_of p).entries (the_name_at p.scripts m) (the_name_at p.scripts k) (the_name_at p.scripts v))
-        (ap (named_entries p.scripts) e ∙ with_entry-named p.scripts l.one_name m k m-there k-there v p.weak o.entries_there)
-        (with_entry-sound owned (heap_of p) (the_name_at p.scripts m) (the_name_at p.scripts k) (the_name_at p.scripts v) (entry-members owned (keyed_of p) o m k v is_map k-there v-there) o.sound)
+    pub becomes-set : (v : ℕ) → IsTrue (is_there p.scripts v) → (d : Option ℕ) → d ≡ delegate_at p.scripts k → (es : List KeyedEntry) → es ≡ with_entry p.weak m k d v →
+        Becomes owned p (with_weak p es) (with_entries (heap_of p) (model.with_entry (heap_of p).entries (the_name_at p.scripts m) (the_name_at p.scripts k)
+        (by_name.delegate_at (heap_of p) (the_name_at p.scripts k)) (the_name_at p.scripts v)))
+    becomes-set v v-there d its es e = becomes-entries es (model.with_entry (heap_of p).entries (the_name_at p.scripts m) (the_name_at p.scripts k) named (the_name_at p.scripts v))
+        (ap (named_entries p.scripts) e ∙ (with_entry-named p.scripts l.one_name m k m-there k-there d v p.weak o.entries_there
+        ∙ ap (λ x. model.with_entry (heap_of p).entries (the_name_at p.scripts m) (the_name_at p.scripts k) x (the_name_at p.scripts v))
+        (ap (name_held p.scripts) its ∙ sym (delegate-named owned (keyed_of p) o k k-there))))
+        (with_entry-sound owned (heap_of p) (the_name_at p.scripts m) (the_name_at p.scripts k) named (the_name_at p.scripts v)
+        (entry-members owned (keyed_of p) o m k v is_map k-there v-there) o.sound)
         (subst (AreEntriesThere p.scripts) (sym e)
-        (entries_there-set p.scripts p.weak o.entries_there m k v (record { the_map = m-there; key = k-there; value = v-there })))
+        (entries_there-set p.scripts p.weak o.entries_there m k d v
+        (record { the_map = m-there; key = k-there; value = v-there; delegate = λ q is. delegate-live owned (keyed_of p) o k k-there q (sym its ∙ is) })))
+      where
+        named : Option Name
+        named = by_name.delegate_at (heap_of p) (the_name_at p.scripts k)
 
     -- or memory was wanting, and then it is not; the parts stay in order
-    pub order-set : {E : Type 0} (v : ℕ) → IsTrue (is_there p.scripts v) → (es : List KeyedEntry) (result : Result (Unit {0}) E) →
-        OnOk result (es ≡ with_entry p.weak m k v) → OnErr result (es ≡ p.weak) → IsInOrder owned (keyed_of (with_weak p es))
-    order-set v v-there es (Ok x) set same = (becomes-set v v-there es set).order
-    order-set v v-there es (Err x) set same = subst (λ fs. IsInOrder owned (keyed_of (with_weak p fs))) (sym same) o
+    pub order-set : {E : Type 0} (v : ℕ) → IsTrue (is_there p.scripts v) → (d : Option ℕ) → d ≡ delegate_at p.scripts k → (es : List KeyedEntry) (result : Result (Unit {0}) E) →
+        OnOk result (es ≡ with_entry p.weak m k d v) → OnErr result (es ≡ p.weak) → IsInOrder owned (keyed_of (with_weak p es))
+    order-set v v-there d its es (Ok x) set same = (becomes-set v v-there d its es set).order
+    order-set v v-there d its es (Err x) set same = subst (λ fs. IsInOrder owned (keyed_of (with_weak p fs))) (sym same) o
 
     -- OR TAKEN OUT.
     pub becomes-unset : (es : List KeyedEntry) → es ≡ without_entry p.weak m k → Becomes owned p (with_weak p es) (set_entry (heap_of p) (name_at p.scripts m) (name_at p.scripts k) None)

@@ -14,7 +14,7 @@ use Rattle.cc_names.specs.declared.name.Name.{Name}
 use Rattle.cc_names.specs.declared.name.Name.TheVariants as name
 use Rattle.cc_names.specs.declared.number.SKey.{SKey}
 use Rattle.cc_names.specs.declared.kind.Kind.{Kind}
-use Rattle.cc_names.specs.declared.kind.Kind.TheVariants.{Plain, Reflector, Map}
+use Rattle.cc_names.specs.declared.kind.Kind.TheVariants.{Plain, Reflector, Map, Proxy}
 use Rattle.cc_names.specs.Names.{same_name}
 use Rattle.cc_names.proofs.NameTests.{same_name-true, same_name-refl}
 use Rattle.cc_model.specs.Entries as model
@@ -27,7 +27,7 @@ use Rattle.cc_laws_heap.proofs.Face.{native-no_script}
 use Rattle.cc_script.specs.Objects.{Object, is_there, kind_at, name_at, object_at}
 use Rattle.cc_weakmaps.specs.Entries.{KeyedEntry, entry, has_value_in, is_entry_of, value_in, with_entry, without_entry}
 use Rattle.cc_marking.specs.Marking.{IsEntryThere, AreEntriesThere}
-use Rattle.cc_heaps.specs.Keyed.{Keyed, IsInOrder, the_name_at, named_entry, named_entries, named_object}
+use Rattle.cc_heaps.specs.Keyed.{Keyed, IsInOrder, name_held, the_name_at, named_entry, named_entries, named_object}
 use Rattle.cc_heaps.specs.Changes.{IsScriptThere, script_name}
 use Rattle.cc_heaps.proofs.Keys.{object-name}
 use Rattle.cc_heaps.proofs.Reaching.{HasOneName, key-named, name_at-found, object_at-found, same-tests, the_name-there}
@@ -52,14 +52,14 @@ module _ (objects : List Object) (one_name : HasOneName objects) where
     is_entry_of-named e t = λ i. same-key e.the_map m t.the_map m-there i && same-key e.key k t.key k-there i
 
     -- AN ENTRY IS SET,
-    pub with_entry-named : (v : ℕ) (es : List KeyedEntry) → AreEntriesThere objects es →
-        named_entries objects (with_entry es m k v) ≡ model.with_entry (named_entries objects es) x y (the_name_at objects v)
-    with_entry-named v [] t = refl
-    with_entry-named v (e ∷ es) t =
-        through-test (named_entries objects) (is_entry_of m k e) (entry m k v ∷ es) (e ∷ with_entry es m k v)
+    pub with_entry-named : (d : Option ℕ) (v : ℕ) (es : List KeyedEntry) → AreEntriesThere objects es →
+        named_entries objects (with_entry es m k d v) ≡ model.with_entry (named_entries objects es) x y (name_held objects d) (the_name_at objects v)
+    with_entry-named d v [] t = refl
+    with_entry-named d v (e ∷ es) t =
+        through-test (named_entries objects) (is_entry_of m k e) (entry m k d v ∷ es) (e ∷ with_entry es m k d v)
         ∙ (λ i. elim (sym (is_entry_of-named e (t e (inl refl))) i) [
-          | true ↦ model.entry x y (the_name_at objects v) ∷ named_entries objects es
-          | false ↦ named_entry objects e ∷ with_entry-named v es (λ f i. t f (inr i)) i
+          | true ↦ model.entry x y (name_held objects d) (the_name_at objects v) ∷ named_entries objects es
+          | false ↦ named_entry objects e ∷ with_entry-named d v es (λ f i. t f (inr i)) i
         ])
 
     -- OR TAKEN OUT,
@@ -83,14 +83,14 @@ module _ (objects : List Object) (one_name : HasOneName objects) where
 
 module _ (objects : List Object) (es : List KeyedEntry) (there : AreEntriesThere objects es) (m k : ℕ) where
   -- what entries name is there after one of what is there was set,
-  pub entries_there-set : (v : ℕ) → IsEntryThere objects (entry m k v) → AreEntriesThere objects (with_entry es m k v)
-  entries_there-set v new = each es there
+  pub entries_there-set : (d : Option ℕ) (v : ℕ) → IsEntryThere objects (entry m k d v) → AreEntriesThere objects (with_entry es m k d v)
+  entries_there-set d v new = each es there
     where
-      each : (fs : List KeyedEntry) → AreEntriesThere objects fs → AreEntriesThere objects (with_entry fs m k v)
-      each [] old = of-one (IsEntryThere objects) (entry m k v) new
-      each (f ∷ fs) old = of-test (AreEntriesThere objects) (is_entry_of m k f) (entry m k v ∷ fs) (f ∷ with_entry fs m k v)
+      each : (fs : List KeyedEntry) → AreEntriesThere objects fs → AreEntriesThere objects (with_entry fs m k d v)
+      each [] old = of-one (IsEntryThere objects) (entry m k d v) new
+      each (f ∷ fs) old = of-test (AreEntriesThere objects) (is_entry_of m k f) (entry m k d v ∷ fs) (f ∷ with_entry fs m k d v)
           (λ e. ⊎_elim (λ s. subst (IsEntryThere objects) s new) (λ r. old e (inr r)))
-          (λ e. ⊎_elim (λ s. old e (inl s)) (each fs (λ d j. old d (inr j)) e))
+          (λ e. ⊎_elim (λ s. old e (inl s)) (each fs (λ g j. old g (inr j)) e))
 
   -- and after one was taken out,
   pub entries_there-without : AreEntriesThere objects (without_entry es m k)
@@ -139,7 +139,7 @@ module _ (owned : List ℕ) (v : Keyed) (o : IsInOrder owned v) where
   -- The kind of what is there
 
   -- a script object is found by its name
-  script_at-named : (q : Object) → Among q v.scripts → script_at v.heap q.name ≡ Some (named_object v.scripts q)
+  pub script_at-named : (q : Object) → Among q v.scripts → script_at v.heap q.name ≡ Some (named_object v.scripts q)
   script_at-named q m = ap (find (λ (s : HeapScript). same_name s.name q.name)) o.named
       ∙ (find-map (λ (s : HeapScript). same_name s.name q.name) (named_object v.scripts) v.scripts
       ∙ ap (option_map (named_object v.scripts)) (find-only (λ (s : Object). same_name s.name q.name) v.scripts q (one_name-order q.name) m (same_name-refl q.name)))

@@ -108,35 +108,46 @@ script_slot-keeps {owned} h (name.Script k) i y at there black s = script_slot h
 script_slot-keeps {owned} h (name.Reflector k) i y at there black s = script_slot h (reflector k.0) i y
     (script_slot-sound owned h (Some (reflector k.0)) i y (of-one (λ w. Among w (script_names h)) (reflector k.0) at) there s).well_formed there black s
 
--- the command that makes a script object is in its ranges, and is taken
-pub made-ranges : (d : ℕ) (slots : Option ℕ) → d < bank_length → IfSome slots (λ n. n ≤ most_slots) → IsTrue (in_range (command_to_make d slots))
-made-ranges d slots room few = grind (arith, lt-ltb, le-leb)
+-- what a command makes that is in its ranges and is taken
+taken-follows : {owned : List ℕ} (h : Heap) (c : Command) → IsSound owned h → IsTrue (in_range c) → IsTaken (objects_of h) c → Follows h (effects h c).heap
+taken-follows h c s ranges taken = record {
+  colours = λ k. HasColourInvariant-from (effects h c).heap (effects-sound h c s ranges taken).well_formed
+      (effects-coloured h c s (AreColoured-from_view h s.well_formed k) ranges taken);
+  fresh = λ t f. effects-fresh h t c s f ranges taken;
+}
 
-made-taken : (h : Heap) (d : ℕ) (slots : Option ℕ) → h.scripts_made < h.limits.scripts → IsTaken (objects_of h) (command_to_make d slots)
-made-taken h d slots allowed = grind (arith, lt-leb)
+-- such commands make a plain object or a weak map
+pub plain-ranges : (d n : ℕ) → d < bank_length → n ≤ most_slots → IsTrue (in_range (Script d n))
+plain-ranges d n room few = grind (arith, lt-ltb, le-leb)
 
--- it makes it
-pub made-effects : (h : Heap) (d : ℕ) (slots : Option ℕ) → (effects h (command_to_make d slots)).heap ≡ make_object h d (kind_to_make slots) (slots_to_make slots)
+pub map-ranges : (d : ℕ) → d < bank_length → IsTrue (in_range (WeakMap d))
+map-ranges d room = grind (arith, lt-ltb)
+
+plain-taken : (h : Heap) (d n : ℕ) → h.scripts_made < h.limits.scripts → IsTaken (objects_of h) (Script d n)
+plain-taken h d n allowed = grind (arith, lt-leb)
+
+map-taken : (h : Heap) (d : ℕ) → h.scripts_made < h.limits.scripts → IsTaken (objects_of h) (WeakMap d)
+map-taken h d allowed = grind (arith, lt-leb)
+
+pub plain-effects : (h : Heap) (d n : ℕ) → (effects h (Script d n)).heap ≡ make_object h d kind.Plain n None
 unfolding effects
-made-effects h d slots = grind arith
+plain-effects h d n = refl
 
--- A script object is made.
-pub make_object-keeps : {owned : List ℕ} (h : Heap) (d : ℕ) (slots : Option ℕ) → d < bank_length → IfSome slots (λ n. n ≤ most_slots) → h.scripts_made < h.limits.scripts → IsSound owned h →
-    Keeps h (make_object h d (kind_to_make slots) (slots_to_make slots))
-make_object-keeps h d slots room few allowed s = record {
-  follows = subst (Follows h) (made-effects h d slots) (record {
-    colours = λ c. HasColourInvariant-from (effects h (command_to_make d slots)).heap (effects-sound h (command_to_make d slots) s ranges taken).well_formed
-        (effects-coloured h (command_to_make d slots) s (AreColoured-from_view h s.well_formed c) ranges taken);
-    fresh = λ t f. effects-fresh h t (command_to_make d slots) s f ranges taken;
-  });
-  suspected = λ candidates. object_made-suspected h candidates d (kind_to_make slots) (slots_to_make slots) s.well_formed;
+pub map-effects : (h : Heap) (d : ℕ) → (effects h (WeakMap d)).heap ≡ make_object h d kind.Map 0 None
+unfolding effects
+map-effects h d = refl
+
+-- A proxy is made of what is there and black.
+make_proxy-keeps : {owned : List ℕ} (h : Heap) (d : ℕ) (x : Option Name) → h.scripts_made < h.limits.scripts → IsIn (script_names h) x → IsHeldBlack h.scripts x → IsSound owned h →
+    Keeps h (make_proxy h d x)
+make_proxy-keeps {owned} h d x room there black s = record {
+  follows = Follows-from h (make_proxy h d x) s.well_formed after.well_formed (make_proxy-gentle owned h d x there (not_gray-held h x black) s)
+      (make_proxy-coloured h d x s there black);
+  suspected = Remembers-from h (make_proxy h d x) s.well_formed after.well_formed (still-loyal h (make_proxy h d x) s after (Still-make_proxy h d x));
 }
   where
-    ranges : IsTrue (in_range (command_to_make d slots))
-    ranges = made-ranges d slots room few
-
-    taken : IsTaken (objects_of h) (command_to_make d slots)
-    taken = made-taken h d slots allowed
+    after : IsSound owned (make_proxy h d x)
+    after = make_proxy-sound owned h d x there room s
 
 -- Natives
 
@@ -285,6 +296,31 @@ module _ (owned : List ℕ) (v : Keyed) (o : IsInOrder owned v) where
   -- what is held is black, where it is a script object
   pub held_name-black : (x : Option Held) → IsBlackHeld v x → IsHeldBlack v.heap.scripts (held_name v x)
   held_name-black x b = grind (arith, name_at-black, native-is_no_script, native-name_of, native-in, script-named)
+
+-- A script object is made, and a register holds it: the heaps afterwards
+abbrev pub made_by : Keyed → ℕ → ToMake → Heap
+made_by v d what = make_object (preserve v.heap (delegate_name v what)) d (kind_to_make what) (slots_to_make what) (delegate_name v what)
+
+-- of a proxy they are those of the definitions
+pub proxy-made : (v : Keyed) (d : ℕ) (k : SKey) → colour_at v.scripts k.0 ≡ Some Black → make_proxy v.heap d (name_at v.scripts k.0) ≡ made_by v d (Proxy k)
+proxy-made v d k black =
+    let f = option_map-found (λ (q : Object). q.colour) (object_at v.scripts k.0) Black black in
+    let n : name_at v.scripts k.0 ≡ Some f.0.name = ap (option_map (λ (q : Object). q.name)) f.1 in
+    ap (make_proxy v.heap d) n ∙ ap (λ x. make_object (preserve v.heap x) d kind.Proxy 0 x) (sym n)
+
+pub make_object-keeps : {owned : List ℕ} (v : Keyed) (o : IsInOrder owned v) (d : ℕ) (what : ToMake) → d < bank_length → MayBeMade v.scripts what → v.heap.scripts_made < v.heap.limits.scripts →
+    Keeps v.heap (made_by v d what)
+make_object-keeps v o d (Plain n) room few allowed = record {
+  follows = subst (Follows v.heap) (plain-effects v.heap d n) (taken-follows v.heap (Script d n) o.sound (plain-ranges d n room few) (plain-taken v.heap d n allowed));
+  suspected = λ candidates. object_made-suspected v.heap candidates d kind.Plain n None o.sound.well_formed;
+}
+make_object-keeps v o d Map room few allowed = record {
+  follows = subst (Follows v.heap) (map-effects v.heap d) (taken-follows v.heap (WeakMap d) o.sound (map-ranges d room) (map-taken v.heap d allowed));
+  suspected = λ candidates. object_made-suspected v.heap candidates d kind.Map 0 None o.sound.well_formed;
+}
+make_object-keeps {owned} v o d (Proxy k) room black allowed =
+    subst (Keeps v.heap) (proxy-made v d k black)
+    (make_proxy-keeps v.heap d (name_at v.scripts k.0) allowed (name_at-there owned v o k.0) (name_at-black owned v o k.0 black) o.sound)
 
 -- A slot of the script object at a key is written.
 pub object_slot-keeps : {owned : List ℕ} (v : Keyed) (o : IsInOrder owned v) (key i : ℕ) (x : Option SKey) → IsTrue (is_there v.scripts key) →

@@ -32,7 +32,7 @@ marked_objects p = marked_from (black_roots p) (gray_roots p) p.weak p.scripts
 
 module _ {owned : List ℕ} (p : Inside) (l : IsLinked p) (o : IsInOrder owned (keyed_of p)) where
   keeps : KeepsObjects (recoloured p)
-  keeps = record { key = λ q. refl; name = λ q. refl; kind = λ q. refl; native = λ q. refl }
+  keeps = record { key = λ q. refl; name = λ q. refl; kind = λ q. refl; native = λ q. refl; delegate = λ q. refl }
 
   same-colour : (q : Object) → Among q p.scripts → colour_by (blacks p) (marks p) q.key ≡ names.colour_by (black_names (heap_of p)) (marked_names (heap_of p)) q.name
   same-colour q m = λ i. colour_of (black-alike p l o q m i) (marked-alike p l o q m i)

@@ -1,6 +1,6 @@
 -- WHAT A SWEEP LEAVES OF THE SCRIPT OBJECTS, where the colours are those of marking: nothing that stays holds what goes,
 -- so what stays keeps its names.
-use Rattle.std.proofs.Common.{◌≡◌, ℕ, ◌==◌, Bool, true, false, not, List, map, Option, Some, refl, sym, ◌∙◌, ap, subst, arith}
+use Rattle.std.proofs.Common.{◌≡◌, ℕ, ◌==◌, Bool, true, false, not, List, map, Option, Some, None, refl, sym, ◌∙◌, ap, subst, arith}
 use Rattle.std.specs.List.{filter}
 use Rattle.std.specs.Option.{option_and_then}
 use Rattle.std.proofs.lemmas.Bool.{true≢false}
@@ -19,8 +19,10 @@ use Rattle.cc_model.specs.Slots.{contents}
 use Rattle.cc_model.specs.Heap.{HeapNative, HeapScript, is_white_colour}
 use Rattle.cc_model.specs.Colours.{IsMarked, HasColours}
 use Rattle.cc_model.specs.Sweep.{unmarked}
-use Rattle.cc_laws_heap.proofs.Face.{black-register, is_spared, marked-black, marked-native_slot, marked-not_unmarked, marked-other, marked-slot}
-use Rattle.cc_script.specs.Objects.{Object, name_at}
+use Rattle.cc_laws_heap.proofs.Face.{black-register, is_spared, marked-black, marked-native_slot, marked-not_unmarked, marked-other, marked-place}
+use Rattle.cc_model.specs.Places.{script_places_of}
+use Rattle.cc_script.specs.Objects.{Object, name_at, places_of}
+use Rattle.cc_script.proofs.PlacesOf.{slot-place, delegate-place}
 use Rattle.cc_script.proofs.Reaching.{among-held, held-among}
 use Rattle.cc_heaps.specs.Keyed.{IsInOrder, name_held, named_object, named_objects}
 use Rattle.cc_heaps.specs.Named.{own_name, named_native}
@@ -28,7 +30,7 @@ use Rattle.cc_heaps.specs.Fields.{heap_of, keyed_of, IsLinked}
 use Rattle.cc_heaps.specs.Sweeping.{is_white, not_white, white_names}
 use Rattle.cc_heaps.specs.declared.heaps.Heaps.TheInside.{Inside}
 use Rattle.cc_heaps.proofs.ObjectsKept.{AreObjects, there-kept, there-named}
-use Rattle.cc_heaps.proofs.Reaching.{HasOneKey, same-tests, name_at-own, name_at-found}
+use Rattle.cc_heaps.proofs.Reaching.{HasOneKey, named-places, same-tests, name_at-own, name_at-found}
 use Rattle.cc_heaps.proofs.RootNames.{register-names, key-register, script-named}
 
 -- whether an object stays
@@ -104,12 +106,13 @@ module _ {owned : List ℕ} (p : Inside) (l : IsLinked p) (o : IsInOrder owned (
       name-left key f.0 f.1 (marked-native_slot (heap_of p) (named_native p.scripts n) f.0 (Among-map (named_native p.scripts) n p.counted.natives m)
       (named-slot p n key f.0 i f.1) (script-named p l key f.0 f.1))
 
-  -- and each that is in a slot of an object that stays
-  slot-left : (q : Object) (k : ℕ) → Among q p.scripts → stays q ≡ true → Among (Some k) q.slots → name_at (left_objects p) k ≡ name_at p.scripts k
-  slot-left q k m s i =
+  -- and each that is in a place of an object that stays
+  place-left : (q : Object) (k : ℕ) → Among q p.scripts → stays q ≡ true → Among (Some k) (places_of q) → name_at (left_objects p) k ≡ name_at p.scripts k
+  place-left q k m s i =
       let f = there-named p.scripts k (o.whole q k m i) in
-      name-left k f.0 f.1 (marked-slot (heap_of p) (named_object p.scripts q) f.0 (Among-map (named_object p.scripts) q p.scripts m)
-      (among-held (map (name_held p.scripts) q.slots) f.0 (subst (λ y. Among y (map (name_held p.scripts) q.slots)) f.1 (Among-map (name_held p.scripts) (Some k) q.slots i)))
+      name-left k f.0 f.1 (marked-place (heap_of p) (named_object p.scripts q) f.0 (Among-map (named_object p.scripts) q p.scripts m)
+      (among-held (script_places_of (named_object p.scripts q)) f.0 (subst (Among (Some f.0)) (sym (named-places p.scripts q))
+      (subst (λ y. Among y (map (name_held p.scripts) (places_of q))) f.1 (Among-map (name_held p.scripts) (Some k) (places_of q) i))))
       (stays-marked q m s))
 
   pub objects-left : AreObjects (left_objects p)
@@ -119,13 +122,26 @@ module _ {owned : List ℕ} (p : Inside) (l : IsLinked p) (o : IsInOrder owned (
     script_names = λ q m. l.script_names q (Among-filtered stays q p.scripts m);
     whole = λ q k m i.
         let before : Among q p.scripts = Among-filtered stays q p.scripts m in
-        there-kept p.scripts (left_objects p) k (slot-left q k before (Among-passes stays q p.scripts m) i) (o.whole q k before i);
+        there-kept p.scripts (left_objects p) k (place-left q k before (Among-passes stays q p.scripts m) i) (o.whole q k before i);
   }
 
   -- By names
 
   named-left : (q : Object) → Among q (left_objects p) → named_object (left_objects p) q ≡ named_object p.scripts q
-  named-left q m = grind (arith, map-held, slot-left, Among-filtered, Among-passes)
+  named-left q m = λ i. record (named_object p.scripts q) {
+    slots = map-held (name_held (left_objects p)) (name_held p.scripts) q.slots refl (λ k s. place-left q k before passes (slot-place q k s)) i;
+    delegate = held q.delegate (λ k e. place-left q k before passes (delegate-place q k e)) i;
+  }
+    where
+      before : Among q p.scripts
+      before = Among-filtered stays q p.scripts m
+
+      passes : stays q ≡ true
+      passes = Among-passes stays q p.scripts m
+
+      held : (d : Option ℕ) → ((k : ℕ) → d ≡ Some k → name_at (left_objects p) k ≡ name_at p.scripts k) → name_held (left_objects p) d ≡ name_held p.scripts d
+      held None t = refl
+      held (Some k) t = t k refl
 
   pub spared-stays : (q : Object) → Among q p.scripts → is_spared (unmarked (heap_of p)) (named_object p.scripts q) ≡ stays q
   spared-stays q m = grind (arith, same-tests, there-white, has-among, same_name-exact, has-there, white-there)

@@ -19,7 +19,7 @@ use Rattle.cc_lists.proofs.Members.{Among-map}
 use Rattle.cc_lists.proofs.Places.{among-get}
 use Rattle.cc_lists.proofs.Searching.{find-map, find-only}
 use Rattle.cc_names.specs.declared.kind.Kind.{Kind}
-use Rattle.cc_names.specs.declared.kind.Kind.TheVariants.{Plain, Reflector, Map}
+use Rattle.cc_names.specs.declared.kind.Kind.TheVariants.{Plain, Reflector, Map, Proxy}
 use Rattle.cc_names.specs.declared.name.Name.{Name}
 use Rattle.cc_names.specs.declared.name.Name.TheVariants as name
 use Rattle.cc_names.specs.declared.number.NKey.{NKey}
@@ -39,6 +39,7 @@ use Rattle.cc_counted.specs.Counts as counts
 use Rattle.cc_script.specs.Objects.{Object, object_at, is_there}
 use Rattle.cc_script.specs.Objects as objects
 use Rattle.cc_script.proofs.Reaching.{among-held}
+use Rattle.cc_script.proofs.PlacesOf.{slot-place, delegate-place}
 use Rattle.cc_heaps.specs.declared.heaps.Heaps.TheInside.{Inside}
 use Rattle.cc_heaps.specs.Keyed.{Keyed, IsInOrder, name_held, named_object, number_at}
 use Rattle.cc_heaps.specs.Changes.{IsThere, held_name}
@@ -154,15 +155,35 @@ module _ (p : Inside) (owned : List ℕ) (l : IsLinked p) (o : IsInOrder owned (
     slots-are : own_slots ≡ q.slots
     slots-are = ap objects.slots_or_none object-found.1
 
-    -- its places: its slots by names, and what stands behind the last
-    script_places : places_at v (held.Script key) ≡ map (name_held p.scripts) own_slots ++ native_of (Some q.name) ∷ []
-    script_places = script_places-are ∙ ap (λ ss. map (name_held p.scripts) ss ++ native_of (Some q.name) ∷ []) (sym slots-are)
+    abbrev own_delegate : Option ℕ
+    own_delegate = objects.delegate_at p.scripts key.0
 
-    pub script_places-length : length (places_at v (held.Script key)) ≡ length own_slots + 1
-    script_places-length =
-        ap length script_places
-        ∙ (length-append (map (name_held p.scripts) own_slots) (native_of (Some q.name) ∷ [])
-        ∙ ap (λ i. i + 1) (length-map own_slots (name_held p.scripts)))
+    delegate-are : own_delegate ≡ q.delegate
+    delegate-are = ap (option_and_then (λ (s : Object). s.delegate)) object-found.1
+
+    -- its slots by names,
+    abbrev named_slots : Slots
+    named_slots = map (name_held p.scripts) own_slots
+
+    -- with its delegate behind them,
+    abbrev with_delegate : Slots
+    with_delegate = named_slots ++ name_held p.scripts own_delegate ∷ []
+
+    -- and what stands behind that are its places
+    script_places : places_at v (held.Script key) ≡ with_delegate ++ native_of (Some q.name) ∷ []
+    script_places = script_places-are
+        ∙ (λ i. (map (name_held p.scripts) (sym slots-are i) ++ name_held p.scripts (sym delegate-are i) ∷ []) ++ native_of (Some q.name) ∷ [])
+
+    length-delegate : length with_delegate ≡ length own_slots + 1
+    length-delegate = length-append named_slots (name_held p.scripts own_delegate ∷ []) ∙ ap (λ i. i + 1) (length-map own_slots (name_held p.scripts))
+
+    pub script_places-length : length (places_at v (held.Script key)) ≡ length own_slots + 2
+    script_places-length = omega (
+      arith,
+      ap length script_places,
+      length-append with_delegate (native_of (Some q.name) ∷ []),
+      length-delegate,
+    )
 
     pub script_slots-few : length own_slots ≤ most_slots
     script_slots-few = omega (
@@ -176,32 +197,67 @@ module _ (p : Inside) (owned : List ℕ) (l : IsLinked p) (o : IsInOrder owned (
         fit (name.Native j) kind slots f = absurd f
         fit (name.Script j) Plain slots f = f
         fit (name.Script j) Map slots f = subst (λ ss. length ss ≤ most_slots) (sym f) (omega arith)
+        fit (name.Script j) Proxy slots f = subst (λ ss. length ss ≤ most_slots) (sym f) (omega arith)
         fit (name.Script j) Reflector slots f = absurd f
         fit (name.Reflector j) Reflector slots f = omega (arith, f)
         fit (name.Reflector j) Plain slots f = absurd f
         fit (name.Reflector j) Map slots f = absurd f
+        fit (name.Reflector j) Proxy slots f = absurd f
+
+    -- a script object that may be there has its name,
+    held-is_named : (x : Option SKey) → held_name v (option_map held.Script x) ≡ name_held p.scripts (option_map (λ (r : SKey). r.0) x)
+    held-is_named None = refl
+    held-is_named (Some r) = refl
+
+    -- and is there, where it stands in a place
+    held-is_there : (x : Option SKey) → Among (option_map (λ (r : SKey). r.0) x) (objects.places_of q) → IsThere v (option_map held.Script x)
+    held-is_there None m = tt
+    held-is_there (Some r) m = o.whole q r.0 q-there m
+
+    -- what stands before the last place
+    before-last : (i : ℕ) → i < length own_slots + 1 → get_or with_delegate i None ≡ get_or (places_at v (held.Script key)) i None
+    before-last i within =
+        sym (get_or_append_left with_delegate (native_of (Some q.name) ∷ []) None i (subst (λ j. i < j) (sym length-delegate) within))
+        ∙ ap (λ ss. get_or ss i None) (sym script_places)
 
     -- WHAT A SLOT HOLDS has the name that stands at its place,
     pub slot-named : (i : ℕ) (x : Option SKey) → i < length own_slots → option_map (λ (r : SKey). r.0) x ≡ get_or own_slots i None →
-        name_held p.scripts (option_map (λ (r : SKey). r.0) x) ≡ get_or (places_at v (held.Script key)) i None
+        held_name v (option_map held.Script x) ≡ get_or (places_at v (held.Script key)) i None
     slot-named i x within e =
-        ap (name_held p.scripts) e
+        held-is_named x
+        ∙ (ap (name_held p.scripts) e
         ∙ (sym (get_or-map (name_held p.scripts) own_slots i None)
-        ∙ (sym (get_or_append_left (map (name_held p.scripts) own_slots) (native_of (Some q.name) ∷ []) None i (subst (λ j. i < j) (sym (length-map own_slots (name_held p.scripts))) within))
-        ∙ ap (λ ss. get_or ss i None) (sym script_places)))
+        ∙ (sym (get_or_append_left named_slots (name_held p.scripts own_delegate ∷ []) None i (subst (λ j. i < j) (sym (length-map own_slots (name_held p.scripts))) within))
+        ∙ before-last i (omega (arith, within)))))
 
     -- and is there.
-    pub slot-there : (i : ℕ) (x : SKey) → Some x.0 ≡ get_or own_slots i None → IsTrue (is_there p.scripts x.0)
-    slot-there i x e = o.whole q x.0 q-there (subst (Among (Some x.0)) slots-are (among-get own_slots i x.0 (sym e)))
+    pub slot-there : (i : ℕ) (x : Option SKey) → option_map (λ (r : SKey). r.0) x ≡ get_or own_slots i None → IsThere v (option_map held.Script x)
+    slot-there i None e = tt
+    slot-there i (Some r) e = held-is_there (Some r) (slot-place q r.0 (subst (Among (Some r.0)) slots-are (among-get own_slots i r.0 (sym e))))
 
-    -- BEHIND THE LAST SLOT stands the native of a reflector, and nothing of another object.
+    -- BEHIND THE LAST SLOT stands the delegate of a proxy, and nothing of another object,
+    pub delegate-named : (x : Option SKey) → option_map (λ (r : SKey). r.0) x ≡ own_delegate →
+        (held_name v (option_map held.Script x) ≡ get_or (places_at v (held.Script key)) (length own_slots) None) × IsThere v (option_map held.Script x)
+    delegate-named x e = (
+      held-is_named x
+          ∙ (ap (name_held p.scripts) e
+          ∙ (sym (get_or_push named_slots (name_held p.scripts own_delegate) None (length own_slots) (length-map own_slots (name_held p.scripts)))
+          ∙ before-last (length own_slots) (omega arith))),
+      there x e,
+    )
+      where
+        there : (y : Option SKey) → option_map (λ (r : SKey). r.0) y ≡ own_delegate → IsThere v (option_map held.Script y)
+        there None d = tt
+        there (Some r) d = held-is_there (Some r) (delegate-place q r.0 (sym (d ∙ delegate-are)))
+
+    -- and behind that the native of a reflector.
     pub native-named : (r : Option NKey) → option_map (λ (j : NKey). j.0) r ≡ objects.native_at p.scripts key.0 →
-        (held_name v (held_of_native r) ≡ get_or (places_at v (held.Script key)) (length own_slots) None) × IsThere v (held_of_native r)
+        (held_name v (held_of_native r) ≡ get_or (places_at v (held.Script key)) (length own_slots + 1) None) × IsThere v (held_of_native r)
     native-named r e =
         let f = Reflects-cases v Read plain own q.name q.native (o.reflecting q q-there) r (e ∙ ap (option_and_then (λ (s : Object). s.native)) object-found.1) in (
           f.0
-              ∙ (sym (get_or_push (map (name_held p.scripts) own_slots) (native_of (Some q.name)) None (length own_slots) (length-map own_slots (name_held p.scripts)))
-              ∙ ap (λ ss. get_or ss (length own_slots) None) (sym script_places)),
+              ∙ (sym (get_or_push with_delegate (native_of (Some q.name)) None (length own_slots + 1) length-delegate)
+              ∙ ap (λ ss. get_or ss (length own_slots + 1) None) (sym script_places)),
           f.1,
         )
       where

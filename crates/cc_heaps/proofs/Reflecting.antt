@@ -1,7 +1,7 @@
 -- THE REFLECTOR OF A REACHED NATIVE, as far as it is in the heaps: they follow the graph over what is reached and the
 -- reflector. Preserved it is reached, and else it is blank.
 use Rattle.cc_lists.proofs.Held.{option_and_then-found}
-use Rattle.cc_laws_heap.proofs.Face.{Follows, Follows-made, IsIn, IsMade, Made, MadeScript, OfSome, contents-empty_none, further_of, option_map-found, stands-follows}
+use Rattle.cc_laws_heap.proofs.Face.{Follows, Follows-made, IsIn, IsMade, IsOfNone, delegate_in-shape, shape_in-reflector, Made, MadeScript, OfSome, contents-empty_none, further_of, option_map-found, stands-follows}
 use Rattle.std.proofs.Common.{arith, ◌≡◌, ℕ, true, false, [], ◌∷◌, Option, Some, None, refl, sym, ◌∙◌, ap, subst, inl, inr, ◌⊎◌, ⊎_elim, is_some}
 use Rattle.std.proofs.lemmas.Bool.{cases_Bool}
 use Rattle.cc_lists.specs.Members.{Among}
@@ -41,7 +41,7 @@ held-made h g (Some x) w s there = there-made h g x w s (there x (inl refl))
 
 -- the shape of a blank reflector
 abbrev blank_shape : Shape
-blank_shape = script_shape (Some (empty_slots reflector_slots))
+blank_shape = script_shape (Some (empty_slots reflector_slots)) None
 
 module _ (h : Heap) (g : Graph) (k : ℕ) (w : IsWellFormed h) (m : IsWellMade g) (s : StandsFor h g) (there : Among (reflector k) (script_names h)) (d : Reached g (native k)) where
   -- the heaps follow the graph over what is reached
@@ -70,11 +70,19 @@ module _ (h : Heap) (g : Graph) (k : ℕ) (w : IsWellFormed h) (m : IsWellMade g
       slots_of None = []
       slots_of (Some l) = l
 
-  -- one that is not preserved is blank, and no entry has it for a key
-  blank : kept.shape.preserved ≡ false → (shape_in g (reflector k) ≡ Some blank_shape) × ((e : Entry) → Among e g.entries → ¬ (e.key ≡ reflector k))
+  -- one that is not preserved is blank, and no entry has it for a key, and no proxy for a delegate
+  blank : kept.shape.preserved ≡ false → (shape_in g (reflector k) ≡ Some blank_shape) × ((e : Entry) → Among e g.entries → ¬ (e.key ≡ reflector k)) × IsOfNone g (reflector k)
   blank p =
       let b = follows.blank k kept.shape (shape_of_held_script own.0) kept.made p own-made in
-      (own-made ∙ ap (λ l. Some (script_shape l)) b.0, b.1)
+      let f = shape_in-reflector g k (shape_of_held_script own.0) own-made in
+      let its : Some f.1 ≡ (shape_of_held_script own.0).slots = ap (λ (s : Shape). s.slots) f.4 in
+      (own-made ∙ (ap (λ (s : Shape). Some s) (sym f.4) ∙ ap (λ l. Some (script_shape l None)) (its ∙ b.0)), b.1, b.2)
+
+  -- so it is the delegate of no entry
+  not_delegate : kept.shape.preserved ≡ false → (e : Entry) → Among e g.entries → ¬ (e.delegate ≡ Some (reflector k))
+  not_delegate p e i q =
+      let f = option_and_then-found (λ (s : Shape). s.delegate) (shape_in g e.key) (reflector k) (sym (delegate_in-shape g e.key) ∙ (sym (m.entries e i).delegate ∙ q)) in
+      (blank p).2 e.key f.0 f.1 f.2
 
   -- so it is as if it were made alike in both
   as_made : kept.shape.preserved ≡ false → IsMade (Reached g) h h g g (reflector k) blank_shape
@@ -88,8 +96,10 @@ module _ (h : Heap) (g : Graph) (k : ℕ) (w : IsWellFormed h) (m : IsWellMade g
         (λ a. absurd (contents-empty_none reflector_slots y a))
         (λ r. ⊎_elim (λ q. subst (Reached g) q d) (λ q. absurd q) r)
         (Among-append y (contents (empty_slots reflector_slots)) (native k ∷ []) i);
-    no_entry = λ e i. (λ q. apart (sym (m.entries e i).the_map.1 ∙ q), (blank p).1 e i);
+    no_entry = λ e i. (λ q. apart (sym (m.entries e i).the_map.1 ∙ q), (blank p).1 e i, not_delegate p e i);
+    no_delegate = (blank p).2;
     blank = λ j e. refl;
+    delegate = λ j a e q. absurd (cc);
     beside = follows.beside;
     heap_entries = refl;
     graph_entries = refl;

@@ -54,11 +54,15 @@ module _ {owned : List ℕ} (p : Inside) (l : IsLinked p) (o : IsInOrder owned (
   abbrev pub objects : List Object
   objects = p.scripts ++ new ∷ []
 
-  named : named_objects objects ≡ (with_script v.heap (reflector k) Reflector reflector_slots).scripts
-  named = named-made p.scripts l.one_key o.whole new reflector_slots refl vacant
+  -- it has no delegate
+  none : (q : ℕ) → new.delegate ≡ Some q → IsTrue (is_there p.scripts q)
+  none q e = absurd (cc)
+
+  named : named_objects objects ≡ (with_script v.heap (reflector k) Reflector reflector_slots None).scripts
+  named = named-made p.scripts l.one_key o.whole new reflector_slots refl none vacant
 
   pub name_at-reflector : name_at objects at ≡ Some (reflector k)
-  name_at-reflector = name_at-made p.scripts l.one_key o.whole new reflector_slots refl vacant
+  name_at-reflector = name_at-made p.scripts l.one_key o.whole new reflector_slots refl none vacant
 
   -- the heaps by names
   abbrev pub made : Heap
@@ -81,7 +85,7 @@ module _ {owned : List ℕ} (p : Inside) (l : IsLinked p) (o : IsInOrder owned (
 
   -- another has what it had
   key_of-other : (j : ℕ) → j ≢ k → key_of objects (reflector j) ≡ key_of p.scripts (reflector j)
-  key_of-other j other = key_of-made p.scripts l.one_key o.whole new reflector_slots refl vacant (reflector j) (ne_eqb k j (λ e. other (sym e)))
+  key_of-other j other = key_of-made p.scripts l.one_key o.whole new reflector_slots refl none vacant (reflector j) (ne_eqb k j (λ e. other (sym e)))
 
   abbrev with_own : List (Option ℕ)
   with_own = set p.counted.reflectors key.0 (Some at)
@@ -92,7 +96,7 @@ module _ {owned : List ℕ} (p : Inside) (l : IsLinked p) (o : IsInOrder owned (
   -- The parts
 
   kept : KeepsNames p.scripts objects
-  kept = KeepsNames-made p.scripts l.one_key o.whole new reflector_slots refl vacant
+  kept = KeepsNames-made p.scripts l.one_key o.whole new reflector_slots refl none vacant
 
   -- before the reference is taken
   abbrev pub reflected : Inside
@@ -100,7 +104,7 @@ module _ {owned : List ℕ} (p : Inside) (l : IsLinked p) (o : IsInOrder owned (
 
   linked : IsLinked reflected
   linked = linked-reflected p objects p.scripts_made kept l made (sym named) sound.well_formed
-      (one_key-made p.scripts l.one_key o.whole new reflector_slots refl vacant) with_own with_own-is
+      (one_key-made p.scripts l.one_key o.whole new reflector_slots refl none vacant) with_own with_own-is
 
   module _ (next : Counts) (is : next ≡ with_heap reflected.counted (add_ref (counts.heap_of reflected.counted) k)) where
     -- and after
@@ -133,8 +137,8 @@ module _ {owned : List ℕ} (p : Inside) (l : IsLinked p) (o : IsInOrder owned (
           (HasKeys-numbers (counts_in v.heap p.counted.keys) made.natives made.buffer []
           (numbers-changed v.heap k (λ n. record n { count = n.count + 1 }) (λ n. refl)) (HasKeys-names v o.keyed));
       named = sym named;
-      one_key = one_key-made p.scripts l.one_key o.whole new reflector_slots refl vacant;
-      whole = whole-made p.scripts l.one_key o.whole new reflector_slots refl vacant;
+      one_key = one_key-made p.scripts l.one_key o.whole new reflector_slots refl none vacant;
+      whole = whole-made p.scripts l.one_key o.whole new reflector_slots refl none vacant;
       reflecting = each-push (λ (q : Object). Reflects (record v { heap = made; scripts = objects }) q.name q.native) p.scripts new
           (λ q m. Reflects-kept v (record v { heap = made; scripts = objects }) q.name q.native (λ r j is e. e) (o.reflecting q m)) numbered;
       limits = o.limits;

@@ -6,20 +6,21 @@ use Rattle.std.specs.List.{flat_map}
 use Rattle.std.specs.Option.{option_to_list}
 use Rattle.cc_lists.specs.Members.{Among, has}
 use Rattle.cc_lists.proofs.Members.{Among-map, Among-map_cases, Among-left, Among-right, Among-append, Among-filter, Among-filtered, Among-passes, Among-flat_map, Among-flat_map_cases, has-among, has-there}
-use Rattle.cc_lists.proofs.Least.{derived-within}
 use Rattle.cc_lists.proofs.Closure.{closure-derived}
 use Rattle.cc_names.specs.declared.name.Name.{Name}
 use Rattle.cc_names.specs.declared.number.SKey.{SKey}
 use Rattle.cc_names.specs.Names.{object, same_name, is_script}
 use Rattle.cc_names.proofs.NameTests.{same_name-exact}
 use Rattle.cc_model.specs.Slots.{contents, from_to}
-use Rattle.cc_model.specs.Entries.{joint, joints}
+use Rattle.cc_model.specs.Entries.{Entry, Joint, joints}
+use Rattle.cc_model.proofs.Joints.{Gives, its_value, its_key, derived-by_joints, joint-cases}
+use Rattle.cc_model.proofs.Places.{script_place-cases}
 use Rattle.cc_model.specs.Heap.{HeapNative}
-use Rattle.cc_model.specs.Places.{places_of_native}
+use Rattle.cc_model.specs.Places.{places_of_native, script_places_of}
 use Rattle.cc_model.specs.View.{script_slot_edges}
 use Rattle.cc_model.specs.Exposure.{slots_of_scripts}
 use Rattle.cc_model.specs.Colours.{black_rules, black_names, scripts_held_by, scripts_held, marked_names}
-use Rattle.cc_model.specs.WellFormed.{IsWellFormed, script_names}
+use Rattle.cc_model.specs.WellFormed.{HasMembers, IsWellFormed, script_names}
 use Rattle.cc_lists.proofs.Numbers.{number-exact}
 use Rattle.cc_counted.specs.Counts.{Counts}
 use Rattle.cc_counted.specs.Owning.{HasKeys}
@@ -137,17 +138,20 @@ module _ {owned : List ℕ} (p : Inside) (l : IsLinked p) (o : IsInOrder owned (
   black-there x m =
       let w : IsWellFormed (heap_of p) = o.sound.well_formed in
       let there : Among x (script_names (heap_of p)) =
-      derived-within (contents (heap_of p).script_registers) (slots_of_scripts (heap_of p)) (joints (heap_of p).entries) (λ y. Among y (script_names (heap_of p)))
+      derived-by_joints (contents (heap_of p).script_registers) (slots_of_scripts (heap_of p)) (joints (heap_of p).entries) (λ y. Among y (script_names (heap_of p)))
       w.script_registers
       (λ y z i before.
       let f = Among-flat_map_cases script_slot_edges (heap_of p).scripts (y, z) i in
-      let g = Among-map_cases (from_to f.0.name) (contents f.0.slots) (y, z) f.2 in
-      w.script_contents f.0 z f.1 (subst (λ u. Among u (contents f.0.slots)) (ap (λ (e : Name × Name). e.1) g.2) g.1))
-      (λ xs v i before.
-      let f = Among-map_cases joint (heap_of p).entries (xs, v) i in
-      subst (λ (r : List Name × Name). Among r.1 (script_names (heap_of p))) f.2 (w.entries f.0 f.1).value) x
+      let g = Among-map_cases (from_to f.0.name) (contents (script_places_of f.0)) (y, z) f.2 in
+      ⊎_elim (w.script_contents f.0 z f.1) (w.delegate_there f.0 z f.1)
+      (script_place-cases f.0 z (subst (λ u. Among u (contents (script_places_of f.0))) (ap (λ (e : Name × Name). e.1) g.2) g.1)))
+      (λ j i a b. let f = joint-cases (heap_of p).entries j i in given (w.entries f.0 f.1) j f.2) x
       (closure-derived same_name same_name-exact (black_rules (heap_of p)) x m) in
       named-object (heap_of p) p.scripts refl x there
+    where
+      given : {e : Entry} → HasMembers (heap_of p) e → (j : Joint) → Gives e j → Among j.value (script_names (heap_of p))
+      given m _ its_value = m.value
+      given m _ (its_key d q) = m.key
 
   -- an object is black by its key where it is black by its name
   pub black-alike : (q : Object) → Among q p.scripts → has ◌==◌ (black_keys p.scripts p.weak (black_roots p)) q.key ≡ has same_name (black_names (heap_of p)) q.name

@@ -1,11 +1,11 @@
 -- WHAT CALLS DO TO SCRIPT OBJECTS AND SCRIPT REGISTERS: an exposure, a slot written, a register written, an object made.
 use Rattle.cc_heaps.proofs.ObjectsKept.{there-named}
 use Rattle.cc_script.proofs.InOrder.{object_at-left}
-use Rattle.cc_laws_heap.proofs.Face.{IsNewScript-object, blank, exposed-sound, option_map-found, script_register-sound, script_slot-sound, with_script-sound}
+use Rattle.cc_laws_heap.proofs.Face.{IsDelegate, IsNewScript-object, blank, exposed-sound, no_delegate, option_map-found, script_register-sound, script_slot-sound, with_script-sound}
 use Rattle.cc_lists.proofs.Held.{is_some-none, once-push, map-replicate, map-held}
 use Rattle.std.proofs.Common.{arith, ◌≡◌, ℕ, ◌+◌, ◌<◌, ◌≤◌, false, List, [], ◌∷◌, ◌++◌, map, replicate, Option, Some, None, option_map, refl, sym, ◌∙◌, ap, subst, ⊎_elim, ◌==◌}
 use Rattle.std.specs.Prelude.{IfSome, IsTrue, slice_set}
-use Rattle.std.specs.Option.{option_and_then, option_or}
+use Rattle.std.specs.Option.{is_some, option_and_then, option_or}
 use Rattle.std.specs.List.{find}
 use Rattle.std.specs.Vec.{with_item}
 use Rattle.std.proofs.Math.Path.{fun_ext}
@@ -27,11 +27,15 @@ use Rattle.cc_model.specs.Effects.{with_object}
 use Rattle.cc_model.specs.Exposure.{exposed}
 use Rattle.cc_model.specs.WellFormed.{FitsName}
 use Rattle.cc_laws_heap.specs.Sound.{IsSound}
-use Rattle.cc_script.specs.Objects.{Object, AreWhole, change_object, is_there, name_at, object_at, raised_among, with_slot}
+use Rattle.cc_script.specs.Objects.{Object, AreWhole, change_object, colour_at, is_there, name_at, object_at, raised_among, with_slot}
 use Rattle.cc_script.proofs.Wholeness as scripts
 use Rattle.cc_script.specs.Walking.{keys_reached}
 use Rattle.cc_heaps.specs.Keyed.{Keyed, IsInOrder, Reflects, key_of, name_held, named_object, named_objects, reflectors_by}
-use Rattle.cc_heaps.specs.Making.{kind_to_make, object_to_make, slots_to_make}
+use Rattle.cc_heaps.specs.Making.{IsDelegateThere, MayBeMade, delegate_name, delegate_to_make, kind_to_make, object_to_make, slots_to_make}
+use Rattle.cc_heaps.specs.declared.heaps.to_make.ToMake.{ToMake}
+use Rattle.cc_heaps.specs.declared.heaps.to_make.ToMake.TheVariants.{Plain, Map, Proxy}
+use Rattle.cc_names.specs.declared.kind.Kind.TheVariants as kinds
+use Rattle.cc_script.proofs.PlacesOf.{slot-place, delegate-place}
 use Rattle.cc_heaps.specs.Changes.{IsScriptThere, KeepsKeys, script_name}
 use Rattle.cc_heaps.specs.Named.{script_named, IsScriptLive}
 use Rattle.cc_heaps.specs.Fields.{heap_of, keyed_of, IsLinked}
@@ -174,9 +178,9 @@ module _ {owned : List ℕ} (p : Inside) (l : IsLinked p) (o : IsInOrder owned (
 
 -- An object made
 
--- a new one at a key that held nothing, whose slots are empty
+-- a new one at a key that held nothing, whose slots are empty, and whose delegate is there
 module _ (objects : List Object) (one : HasOneKey objects) (whole : AreWhole objects) (new : Object) (n : ℕ) (empty : new.slots ≡ replicate n None)
-    (vacant : is_there objects new.key ≡ false) where
+    (held : (q : ℕ) → new.delegate ≡ Some q → IsTrue (is_there objects q)) (vacant : is_there objects new.key ≡ false) where
   -- with one more
   abbrev pub made_last : List Object
   made_last = objects ++ new ∷ []
@@ -196,61 +200,123 @@ module _ (objects : List Object) (one : HasOneKey objects) (whole : AreWhole obj
       (λ e. subst (λ j. object_at objects j ≡ None) (eqb-true new.key k e) (is_some-none (object_at objects new.key) vacant))
 
   pub whole-made : AreWhole made_last
-  whole-made = scripts.whole-made objects new n empty whole
+  whole-made = scripts.whole-made objects new n empty held whole
 
   -- by names it goes last too
-  pub named-made : named_objects made_last ≡ named_objects objects ++ record { name = new.name; kind = new.kind; slots = empty_slots n; colour = new.colour } ∷ []
+  pub named-made : named_objects made_last ≡ named_objects objects ++ record { name = new.name; kind = new.kind; slots = empty_slots n; delegate = name_held objects new.delegate; colour = new.colour } ∷ []
   named-made = map_push (named_object made_last) objects new
       ∙ (λ i. map-agree (named_object made_last) (named_object objects) objects same i
-      ++ record { name = new.name; kind = new.kind; slots = (ap (map (name_held made_last)) empty ∙ map-replicate (name_held made_last) n None) i; colour = new.colour } ∷ [])
+      ++ record { name = new.name; kind = new.kind; slots = (ap (map (name_held made_last)) empty ∙ map-replicate (name_held made_last) n None) i; delegate = kept new.delegate held i; colour = new.colour } ∷ [])
     where
       same : (o : Object) → Among o objects → named_object made_last o ≡ named_object objects o
-      same o m = ap (λ slots. record (named_object objects o) { slots = slots })
-          (map-held (name_held made_last) (name_held objects) o.slots refl (λ q i. KeepsNames-same objects made_last KeepsNames-made q (whole o q m i)))
+      same o m = λ i. record (named_object objects o) {
+        slots = map-held (name_held made_last) (name_held objects) o.slots refl (λ q s. KeepsNames-same objects made_last KeepsNames-made q (whole o q m (slot-place o q s))) i;
+        delegate = kept o.delegate (λ q e. whole o q m (delegate-place o q e)) i;
+      }
+
+      kept : (d : Option ℕ) → ((q : ℕ) → d ≡ Some q → IsTrue (is_there objects q)) → name_held made_last d ≡ name_held objects d
+      kept None t = refl
+      kept (Some q) t = KeepsNames-same objects made_last KeepsNames-made q (t q refl)
 
   -- names other than its own have the keys that they had
   pub key_of-made : (x : Name) → same_name new.name x ≡ false → key_of made_last x ≡ key_of objects x
   key_of-made x other = grind (arith, find-append)
 
--- what is made fits its name, where it has no more slots than are allowed
-made-fits : (number : ℕ) (slots : Option ℕ) → IfSome slots (λ n. n ≤ most_slots) → FitsName (object number) (kind_to_make slots) (empty_slots (slots_to_make slots))
-made-fits number slots few = grind (arith, length-replicate)
+-- what is made fits its name, where it may be made
+made-fits : (objects : List Object) (number : ℕ) (what : ToMake) → MayBeMade objects what → FitsName (object number) (kind_to_make what) (empty_slots (slots_to_make what))
+made-fits objects number (Plain n) few = subst (λ k. k ≤ most_slots) (sym (length-replicate n None)) few
+made-fits objects number Map few = refl
+made-fits objects number (Proxy d) few = refl
 
--- AN OBJECT MADE: a plain one or a weak map
-module _ {owned : List ℕ} (p : Inside) (l : IsLinked p) (o : IsInOrder owned (keyed_of p)) (key : ℕ) (slots : Option ℕ) (vacant : is_there p.scripts key ≡ false) where
+-- a black object is there
+pub black-there : (objects : List Object) (key : ℕ) → colour_at objects key ≡ Some Black → IsTrue (is_there objects key)
+black-there objects key e = ap is_some (option_map-found (λ (o : Object). o.colour) (object_at objects key) Black e).1
+
+-- so is the delegate of what may be made
+pub delegate-there : (objects : List Object) (what : ToMake) → MayBeMade objects what → (q : ℕ) → delegate_to_make what ≡ Some q → IsTrue (is_there objects q)
+delegate-there objects (Plain n) may q e = absurd (cc)
+delegate-there objects Map may q e = absurd (cc)
+delegate-there objects (Proxy d) may q e = let same : d.0 ≡ q = cc in subst (λ k. IsTrue (is_there objects k)) same (black-there objects d.0 may)
+
+pub may-there : (objects : List Object) (what : ToMake) → MayBeMade objects what → IsDelegateThere objects what
+may-there objects (Plain n) may = tt
+may-there objects Map may = tt
+may-there objects (Proxy d) may = black-there objects d.0 may
+
+-- AN OBJECT MADE: a plain one, a weak map or a proxy
+module _ {owned : List ℕ} (p : Inside) (l : IsLinked p) (o : IsInOrder owned (keyed_of p)) (key : ℕ) (what : ToMake) (may : MayBeMade p.scripts what)
+    (vacant : is_there p.scripts key ≡ false) where
   abbrev new : Object
-  new = object_to_make key (p.scripts_made + 1) slots
+  new = object_to_make key (p.scripts_made + 1) what
 
   abbrev n : ℕ
-  n = slots_to_make slots
+  n = slots_to_make what
 
   abbrev kind : Kind
-  kind = kind_to_make slots
+  kind = kind_to_make what
+
+  -- the name of its delegate
+  abbrev its : Option Name
+  its = delegate_name (keyed_of p) what
 
   abbrev objects : List Object
   objects = p.scripts ++ new ∷ []
 
+  held : (q : ℕ) → new.delegate ≡ Some q → IsTrue (is_there p.scripts q)
+  held = delegate-there p.scripts what may
+
   -- its name
   pub name_at-object : name_at objects key ≡ Some (object (p.scripts_made + 1))
-  name_at-object = name_at-made p.scripts l.one_key o.whole new n refl vacant
+  name_at-object = name_at-made p.scripts l.one_key o.whole new n refl held vacant
 
-  named : named_objects objects ≡ named_objects p.scripts ++ blank (object (p.scripts_made + 1)) kind n ∷ []
-  named = named-made p.scripts l.one_key o.whole new n refl vacant
+  kept : KeepsNames p.scripts objects
+  kept = KeepsNames-made p.scripts l.one_key o.whole new n refl held vacant
+
+  -- its delegate keeps its name,
+  pub delegate_name-made : (q : Keyed) → q.scripts ≡ objects → delegate_name q what ≡ its
+  delegate_name-made q e = ap (λ os. name_held os (delegate_to_make what)) e ∙ go (delegate_to_make what) held
+    where
+      go : (d : Option ℕ) → ((k : ℕ) → d ≡ Some k → IsTrue (is_there p.scripts k)) → name_held objects d ≡ name_held p.scripts d
+      go None t = refl
+      go (Some k) t = KeepsNames-same p.scripts objects kept k (t k refl)
+
+  -- and is there still
+  pub delegate_there-made : (os : List Object) → os ≡ objects → IsDelegateThere os what
+  delegate_there-made os e = subst (λ ps. IsDelegateThere ps what) (sym e) (go what (may-there p.scripts what may))
+    where
+      go : (w : ToMake) → IsDelegateThere p.scripts w → IsDelegateThere objects w
+      go (Plain j) t = tt
+      go Map t = tt
+      go (Proxy d) t = KeepsNames-there p.scripts objects kept d.0 t
+
+  named : named_objects objects ≡ named_objects p.scripts ++ blank (object (p.scripts_made + 1)) kind n its ∷ []
+  named = named-made p.scripts l.one_key o.whole new n refl held vacant
 
   -- it is no reflector
   reflectors : reflectors_by objects p.counted.keys ≡ reflectors_by p.scripts p.counted.keys
-  reflectors = ap (λ its. map (λ j. option_and_then its j) p.counted.keys) (fun_ext (λ k. key_of-made p.scripts l.one_key o.whole new n refl vacant (reflector k) refl))
+  reflectors = ap (λ its. map (λ j. option_and_then its j) p.counted.keys) (fun_ext (λ k. key_of-made p.scripts l.one_key o.whole new n refl held vacant (reflector k) refl))
 
-  pub becomes-made : IfSome slots (λ n. n ≤ most_slots) → p.scripts_made < p.limits.scripts → (os : List Object) → os ≡ objects →
-      Becomes owned p (with_objects p os (p.scripts_made + 1)) (with_object (heap_of p) kind n)
-  becomes-made few room os e =
-      subst (λ os. Becomes owned p (with_objects p os (p.scripts_made + 1)) (with_object (heap_of p) kind n)) (sym e)
-      (becomes p l o objects (p.scripts_made + 1) (with_object (heap_of p) kind n)
-      (KeepsNames-made p.scripts l.one_key o.whole new n refl vacant)
+  -- by names the delegate is one that it may have
+  is_delegate : IsDelegate (heap_of p) kind its
+  is_delegate = go what held
+    where
+      go : (w : ToMake) → ((q : ℕ) → delegate_to_make w ≡ Some q → IsTrue (is_there p.scripts q)) → IsDelegate (heap_of p) (kind_to_make w) (delegate_name (keyed_of p) w)
+      go (Plain j) t = no_delegate (heap_of p) kinds.Plain refl
+      go Map t = no_delegate (heap_of p) kinds.Map refl
+      go (Proxy d) t = record {
+        of_kind = ap is_some (there-named p.scripts d.0 (t d.0 refl)).1;
+        there = name-in (heap_of p) p.scripts refl d.0;
+      }
+
+  pub becomes-made : p.scripts_made < p.limits.scripts → (os : List Object) → os ≡ objects →
+      Becomes owned p (with_objects p os (p.scripts_made + 1)) (with_object (heap_of p) kind n its)
+  becomes-made room os e =
+      subst (λ os. Becomes owned p (with_objects p os (p.scripts_made + 1)) (with_object (heap_of p) kind n its)) (sym e)
+      (becomes p l o objects (p.scripts_made + 1) (with_object (heap_of p) kind n its) kept
       (ap (λ scripts. record (heap_of p) { scripts = scripts; scripts_made = p.scripts_made + 1 }) named)
-      (with_script-sound owned (heap_of p) (blank (object (p.scripts_made + 1)) kind n) (p.scripts_made + 1)
-      (IsNewScript-object (heap_of p) kind n o.sound.well_formed (made-fits (p.scripts_made + 1) slots few) room) o.sound)
-      (one_key-made p.scripts l.one_key o.whole new n refl vacant)
-      (whole-made p.scripts l.one_key o.whole new n refl vacant)
+      (with_script-sound owned (heap_of p) (blank (object (p.scripts_made + 1)) kind n its) (p.scripts_made + 1)
+      (IsNewScript-object (heap_of p) kind n its o.sound.well_formed (made-fits p.scripts (p.scripts_made + 1) what may) is_delegate room) o.sound)
+      (one_key-made p.scripts l.one_key o.whole new n refl held vacant)
+      (whole-made p.scripts l.one_key o.whole new n refl held vacant)
       reflectors
       (each-push (λ q. Reflects (keyed_of p) q.name q.native) p.scripts new o.reflecting refl))

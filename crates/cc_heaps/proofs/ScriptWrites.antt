@@ -1,4 +1,4 @@
--- SCRIPT OBJECTS WRITTEN: each keeps its key, its name, its kind and its native. An exposure and a slot written, by names.
+-- SCRIPT OBJECTS WRITTEN: each keeps its key, its name, its kind, its native and its delegate. An exposure and a slot written, by names.
 use Rattle.cc_lists.proofs.Held.{find-renamed}
 use Rattle.std.proofs.Common.{arith, ◌≡◌, ℕ, ◌≤◌, Bool, true, false, List, [], ◌∷◌, map, Option, Some, refl, sym, ◌∙◌, ap, subst, inl, ⊎_elim, ◌==◌, if◌then◌else◌}
 use Rattle.std.specs.Prelude.{IsTrue}
@@ -17,7 +17,8 @@ use Rattle.cc_names.specs.Names.{reflector, same_name, is_native}
 use Rattle.cc_names.proofs.NameTests.{same_name-true, same_name-refl}
 use Rattle.cc_model.specs.Heap.{Heap, HeapScript, change_script, set_slot, with_script_slot}
 use Rattle.cc_model.specs.Exposure.{as_black, exposed, exposed_names}
-use Rattle.cc_script.specs.Objects.{Object, AreWhole, change_object, is_below, is_there, name_at, raised, raised_among, with_colour, with_slot}
+use Rattle.cc_script.specs.Objects.{Object, AreWhole, change_object, is_below, is_there, name_at, places_of, raised, raised_among, with_colour, with_slot}
+use Rattle.cc_script.proofs.PlacesOf.{slot-place, delegate-place, place-cases}
 use Rattle.cc_script.specs.Walking.{keys_reached}
 use Rattle.cc_heaps.specs.Keyed.{Keyed, Reflects, key_of, name_held, named_object, named_objects, reflectors_by}
 use Rattle.cc_heaps.proofs.Reaching.{AreNamesOf, HasOneKey, HasOneName, key-named, name_at-own, reached-alike_from, same-tests}
@@ -29,6 +30,7 @@ pub record KeepsObjects (f : Object → Object) : Type 0 where
   pub name : (o : Object) → (f o).name ≡ o.name
   pub kind : (o : Object) → (f o).kind ≡ o.kind
   pub native : (o : Object) → (f o).native ≡ o.native
+  pub delegate : (o : Object) → (f o).delegate ≡ o.delegate
 
 module _ (f : Object → Object) (keeps : KeepsObjects f) (objects : List Object) where
   -- keys have the names that they had
@@ -62,9 +64,9 @@ module _ (f : Object → Object) (keeps : KeepsObjects f) (objects : List Object
   reflecting-written v all = each-map (λ o. Reflects v o.name o.native) f objects
       (λ o m. subst (λ y. Reflects v y (f o).native) (sym (keeps.name o)) (subst (λ k. Reflects v o.name k) (sym (keeps.native o)) (all o m)))
 
-  -- slots hold what is there, where each holds what is there before
-  pub whole-written : ((o : Object) (q : ℕ) → Among o objects → Among (Some q) (f o).slots → IsTrue (is_there objects q)) → AreWhole (map f objects)
-  whole-written held o q m = each-map (λ o. Among (Some q) o.slots → IsTrue (is_there (map f objects) q)) f objects
+  -- places have what is there, where each has what is there before
+  pub whole-written : ((o : Object) (q : ℕ) → Among o objects → Among (Some q) (places_of (f o)) → IsTrue (is_there objects q)) → AreWhole (map f objects)
+  whole-written held o q m = each-map (λ o. Among (Some q) (places_of o) → IsTrue (is_there (map f objects) q)) f objects
       (λ o m i. KeepsNames-there objects (map f objects) KeepsNames-written q (held o q m i)) o m
 
 -- An exposure
@@ -89,7 +91,7 @@ KeepsObjects-raised keys = grind (arith, KeepsObjects-where, raised-black)
 
 pub whole-raised : (keys : List ℕ) (objects : List Object) → AreWhole objects → AreWhole (map (raise_among keys) objects)
 whole-raised keys objects whole = whole-written (raise_among keys) (KeepsObjects-raised keys) objects
-    (λ o q m. raise-either (λ p. Among (Some q) p.slots → IsTrue (is_there objects q)) keys o (whole o q m) (whole o q m))
+    (λ o q m. raise-either (λ p. Among (Some q) (places_of p) → IsTrue (is_there objects q)) keys o (whole o q m) (whole o q m))
 
 module _ (objects : List Object) (one_key : HasOneKey objects) (one_name : HasOneName objects) (key : ℕ) (x : Name) (named : name_at objects key ≡ Some x) where
   names-of : AreNamesOf objects (key ∷ []) (x ∷ [])
@@ -132,14 +134,17 @@ write-either : (P : Object → Type 0) (key i : ℕ) (item : Option ℕ) (o : Ob
 write-either P key i item o written same = changed_where-either P (λ p. p.key == key) (with_slot i item) o (λ e. written) same
 
 pub KeepsObjects-slot : (key i : ℕ) (item : Option ℕ) → KeepsObjects (write_slot key i item)
-KeepsObjects-slot key i item = KeepsObjects-where (λ o. o.key == key) (with_slot i item) (record { key = λ o. refl; name = λ o. refl; kind = λ o. refl; native = λ o. refl })
+KeepsObjects-slot key i item = KeepsObjects-where (λ o. o.key == key) (with_slot i item) (record { key = λ o. refl; name = λ o. refl; kind = λ o. refl; native = λ o. refl; delegate = λ o. refl })
 
 -- what comes into a slot is there
 pub whole-slot : (objects : List Object) (key i : ℕ) (item : Option ℕ) → AreWhole objects → ((q : ℕ) → item ≡ Some q → IsTrue (is_there objects q)) →
     AreWhole (map (write_slot key i item) objects)
 whole-slot objects key i item whole there = whole-written (write_slot key i item) (KeepsObjects-slot key i item) objects
-    (λ o q m. write-either (λ p. Among (Some q) p.slots → IsTrue (is_there objects q)) key i item o
-    (λ s. ⊎_elim (λ e. there q e) (λ t. whole o q m t) (Among-set_cases o.slots i item (Some q) s))
+    (λ o q m. write-either (λ p. Among (Some q) (places_of p) → IsTrue (is_there objects q)) key i item o
+    (λ s. ⊎_elim
+    (λ t. ⊎_elim (λ e. there q e) (λ t. whole o q m (slot-place o q t)) (Among-set_cases o.slots i item (Some q) t))
+    (λ e. whole o q m (delegate-place o q e))
+    (place-cases (with_slot i item o) q s))
     (whole o q m))
 
 -- a slot of a script object is written by its name

@@ -26,7 +26,7 @@ use Rattle.cc_heaps.specs.declared.heaps.Heaps.TheInside.{Inside}
 use Rattle.cc_heaps.proofs.Keys.{HasKeys-numbers, Reflects-kept, object-name}
 use Rattle.cc_heaps.proofs.ObjectsKept.{members, entry-same, entry-there, there-named, named-there, there-kept}
 use Rattle.cc_heaps.proofs.Keying.{AreHeldThere}
-use Rattle.cc_lists.proofs.Held.{map-held}
+use Rattle.cc_lists.proofs.Held.{held-is, map-held}
 use Rattle.cc_model.specs.Slots.{contents}
 use Rattle.cc_names.specs.Names.{object}
 use Rattle.cc_heaps.proofs.Reaching.{HasOneKey, HasOneName}
@@ -45,7 +45,12 @@ KeepsNames-same os ps kept key t = let n = there-named os key t in kept key n.0 
 
 -- an entry has the names that it had
 members-kept : (os ps : List Object) → KeepsNames os ps → (e : KeyedEntry) → IsEntryThere os e → (key : ℕ) → Among key (members e) → name_at ps key ≡ name_at os key
-members-kept os ps kept e t key m = grind (arith, KeepsNames-same)
+members-kept os ps kept e t key m = ⊎_elim (λ s. same e.the_map t.the_map s)
+    (⊎_elim (λ s. same e.key t.key s)
+    (⊎_elim (λ s. same e.value t.value s) (λ i. same key (t.delegate key (held-is e.delegate key i)) refl))) m
+  where
+    same : (j : ℕ) → IsTrue (is_there os j) → j ≡ key → name_at ps key ≡ name_at os key
+    same j there s = subst (λ k. name_at ps k ≡ name_at os k) s (KeepsNames-same os ps kept j there)
 
 pub named_entries-kept : (os ps : List Object) → KeepsNames os ps → (es : List KeyedEntry) → AreEntriesThere os es → named_entries ps es ≡ named_entries os es
 named_entries-kept os ps kept es there = map-agree (named_entry ps) (named_entry os) es (λ e m. entry-same ps os e (members-kept os ps kept e (there e m)))

@@ -1,7 +1,7 @@
 -- WHAT A CHANGE MAKES OF THE GRAPHS THAT THE HEAPS STAND FOR. What is handed in is reached, so it was made, and the changed
 -- graph is well made; the changed heaps follow it, and are well formed, so they stand for it.
 use Rattle.cc_heaps.proofs.ObjectsKept.{there-named}
-use Rattle.cc_heaps.proofs.Reflecting.{shape-made}
+use Rattle.cc_heaps.proofs.Reflecting.{held-made, shape-made}
 use Rattle.std.proofs.Common.{arith, ◌≡◌, ℕ, ◌<◌, ◌≤◌, true, List, get_or, Option, Some, None, refl, sym, ap, subst, inl}
 use Rattle.std.specs.Prelude.{IfSome, IsTrue}
 use Rattle.std.proofs.lemmas.Bool.{false≢true, le-leb, lt-leb, lt-ltb}
@@ -13,7 +13,7 @@ use Rattle.cc_names.specs.declared.register.Reg.TheVariants.{N, S}
 use Rattle.cc_names.specs.Names.{native, is_native}
 use Rattle.cc_names.specs.Sizes.{bank_length, most_slots}
 use Rattle.cc_model.specs.declared.command.Command.{Command}
-use Rattle.cc_model.specs.declared.command.Command.TheVariants.{Native}
+use Rattle.cc_model.specs.declared.command.Command.TheVariants.{Native, Script, WeakMap}
 use Rattle.cc_model.specs.Ranges.{in_range}
 use Rattle.cc_model.specs.Checks.{refusal_of}
 use Rattle.cc_model.specs.Graph as graph
@@ -23,20 +23,23 @@ use Rattle.cc_model.specs.WellMade.{IsWellMade}
 use Rattle.cc_model.specs.Heap.{Heap, objects_of, native_at, set_slot}
 use Rattle.cc_model.specs.Cascade.{take_up}
 use Rattle.cc_model.specs.End.{slots_now}
-use Rattle.cc_model.specs.Effects.{effects, hold_native, hold_script, make_native, make_object}
+use Rattle.cc_model.specs.Effects.{effects, hold_native, hold_script, make_native, make_proxy}
 use Rattle.cc_model.specs.WellFormed.{IsWellFormed, native_names, script_names}
 use Rattle.cc_model.specs.StandsFor.{StandsFor}
 use Rattle.cc_laws_heap.specs.Sound.{IsSound}
-use Rattle.cc_laws_heap.proofs.Face.{Follows, Follows-hold, Follows-left, Follows-slot, IsIn, IsWellMade-change_native, IsWellMade-native_register, KeepsNative-slot, Leaves-let_go, Leaves-take_up, Made, MadeNative, OfSome, OfSome-then, command-stands, follows-stands, stands-follows, step-well}
+use Rattle.cc_laws_heap.proofs.Face.{Follows, Follows-hold, Follows-left, Follows-slot, IsIn, IsWellMade-change_native, IsWellMade-native_register, KeepsNative-slot, Leaves-let_go, Leaves-take_up, Made, MadeNative, MadeScript, OfSome, OfSome-then, command-stands, follows-stands, make_proxy-sound, proxy-follows, proxy-well, script-behind, stands-follows, step-well}
 use Rattle.cc_laws_snapshot.proofs.Face.{native-name_of}
 use Rattle.cc_counted.specs.declared.held.Held.{Held}
 use Rattle.cc_script.specs.Objects.{is_there, name_at}
 use Rattle.cc_heaps.specs.Keyed.{Keyed, IsInOrder, left_with}
-use Rattle.cc_heaps.specs.Making.{kind_to_make, command_to_make, slots_to_make}
+use Rattle.cc_heaps.specs.Making.{MayBeMade, delegate_name, made_in}
+use Rattle.cc_heaps.specs.declared.heaps.to_make.ToMake.{ToMake}
+use Rattle.cc_heaps.specs.declared.heaps.to_make.ToMake.TheVariants.{Plain, Map, Proxy}
+use Rattle.cc_names.specs.Allowance.{Allowance}
 use Rattle.cc_heaps.specs.Changes.{native_name, script_name, held_name, stored_in}
 use Rattle.cc_heaps.specs.Standing.{IsReached, IsReachedOrReflects, MayHold, StandsAfter}
 use Rattle.cc_heaps.proofs.Content.{native-in}
-use Rattle.cc_heaps.proofs.Following.{made-ranges, made-effects, name_at-there, script_name-there}
+use Rattle.cc_heaps.proofs.Following.{made_by, plain-ranges, map-ranges, plain-effects, map-effects, proxy-made, name_at-there, script_name-there}
 use Rattle.cc_heaps.proofs.ReflectingWritten.{held_script-stands, slot_written-stands, handed-reached}
 
 -- What was made
@@ -95,16 +98,42 @@ unfolding effects refusal_of
 make_native-stands h d n s room few allowed = command-stands_after h (Native d n) s (rw (lt-ltb d bank_length room, le-leb n most_slots few) refl)
     (rw (lt-leb h.limits.natives h.natives_made allowed) refl)
 
--- the command that makes a script object is not refused
-made-not_refused : (h : Heap) (d : ℕ) (slots : Option ℕ) → h.scripts_made < h.limits.scripts → refusal_of (objects_of h) (command_to_make d slots) ≡ None
+-- A proxy is made of what is there and reached.
+make_proxy-stands : {owned : List ℕ} (h : Heap) (d : ℕ) (x : Option Name) → IsSound owned h → h.scripts_made < h.limits.scripts → IsIn (script_names h) x → IsReached h x →
+    StandsAfter h (make_proxy h d x) (λ g. graph.with_proxy g d x)
+make_proxy-stands {owned} h d x s allowed there r g m t = (
+  well,
+  proxy-follows h g s.well_formed m t d x reached (script-behind g x made reached) made (StandsFor (make_proxy h d x) (graph.with_proxy g d x))
+      (λ P f. follows-stands P (make_proxy h d x) (graph.with_proxy g d x) (make_proxy-sound owned h d x there allowed s).well_formed well f),
+)
+  where
+    made : OfSome (MadeScript g) x
+    made = held-made h g x s.well_formed t there
+
+    reached : OfSome (Reached g) x
+    reached = handed-reached h g x s.well_formed m t r
+
+    well : IsWellMade (graph.with_proxy g d x)
+    well = proxy-well g m d x made (omega (arith, allowed, t.scripts_made, ap (λ (a : Allowance). a.scripts) t.limits))
+
+-- the commands that make a plain object or a weak map are not refused
+plain-not_refused : (h : Heap) (d n : ℕ) → h.scripts_made < h.limits.scripts → refusal_of (objects_of h) (Script d n) ≡ None
 unfolding refusal_of
-made-not_refused h d slots allowed = grind (arith, lt-leb)
+plain-not_refused h d n allowed = grind (arith, lt-leb)
+
+map-not_refused : (h : Heap) (d : ℕ) → h.scripts_made < h.limits.scripts → refusal_of (objects_of h) (WeakMap d) ≡ None
+unfolding refusal_of
+map-not_refused h d allowed = grind (arith, lt-leb)
 
 -- A script object is made.
-pub make_object-stands : {owned : List ℕ} (h : Heap) (d : ℕ) (slots : Option ℕ) → IsSound owned h → d < bank_length → IfSome slots (λ n. n ≤ most_slots) → h.scripts_made < h.limits.scripts →
-    StandsAfter h (make_object h d (kind_to_make slots) (slots_to_make slots)) (λ g. step g (command_to_make d slots))
-make_object-stands h d slots s room few allowed = subst (λ k. StandsAfter h k (λ g. step g (command_to_make d slots))) (made-effects h d slots)
-    (command-stands_after h (command_to_make d slots) s (made-ranges d slots room few) (made-not_refused h d slots allowed))
+pub make_object-stands : {owned : List ℕ} (v : Keyed) (o : IsInOrder owned v) (d : ℕ) (what : ToMake) → d < bank_length → MayBeMade v.scripts what →
+    v.heap.scripts_made < v.heap.limits.scripts → IsReached v.heap (delegate_name v what) → StandsAfter v.heap (made_by v d what) (λ g. made_in g d what (delegate_name v what))
+make_object-stands v o d (Plain n) room few allowed r = subst (λ k. StandsAfter v.heap k (λ g. step g (Script d n))) (plain-effects v.heap d n)
+    (command-stands_after v.heap (Script d n) o.sound (plain-ranges d n room few) (plain-not_refused v.heap d n allowed))
+make_object-stands v o d Map room few allowed r = subst (λ k. StandsAfter v.heap k (λ g. step g (WeakMap d))) (map-effects v.heap d)
+    (command-stands_after v.heap (WeakMap d) o.sound (map-ranges d room) (map-not_refused v.heap d allowed))
+make_object-stands {owned} v o d (Proxy k) room black allowed r = subst (λ l. StandsAfter v.heap l (λ g. graph.with_proxy g d (name_at v.scripts k.0))) (proxy-made v d k black)
+    (make_proxy-stands v.heap d (name_at v.scripts k.0) o.sound allowed (name_at-there owned v o k.0) r)
 
 -- The heaps with their keys
 

@@ -16,7 +16,7 @@ pub use Rattle.cc_laws_heap.proofs.Emptying.{let_go-frees}
 pub use Rattle.cc_laws_heap.proofs.EndsStand.{take_away-stands}
 pub use Rattle.cc_laws_heap.proofs.EntriesKept.{with_entry-sound, without_entry-sound}
 pub use Rattle.cc_laws_heap.proofs.EntryLists.{entries_of-set, found-among, is_entry_of-alike, is_entry_of-own, is_entry_of-parts, with_entry-cases}
-pub use Rattle.cc_laws_heap.proofs.Following.{Follows, stands-follows}
+pub use Rattle.cc_laws_heap.proofs.Following.{Follows, shape_in-reflector, stands-follows}
 pub use Rattle.cc_laws_heap.proofs.FreeFront.{IsBalanced-free_front, IsBalanced-removed, without_native-give_up_each}
 pub use Rattle.cc_laws_heap.proofs.Freed.{TakesOut}
 pub use Rattle.cc_laws_heap.proofs.FreedNames.{FreesNames-left}
@@ -34,7 +34,7 @@ pub use Rattle.cc_laws_heap.proofs.Leaving.{IsOf, Leave, Leave-add_ref, Leave-be
 pub use Rattle.cc_laws_heap.proofs.MadeAlike.{Follows-made, IsMade}
 pub use Rattle.cc_laws_heap.proofs.MadeSound.{with_native-sound, with_script-sound}
 pub use Rattle.cc_laws_heap.proofs.Making.{IsRising-push, contents-empty, contents-empty_none, places-with_mark, with_mark-cases}
-pub use Rattle.cc_laws_heap.proofs.MarkedKept.{black-place, black-register, marked-black, marked-native_slot, marked-not_unmarked, marked-other, marked-place, marked-slot, marked-value}
+pub use Rattle.cc_laws_heap.proofs.MarkedKept.{black-place, black-register, marked-black, marked-delegate, marked-native_slot, marked-not_unmarked, marked-other, marked-place, marked-slot, marked-value}
 pub use Rattle.cc_laws_heap.proofs.MarkedWellFormed.{is_spared, is_spared_entry}
 pub use Rattle.cc_laws_heap.proofs.Marking.{HasColours-marked, as_marked, colour_of}
 pub use Rattle.cc_laws_heap.proofs.MarkingKeeps.{IsSound-marked, round-frees, round-sound, script_names-marked}
@@ -47,14 +47,14 @@ pub use Rattle.cc_laws_heap.proofs.Owning.{IsCounted-add_ref, IsIn, add_ref-soun
 pub use Rattle.cc_laws_heap.proofs.ReachedAlike.{ArePart-among, in-reached, reached-in, reached-there}
 pub use Rattle.cc_laws_heap.proofs.ReachedReads.{native_of-reached, register-reached, script-behind, slot_at-reached}
 pub use Rattle.cc_laws_heap.proofs.References.{native-there, refs_to-removed, refs_to-slot, refs_to-there, times-among, times-append, times-cons, times-cons_other, times-cons_same, times-natives_in, times-some}
-pub use Rattle.cc_laws_heap.proofs.RepliesAlike.{AreAlike, objects-stand, refusal_of-alike, reply_if_taken-alike, slot_at-alike}
+pub use Rattle.cc_laws_heap.proofs.RepliesAlike.{AreAlike, delegate-stands, objects-stand, refusal_of-alike, reply_if_taken-alike, slot_at-alike}
 pub use Rattle.cc_laws_heap.proofs.Rising.{IsRising-filter, IsRising-once}
 pub use Rattle.cc_laws_heap.proofs.RoundParts.{round-entries, round-natives, round-scripts, value_in-filter}
 pub use Rattle.cc_laws_heap.proofs.RoundsStand.{collect_scripts-stands, round-stands, spared-from}
 pub use Rattle.cc_laws_heap.proofs.ScriptCommands.{IsDelegate, IsNewScript-object, blank, make_proxy-sound, no_delegate, with_reflector-sound}
-pub use Rattle.cc_laws_heap.proofs.ScriptNames.{entry-named, script-named, script_names-named, scripts-once}
+pub use Rattle.cc_laws_heap.proofs.ScriptNames.{delegate_at-found, entry-named, script-named, script_names-named, scripts-once}
 pub use Rattle.cc_laws_heap.proofs.ScriptsKept.{exposed-sound, hold_script-sound, is_one_of, native-no_script, script_names-exposed, script_slot-sound}
-pub use Rattle.cc_laws_heap.proofs.Shapes.{further_of, slots_in-graph, slots_in-heap, slots_of_shape}
+pub use Rattle.cc_laws_heap.proofs.Shapes.{IsOfNone, delegate_in-shape, further_of, slots_in-graph, slots_in-heap, slots_of_shape}
 pub use Rattle.cc_laws_heap.proofs.SlotsWritten.{Follows-preserved, Follows-slot, IsPreserved}
 pub use Rattle.cc_laws_heap.proofs.Standing.{follows-stands}
 pub use Rattle.cc_laws_heap.proofs.StandingOn.{add_ref-stands, cascade-stands, unlink-stands}

@@ -1,4 +1,4 @@
-use Rattle.std.proofs.Common.{sym, ◌∙◌, subst}
+use Rattle.std.proofs.Common.{option_map, sym, ◌∙◌, subst}
 use Rattle.std.specs.Prelude.{IsTrue}
 use Rattle.std.proofs.lemmas.Result.{on_ok_weaker}
 use Rattle.cc_weakmaps.specs.Entries.{has_value_in}
@@ -12,7 +12,7 @@ returns-clause-heap c =
     let p = c.self.inside in
     on_ok_weaker c.set.result (λ e. rw (← c.self.view_is)
     ((becomes-set p c.self.invariant (rw (← c.self.view_is) at c.requires.order).1 c.args.the_map.0 c.args.key.0 (rw (← c.self.view_is) at c.requires.the_map)
-    (rw (← c.self.view_is) at c.requires.key) c.args.value.0 (rw (← c.self.view_is) at c.requires.value) c.set.new.self e).heap)) c.set.ensures.entries
+    (rw (← c.self.view_is) at c.requires.key) c.args.value.0 (rw (← c.self.view_is) at c.requires.value) (option_map (λ k. k.0) c.delegate.result) c.delegate.ensures.delegate c.set.new.self e).heap)) c.set.ensures.entries
 
 pub returns-clause-in_place : goal.returns-clause-in_place
 returns-clause-in_place c some =
@@ -24,4 +24,4 @@ pub returns-clause-order : goal.returns-clause-order
 returns-clause-order c owned =
     rw (← c.self.view_is)
     (λ o. order-set c.self.inside c.self.invariant o c.args.the_map.0 c.args.key.0 (rw (← c.self.view_is) at c.requires.the_map)
-    (rw (← c.self.view_is) at c.requires.key) c.args.value.0 (rw (← c.self.view_is) at c.requires.value) c.set.new.self c.set.result c.set.ensures.entries c.set.ensures.err)
+    (rw (← c.self.view_is) at c.requires.key) c.args.value.0 (rw (← c.self.view_is) at c.requires.value) (option_map (λ k. k.0) c.delegate.result) c.delegate.ensures.delegate c.set.new.self c.set.result c.set.ensures.entries c.set.ensures.err)
