@@ -1,3 +1,4 @@
+pub mod Joints
 pub mod There
 pub mod Painting
 pub mod Raising

@@ -1,22 +1,32 @@
--- HOW OFTEN ENTRIES ARE LOOKED AT by who goes over the entries of objects, of each object once: at most twice each.
+-- HOW OFTEN ENTRIES ARE LOOKED AT by who goes over the entries of objects, of each object once: at most three times each.
 use Rattle.std.proofs.Common.{◌≡◌, ℕ, ◌+◌, ◌*◌, ◌≤◌, ◌==◌, zero, suc, Bool, true, false, ◌||◌, cond, List, [], ◌∷◌, length, count_by, Option, Some, None, option_map, refl, sym, ◌∙◌, ap, subst, arith}
 use Rattle.std.specs.Prelude.{slice_get}
-use Rattle.std.proofs.lemmas.Bool.{true≢false, eqb-true, eq-eqb}
+use Rattle.std.proofs.lemmas.Bool.{true≢false, false≢true, eqb-true, eq-eqb}
 use Rattle.cc_lists.proofs.Counting.{count_by-cons}
 use Rattle.cc_weakmaps.specs.Entries.{KeyedEntry}
-use Rattle.cc_weakmaps.specs.Index.{has_object, place_below}
-use Rattle.cc_marking.specs.Looking.{sides_left}
+use Rattle.cc_weakmaps.specs.Index.{has_object, is_it, place_below}
+use Rattle.cc_weakmaps.proofs.Below.{or-true, or-false}
+use Rattle.cc_marking.specs.Looking.{side_left, sides_left}
 
--- at first at most two for each entry
-pub sides-all : (looked : ℕ → Bool) (es : List KeyedEntry) → sides_left looked es ≤ 2 * length es
+-- at first at most three for each entry
+pub sides-all : (looked : ℕ → Bool) (es : List KeyedEntry) → sides_left looked es ≤ 3 * length es
 sides-all looked [] = omega arith
-sides-all looked (e ∷ es) = go (looked e.the_map) (looked e.key) (sides-all looked es)
+sides-all looked (e ∷ es) = go (looked e.the_map) (looked e.key) (side-one e.delegate) (sides-all looked es)
   where
-    go : (a b : Bool) → sides_left looked es ≤ 2 * length es → cond a 0 1 + (cond b 0 1 + sides_left looked es) ≤ 2 * suc (length es)
-    go true true h = omega (arith, h)
-    go true false h = omega (arith, h)
-    go false true h = omega (arith, h)
-    go false false h = omega (arith, h)
+    side-one : (o : Option ℕ) → side_left looked o ≤ 1
+    side-one None = omega arith
+    side-one (Some k) = one (looked k)
+      where
+        one : (b : Bool) → cond b 0 1 ≤ 1
+        one true = omega arith
+        one false = omega arith
+
+    go : (a b : Bool) → side_left looked e.delegate ≤ 1 → sides_left looked es ≤ 3 * length es →
+        cond a 0 1 + (cond b 0 1 + (side_left looked e.delegate + sides_left looked es)) ≤ 3 * suc (length es)
+    go true true o h = omega (arith, o, h)
+    go true false o h = omega (arith, o, h)
+    go false true o h = omega (arith, o, h)
+    go false false o h = omega (arith, o, h)
 
 -- one object more: at least as many sides less as it has entries
 pub sides-fewer : (before after : ℕ → Bool) (k : ℕ) (es : List KeyedEntry) → before k ≡ false → ((j : ℕ) → after j ≡ (before j || k == j)) →
@@ -27,7 +37,7 @@ sides-fewer before after k (e ∷ es) off more =
       arith,
       sides-fewer before after k es off more,
       count_by-cons (has_object k) e es,
-      side e.the_map e.key (k == e.the_map) refl (k == e.key) refl,
+      all e.the_map e.key e.delegate (is_it k e.delegate) refl,
     )
   where
     weight : Bool → ℕ
@@ -70,6 +80,26 @@ sides-fewer before after k (e ∷ es) off more =
     side i j false q false s =
         let e : ◌≡◌ {A = ℕ} (cond (i == k || j == k) 1 0) 0 = ap (λ b. cond (b || j == k) 1 0) (turned i false q) ∙ ap (λ b. cond b 1 0) (turned j false s) in
         omega (arith, e, kept i, kept j)
+
+    -- the delegate, where it is there
+    it-kept : (o : Option ℕ) → side_left after o ≤ side_left before o
+    it-kept None = omega arith
+    it-kept (Some i) = kept i
+
+    it-gone : (o : Option ℕ) → is_it k o ≡ true → (side_left before o ≡ 1) × (side_left after o ≡ 0)
+    it-gone None e = absurd (false≢true e)
+    it-gone (Some i) e = gone i (eq-eqb k i (sym (eqb-true i k e)))
+
+    all : (i j : ℕ) (o : Option ℕ) (c : Bool) → is_it k o ≡ c →
+        weight (after i) + weight (after j) + side_left after o + cond ((i == k || j == k) || is_it k o) 1 0 ≤ weight (before i) + weight (before j) + side_left before o
+    all i j o true q =
+        let g = it-gone o q in
+        let e : ◌≡◌ {A = ℕ} (cond ((i == k || j == k) || is_it k o) 1 0) 1 = ap (λ b. cond ((i == k || j == k) || b) 1 0) q ∙ ap (λ b. cond b 1 0) (or-true (i == k || j == k)) in
+        omega (arith, g.0, g.1, e, kept i, kept j)
+    all i j o false q =
+        let e : ◌≡◌ {A = ℕ} (cond ((i == k || j == k) || is_it k o) 1 0) (cond (i == k || j == k) 1 0) =
+        ap (λ b. cond ((i == k || j == k) || b) 1 0) q ∙ ap (λ b. cond b 1 0) (or-false (i == k || j == k)) in
+        omega (arith, e, it-kept o, side i j (k == i) refl (k == j) refl)
 
 -- Over the chain of one object
 
@@ -119,7 +149,7 @@ count-all (e ∷ es) k = count-cons e es k (length es) ∙ (ap (λ n. cond (has_
 -- a test that passes more leaves no more sides
 pub sides-less : (before after : ℕ → Bool) (es : List KeyedEntry) → ((k : ℕ) → before k ≡ true → after k ≡ true) → sides_left after es ≤ sides_left before es
 sides-less before after [] more = omega arith
-sides-less before after (e ∷ es) more = omega (arith, sides-less before after es more, side e.the_map, side e.key)
+sides-less before after (e ∷ es) more = omega (arith, sides-less before after es more, side e.the_map, side e.key, it e.delegate)
   where
     side : (k : ℕ) → cond (after k) 0 1 ≤ cond (before k) 0 1
     side k = go (before k) refl (after k) refl
@@ -128,3 +158,7 @@ sides-less before after (e ∷ es) more = omega (arith, sides-less before after 
         go a p true q = omega arith
         go false p false q = omega arith
         go true p false q = absurd (true≢false (sym (more k p) ∙ q))
+
+    it : (o : Option ℕ) → side_left after o ≤ side_left before o
+    it None = omega arith
+    it (Some k) = side k

@@ -6,9 +6,9 @@ use Rattle.cc_lists.specs.Members.{has}
 use Rattle.cc_lists.proofs.ListWrites.{flat_map-kept, map-agree}
 use Rattle.cc_names.specs.declared.kind.Colour.{Colour}
 use Rattle.cc_names.specs.declared.kind.Colour.TheVariants.{White, Gray, Black}
-use Rattle.cc_script.specs.Objects.{Object, with_colour, is_below, raised, raised_among}
+use Rattle.cc_script.specs.Objects.{Object, places_of, with_colour, is_below, raised, raised_among}
 use Rattle.cc_script.specs.Walking.{slot_edges, edges}
-use Rattle.cc_script.proofs.Walks.{risen, risen-key, risen-slots}
+use Rattle.cc_script.proofs.Walks.{risen, risen-key, risen-places}
 use Rattle.cc_marking.proofs.Painting.{painted, painted-alike, painted-twice}
 
 -- at least this colour
@@ -73,5 +73,5 @@ edges-raised keys to objects = flat_map-kept slot_edges (risen keys to) objects 
   where
     each : (o : Object) → slot_edges (risen keys to o) ≡ slot_edges o
     each o =
-        ap (λ (k : ℕ). map (λ (q : ℕ). (k, q)) (flat_map option_to_list (risen keys to o).slots)) (risen-key keys to o)
-        ∙ ap (λ (slots : List (Option ℕ)). map (λ (q : ℕ). (o.key, q)) (flat_map option_to_list slots)) (risen-slots keys to o)
+        ap (λ (k : ℕ). map (λ (q : ℕ). (k, q)) (flat_map option_to_list (places_of (risen keys to o)))) (risen-key keys to o)
+        ∙ ap (λ (places : List (Option ℕ)). map (λ (q : ℕ). (o.key, q)) (flat_map option_to_list places)) (risen-places keys to o)

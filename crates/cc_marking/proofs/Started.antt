@@ -19,8 +19,10 @@ use Rattle.cc_script.proofs.Raising.{raise_key-lower, raise_key-enough, lower-so
 use Rattle.cc_script.proofs.Wholeness.{there-raised}
 use Rattle.cc_weakmaps.specs.Entries.{KeyedEntry}
 use Rattle.cc_weakmaps.specs.Index.{has_object}
+use Rattle.cc_marking.specs.Joints.{Joint, joints, joints_of}
 use Rattle.cc_marking.specs.Levels.{has_at_least, is_at_least}
-use Rattle.cc_marking.specs.Looking.{with_all_started, with_value, with_value_of, with_values}
+use Rattle.cc_marking.specs.Looking.{with_all_started, with_all_given, with_given, with_given_of, with_joint, with_joints}
+use Rattle.cc_marking.proofs.Joints.{entry-joint}
 use Rattle.cc_marking.proofs.Levels.{at_least-cases, at_least-kept, at_least-risen}
 use Rattle.cc_marking.proofs.Raising.{raised-twice}
 
@@ -261,85 +263,120 @@ module _ (to : Colour) where
       (λ t. slots-here xs (raise_key to k m) (λ j o. further-there (λ z. Unit {0}) m (raise_key to k m) one j ∙ there j (inr o)) key t)
       n
 
-  -- Values of entries
+  -- What entries give
 
-  module _ (P : ℕ → Type 0) (es : List KeyedEntry) (joined : (e : KeyedEntry) → Among e es → P e.the_map → P e.key → P e.value) where
-    pub further-value : (e : KeyedEntry) (m : Marking) → Among e es → AllHave P m → IsFurther P m (with_value to e m)
-    further-value e m among h = go (has_at_least to m.objects e.the_map && has_at_least to m.objects e.key) refl
+  module _ (P : ℕ → Type 0) (es : List KeyedEntry) (joined : (j : Joint) → Among j (joints es) → P j.the_map → P j.key → P j.value) where
+    pub further-joint : (j : Joint) (m : Marking) → Among j (joints es) → AllHave P m → IsFurther P m (with_joint to j m)
+    further-joint j m among h = go (has_at_least to m.objects j.the_map && has_at_least to m.objects j.key) refl
       where
-        go : (b : Bool) → (has_at_least to m.objects e.the_map && has_at_least to m.objects e.key) ≡ b → IsFurther P m (elim b [ true ↦ raise_key to e.value m | false ↦ m ])
+        go : (b : Bool) → (has_at_least to m.objects j.the_map && has_at_least to m.objects j.key) ≡ b → IsFurther P m (elim b [ true ↦ raise_key to j.value m | false ↦ m ])
         go true both =
-            let each = and_parts (has_at_least to m.objects e.the_map) (has_at_least to m.objects e.key) both in
-            further-one P e.value m (joined e among (h e.the_map each.0) (h e.key each.1))
+            let each = and_parts (has_at_least to m.objects j.the_map) (has_at_least to m.objects j.key) both in
+            further-one P j.value m (joined j among (h j.the_map each.0) (h j.key each.1))
         go false none = further-none P m
 
-    pub further-value_of : (object : ℕ) (o : Option KeyedEntry) (m : Marking) → ((e : KeyedEntry) → o ≡ Some e → Among e es) → AllHave P m → IsFurther P m (with_value_of to object o m)
+    pub further-joints : (js : List Joint) (m : Marking) → ((j : Joint) → Among j js → Among j (joints es)) → AllHave P m → IsFurther P m (with_joints to js m)
+    further-joints [] m among h = further-none P m
+    further-joints (j ∷ js) m among h =
+        let one = further-joint j m (among j (inl refl)) h in
+        further-then P m (with_joint to j m) (with_joints to js (with_joint to j m)) one (further-joints js (with_joint to j m) (λ i n. among i (inr n)) (one.have h))
+
+    pub further-value : (e : KeyedEntry) (m : Marking) → Among e es → AllHave P m → IsFurther P m (with_given to e m)
+    further-value e m among h = further-joints (joints_of e) m (λ j n. entry-joint es e j among n) h
+
+    pub further-value_of : (object : ℕ) (o : Option KeyedEntry) (m : Marking) → ((e : KeyedEntry) → o ≡ Some e → Among e es) → AllHave P m → IsFurther P m (with_given_of to object o m)
     further-value_of object None m among h = further-none P m
     further-value_of object (Some e) m among h = go (has_object object e)
       where
-        go : (b : Bool) → IsFurther P m (elim b [ true ↦ with_value to e m | false ↦ m ])
+        go : (b : Bool) → IsFurther P m (elim b [ true ↦ with_given to e m | false ↦ m ])
         go true = further-value e m (among e refl) h
         go false = further-none P m
 
-    pub further-values : (all : List KeyedEntry) → ((e : KeyedEntry) → Among e all → Among e es) → (object n : ℕ) (m : Marking) → AllHave P m → IsFurther P m (with_values to all object n m)
+    pub further-values : (all : List KeyedEntry) → ((e : KeyedEntry) → Among e all → Among e es) → (object n : ℕ) (m : Marking) → AllHave P m → IsFurther P m (with_all_given to all object n m)
     further-values all part object zero m h = further-none P m
     further-values all part object (suc n) m h =
         let one = further-value_of object (slice_get all n) m (λ e at. part e (place-member e n at)) h in
-        further-then P m (with_value_of to object (slice_get all n) m) (with_values to all object (suc n) m)
-        one (further-values all part object n (with_value_of to object (slice_get all n) m) (one.have h))
+        further-then P m (with_given_of to object (slice_get all n) m) (with_all_given to all object (suc n) m)
+        one (further-values all part object n (with_given_of to object (slice_get all n) m) (one.have h))
       where
         place-member : (e : KeyedEntry) (place : ℕ) → slice_get all place ≡ Some e → Among e all
         place-member e place at = place-among e all place at
 
-  -- an entry whose map and key were looked into gives its value the colour
+  -- a joint of which the first two were looked into gives the third the colour
   looked-at_least : (m : Marking) (key : ℕ) → IsTrue (looked m key) → IsTrue (has_at_least to m.objects key)
   looked-at_least m key h = (and_parts (has_at_least to m.objects key) (not (has ◌==◌ m.waiting key)) h).0
-
-  value-here : (e : KeyedEntry) (m : Marking) → IsTrue (is_there m.objects e.value) → IsTrue (looked m e.the_map) → IsTrue (looked m e.key) →
-      IsTrue (has_at_least to (with_value to e m).objects e.value)
-  value-here e m there the_map key =
-      let both : (has_at_least to m.objects e.the_map && has_at_least to m.objects e.key) ≡ true =
-      and_from (has_at_least to m.objects e.the_map) (has_at_least to m.objects e.key) (looked-at_least m e.the_map the_map) (looked-at_least m e.key key) in
-      subst (λ (z : Marking). IsTrue (has_at_least to z.objects e.value))
-      (sym (ap (λ (b : Bool). elim b [ true ↦ raise_key to e.value m | false ↦ m ]) both))
-      (started-here (λ z. Unit {0}) e.value m there)
 
   -- whatever they are
   abbrev Any : ℕ → Type 0
   Any key = Unit {0}
 
-  any-value_of : (es : List KeyedEntry) (object n : ℕ) (m : Marking) → IsFurther Any m (with_value_of to object (slice_get es n) m)
+  joint-here : (j : Joint) (m : Marking) → IsTrue (is_there m.objects j.value) → IsTrue (looked m j.the_map) → IsTrue (looked m j.key) →
+      IsTrue (has_at_least to (with_joint to j m).objects j.value)
+  joint-here j m there the_map key =
+      let both : (has_at_least to m.objects j.the_map && has_at_least to m.objects j.key) ≡ true =
+      and_from (has_at_least to m.objects j.the_map) (has_at_least to m.objects j.key) (looked-at_least m j.the_map the_map) (looked-at_least m j.key key) in
+      subst (λ (z : Marking). IsTrue (has_at_least to z.objects j.value))
+      (sym (ap (λ (b : Bool). elim b [ true ↦ raise_key to j.value m | false ↦ m ]) both))
+      (started-here (λ z. Unit {0}) j.value m there)
+
+  any-joint : (j : Joint) (m : Marking) → IsFurther Any m (with_joint to j m)
+  any-joint j m = go (has_at_least to m.objects j.the_map && has_at_least to m.objects j.key)
+    where
+      go : (b : Bool) → IsFurther Any m (elim b [ true ↦ raise_key to j.value m | false ↦ m ])
+      go true = further-one Any j.value m tt
+      go false = further-none Any m
+
+  any-joints : (js : List Joint) (m : Marking) → IsFurther Any m (with_joints to js m)
+  any-joints [] m = further-none Any m
+  any-joints (j ∷ js) m = further-then Any m (with_joint to j m) (with_joints to js (with_joint to j m)) (any-joint j m) (any-joints js (with_joint to j m))
+
+  -- so does one of many
+  joints-here : (js : List Joint) (m : Marking) (j : Joint) → Among j js → IsTrue (is_there m.objects j.value) → IsTrue (looked m j.the_map) → IsTrue (looked m j.key) →
+      IsTrue (has_at_least to (with_joints to js m).objects j.value)
+  joints-here [] m j n there the_map key = absurd n
+  joints-here (i ∷ js) m j n there the_map key = ⊎_elim
+      (λ is.
+      subst (λ (z : Joint). IsTrue (has_at_least to (with_joints to js (with_joint to i m)).objects z.value)) is
+      (further-more Any (with_joint to i m) (with_joints to js (with_joint to i m)) (any-joints js (with_joint to i m)) i.value
+      (joint-here i m (subst (λ (z : Joint). IsTrue (is_there m.objects z.value)) (sym is) there) (subst (λ (z : Joint). IsTrue (looked m z.the_map)) (sym is) the_map)
+      (subst (λ (z : Joint). IsTrue (looked m z.key)) (sym is) key))))
+      (λ t.
+      let one = any-joint i m in
+      joints-here js (with_joint to i m) j t (further-there Any m (with_joint to i m) one j.value ∙ there) (one.looked j.the_map ∙ the_map) (one.looked j.key ∙ key))
+      n
+
+  any-value_of : (es : List KeyedEntry) (object n : ℕ) (m : Marking) → IsFurther Any m (with_given_of to object (slice_get es n) m)
   any-value_of es object n m = further-value_of Any es (λ e among a b. tt) object (slice_get es n) m (λ e at. place-among e es n at) (λ key h. tt)
 
-  any-values : (es : List KeyedEntry) (object n : ℕ) (m : Marking) → IsFurther Any m (with_values to es object n m)
+  any-values : (es : List KeyedEntry) (object n : ℕ) (m : Marking) → IsFurther Any m (with_all_given to es object n m)
   any-values es object n m = further-values Any es (λ e among a b. tt) es (λ e among. among) object n m (λ key h. tt)
 
-  pub values-here : (es : List KeyedEntry) (object n : ℕ) (m : Marking) (i : ℕ) (e : KeyedEntry) → i < n → slice_get es i ≡ Some e → has_object object e ≡ true →
-      IsTrue (is_there m.objects e.value) → IsTrue (looked m e.the_map) → IsTrue (looked m e.key) →
-      IsTrue (has_at_least to (with_values to es object n m).objects e.value)
-  values-here es object zero m i e below at has there the_map key = absurd (omega (arith, below))
-  values-here es object (suc n) m i e below at has there the_map key = ⊎_elim
+  pub values-here : (es : List KeyedEntry) (object n : ℕ) (m : Marking) (i : ℕ) (e : KeyedEntry) (j : Joint) → Among j (joints_of e) → i < n → slice_get es i ≡ Some e → has_object object e ≡ true →
+      IsTrue (is_there m.objects j.value) → IsTrue (looked m j.the_map) → IsTrue (looked m j.key) →
+      IsTrue (has_at_least to (with_all_given to es object n m).objects j.value)
+  values-here es object zero m i e j among below at has there the_map key = absurd (omega (arith, below))
+  values-here es object (suc n) m i e j among below at has there the_map key = ⊎_elim
       (λ t. here t.1)
       (λ t.
       let other : ¬ (i ≡ n) = t.1 in
-      values-here es object n after i e (omega (arith, below, other)) at has
-      (further-there Any m after one e.value ∙ there)
-      (one.looked e.the_map ∙ the_map)
-      (one.looked e.key ∙ key))
+      values-here es object n after i e j among (omega (arith, below, other)) at has
+      (further-there Any m after one j.value ∙ there)
+      (one.looked j.the_map ∙ the_map)
+      (one.looked j.key ∙ key))
       (eqb_tells i n)
     where
       after : Marking
-      after = with_value_of to object (slice_get es n) m
+      after = with_given_of to object (slice_get es n) m
 
       one : IsFurther Any m after
       one = any-value_of es object n m
 
-      here : i ≡ n → IsTrue (has_at_least to (with_values to es object n after).objects e.value)
+      here : i ≡ n → IsTrue (has_at_least to (with_all_given to es object n after).objects j.value)
       here same =
           let at_n : slice_get es n ≡ Some e = subst (λ z. slice_get es z ≡ Some e) same at in
-          let valued : after ≡ with_value to e m = ap (λ o. with_value_of to object o m) at_n ∙ ap (λ (b : Bool). elim b [ true ↦ with_value to e m | false ↦ m ]) has in
-          further-more Any after (with_values to es object n after) (any-values es object n after) e.value
-          (subst (λ (z : Marking). IsTrue (has_at_least to z.objects e.value)) (sym valued) (value-here e m there the_map key))
+          let valued : after ≡ with_given to e m = ap (λ o. with_given_of to object o m) at_n ∙ ap (λ (b : Bool). elim b [ true ↦ with_given to e m | false ↦ m ]) has in
+          further-more Any after (with_all_given to es object n after) (any-values es object n after) j.value
+          (subst (λ (z : Marking). IsTrue (has_at_least to z.objects j.value)) (sym valued) (joints-here (joints_of e) m j among there the_map key))
 
   -- The first of those that wait leaves
 

@@ -14,7 +14,8 @@ use Rattle.cc_script.specs.Objects.{Object, AreWhole, colour_at, is_below, with_
 use Rattle.cc_script.specs.Staying.{StayThere}
 use Rattle.cc_script.specs.Walking.{slot_edges, edges}
 use Rattle.cc_weakmaps.specs.Entries.{KeyedEntry}
-use Rattle.cc_marking.specs.Marking.{AreEntriesThere, IsMarkedFrom, joints, keys_marked, black_keys, marked_keys, marked_from}
+use Rattle.cc_marking.specs.Marking.{AreEntriesThere, IsMarkedFrom, keys_marked, black_keys, marked_keys, marked_from}
+use Rattle.cc_marking.specs.Joints.{joints, rules_of}
 use Rattle.cc_marking.specs.Levels.{AreFollowed, AreOrdered, has_at_least, is_at_least, is_due, keys_at_least}
 use Rattle.cc_marking.proofs.There.{AreThere, StayThere-raised, StayThere-whitened}
 use Rattle.cc_marking.proofs.Painting.{painted, painted-alike, painted-twice}
@@ -24,7 +25,7 @@ use Rattle.cc_marking.proofs.Marks.{marked-again, marked-alike, marked-decided, 
 
 -- objects that hold the same have the same lists of what is marked
 keys_marked-alike : (old new : List Object) (entries : List KeyedEntry) (keys : List ℕ) → edges new ≡ edges old → keys_marked new entries keys ≡ keys_marked old entries keys
-keys_marked-alike old new entries keys same = ap (λ es. closure ◌==◌ (system keys es (joints entries))) same
+keys_marked-alike old new entries keys same = ap (λ es. closure ◌==◌ (system keys es (rules_of (joints entries)))) same
 
 -- WHITE OBJECTS, what first roots then raise to black, and what second roots then raise to gray
 
@@ -64,9 +65,9 @@ module _ (objects : List Object) (white : List Object) (cleared : white ≡ whit
 
   -- none of them is due
   pub AreFollowed-white : (to : Colour) → is_below White to ≡ true → (entries : List KeyedEntry) → AreFollowed to white entries
-  AreFollowed-white to above entries e m =
-      ap (λ b. (b && has_at_least to white e.key) && not (has_at_least to white e.value))
-      (ap (λ os. has_at_least to os e.the_map) cleared ∙ white-not_at_least to above objects e.the_map)
+  AreFollowed-white to above entries j m =
+      ap (λ b. (b && has_at_least to white j.key) && not (has_at_least to white j.value))
+      (ap (λ os. has_at_least to os j.the_map) cleared ∙ white-not_at_least to above objects j.the_map)
 
 module _ (objects : List Object) (entries : List KeyedEntry) (blacks : List ℕ) (white now : List Object) (cleared : white ≡ whitened objects)
     (blackened : now ≡ raised_among (keys_marked white entries (keys_at_least Black white ++ blacks)) Black white) where
@@ -107,7 +108,7 @@ module _ (objects : List Object) (entries : List KeyedEntry) (blacks : List ℕ)
 
   -- So no entry is due to gray,
   pub AreFollowed-black : AreWhole objects → AreEntriesThere objects entries → AreThere blacks objects → AreFollowed Gray now entries
-  AreFollowed-black whole there live e m = go (has_at_least Gray now e.the_map && has_at_least Gray now e.key) refl
+  AreFollowed-black whole there live j m = go (has_at_least Gray now j.the_map && has_at_least Gray now j.key) refl
     where
       is_black : (key : ℕ) → IsTrue (has_at_least Gray now key) → IsMarkedFrom objects entries blacks key
       is_black key h = (marked-decided objects entries blacks key).0 (has-there ◌==◌ number-exact black key (gray_before key (at_least-listed Gray now key h)))
@@ -117,13 +118,13 @@ module _ (objects : List Object) (entries : List KeyedEntry) (blacks : List ℕ)
       none true false e = refl
       none false c e = absurd (false≢true e)
 
-      go : (b : Bool) → (has_at_least Gray now e.the_map && has_at_least Gray now e.key) ≡ b → is_due Gray now e ≡ false
-      go false f = ap (λ b. b && not (has_at_least Gray now e.value)) f
+      go : (b : Bool) → (has_at_least Gray now j.the_map && has_at_least Gray now j.key) ≡ b → is_due Gray now j ≡ false
+      go false f = ap (λ b. b && not (has_at_least Gray now j.value)) f
       go true f =
-          let each = and_parts (has_at_least Gray now e.the_map) (has_at_least Gray now e.key) f in
-          let value = marked-value objects entries blacks e m (is_black e.the_map each.0) (is_black e.key each.1) in
-          let marked = has-among ◌==◌ number-exact black e.value ((marked-decided objects entries blacks e.value).1 value) in
-          none (has_at_least Gray now e.value) (has_at_least Gray now e.the_map && has_at_least Gray now e.key) (listed-at_least Gray now e.value (before_gray whole there live e.value marked))
+          let each = and_parts (has_at_least Gray now j.the_map) (has_at_least Gray now j.key) f in
+          let value = marked-value objects entries blacks j m (is_black j.the_map each.0) (is_black j.key each.1) in
+          let marked = has-among ◌==◌ number-exact black j.value ((marked-decided objects entries blacks j.value).1 value) in
+          none (has_at_least Gray now j.value) (has_at_least Gray now j.the_map && has_at_least Gray now j.key) (listed-at_least Gray now j.value (before_gray whole there live j.value marked))
 
   module _ (grays : List ℕ) (whole : AreWhole objects) (there : AreEntriesThere objects entries) (live : AreThere blacks objects) where
     abbrev gray_from : List ℕ

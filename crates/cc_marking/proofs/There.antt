@@ -29,4 +29,5 @@ module _ (old new : List Object) (stay : StayThere old new) where
     the_map = stay e.the_map (there e m).the_map;
     key = stay e.key (there e m).key;
     value = stay e.value (there e m).value;
+    delegate = λ d is. stay d ((there e m).delegate d is);
   }

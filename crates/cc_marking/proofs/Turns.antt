@@ -3,15 +3,16 @@ use Rattle.std.specs.Prelude.{slice_get}
 use Rattle.std.proofs.Common.{◌≡◌, ℕ, zero, suc, ◌+◌, ◌<◌, ◌≤◌, Bool, true, false, ◌&&◌, List, [], ◌∷◌, length, Option, Some, None, option_map, refl, sym, ◌∙◌, ap, subst, inr, arith, count_by}
 use Rattle.cc_lists.specs.Members.{Among}
 use Rattle.cc_names.specs.declared.kind.Colour.{Colour}
-use Rattle.cc_script.specs.Objects.{AreWhole, is_there, slots_at}
+use Rattle.cc_script.specs.Objects.{AreWhole, is_there, places_at}
 use Rattle.cc_script.specs.Marking.{Marking, raise_key, raise_each, to_do}
 use Rattle.cc_script.specs.Underway.{Underway, marks_of, started, with_first_looked_into}
 use Rattle.cc_script.proofs.Raising.{raise_key-spends, raise_each-spends}
 use Rattle.cc_weakmaps.specs.Entries.{KeyedEntry}
 use Rattle.cc_weakmaps.specs.Index.{has_object, IsPlaceOf, place_below}
 use Rattle.cc_weakmaps.proofs.Below.{below-last}
+use Rattle.cc_marking.specs.Joints.{Joint, joints_of}
 use Rattle.cc_marking.specs.Levels.{has_at_least}
-use Rattle.cc_marking.specs.Looking.{with_all_started, with_value, with_value_of, with_values}
+use Rattle.cc_marking.specs.Looking.{with_all_started, with_all_given, with_given, with_given_of, with_joint, with_joints}
 use Rattle.cc_marking.proofs.Looked.{count_below, count-all, count-next, count-none}
 use Rattle.cc_marking.proofs.There.{AreThere}
 
@@ -41,37 +42,37 @@ starting-done all u left v none h = sym (ap (λ ks. with_all_started u.to ks (ma
 
 -- at its next place, and where there is none
 pub values-next : (to : Colour) (es : List KeyedEntry) (object n i : ℕ) (e : KeyedEntry) (m : Marking) → place_below es object n ≡ Some i → slice_get es i ≡ Some e →
-    with_values to es object n m ≡ with_values to es object i (with_value to e m)
+    with_all_given to es object n m ≡ with_all_given to es object i (with_given to e m)
 values-next to es object zero i e m f at = absurd (cc)
 values-next to es object (suc n) i e m f at = go (slice_get es n) refl (λ g. values-next to es object n i e m g at) f
   where
-    go : (o : Option KeyedEntry) → slice_get es n ≡ o → (place_below es object n ≡ Some i → with_values to es object n m ≡ with_values to es object i (with_value to e m)) →
+    go : (o : Option KeyedEntry) → slice_get es n ≡ o → (place_below es object n ≡ Some i → with_all_given to es object n m ≡ with_all_given to es object i (with_given to e m)) →
         ◌≡◌ {A = Option ℕ} (elim (option_map (has_object object) o) [ None ↦ place_below es object n | Some b ↦ elim b [ true ↦ Some n | false ↦ place_below es object n ] ]) (Some i) →
-        with_values to es object n (with_value_of to object o m) ≡ with_values to es object i (with_value to e m)
+        with_all_given to es object n (with_given_of to object o m) ≡ with_all_given to es object i (with_given to e m)
     go None q ih g = ih g
     go (Some d) q ih g = each (has_object object d) g
       where
         each : (b : Bool) → ◌≡◌ {A = Option ℕ} (elim b [ true ↦ Some n | false ↦ place_below es object n ]) (Some i) →
-            with_values to es object n (elim b [ true ↦ with_value to d m | false ↦ m ]) ≡ with_values to es object i (with_value to e m)
+            with_all_given to es object n (elim b [ true ↦ with_given to d m | false ↦ m ]) ≡ with_all_given to es object i (with_given to e m)
         each true h =
             let same : n ≡ i = cc in
             let found : Some d ≡ Some e = sym q ∙ (ap (slice_get es) same ∙ at) in
             let it : d ≡ e = cc in
-            ap (λ k. with_values to es object k (with_value to d m)) same ∙ ap (λ k. with_values to es object i (with_value to k m)) it
+            ap (λ k. with_all_given to es object k (with_given to d m)) same ∙ ap (λ k. with_all_given to es object i (with_given to k m)) it
         each false h = ih h
 
-pub values-none : (to : Colour) (es : List KeyedEntry) (object n : ℕ) (m : Marking) → place_below es object n ≡ None → with_values to es object n m ≡ m
+pub values-none : (to : Colour) (es : List KeyedEntry) (object n : ℕ) (m : Marking) → place_below es object n ≡ None → with_all_given to es object n m ≡ m
 values-none to es object zero m e = refl
 values-none to es object (suc n) m e = go (slice_get es n) (values-none to es object n m) e
   where
-    go : (o : Option KeyedEntry) → (place_below es object n ≡ None → with_values to es object n m ≡ m) →
+    go : (o : Option KeyedEntry) → (place_below es object n ≡ None → with_all_given to es object n m ≡ m) →
         ◌≡◌ {A = Option ℕ} (elim (option_map (has_object object) o) [ None ↦ place_below es object n | Some b ↦ elim b [ true ↦ Some n | false ↦ place_below es object n ] ]) None →
-        with_values to es object n (with_value_of to object o m) ≡ m
+        with_all_given to es object n (with_given_of to object o m) ≡ m
     go None ih f = ih f
     go (Some d) ih f = each (has_object object d) f
       where
         each : (b : Bool) → ◌≡◌ {A = Option ℕ} (elim b [ true ↦ Some n | false ↦ place_below es object n ]) None →
-            with_values to es object n (elim b [ true ↦ with_value to d m | false ↦ m ]) ≡ m
+            with_all_given to es object n (elim b [ true ↦ with_given to d m | false ↦ m ]) ≡ m
         each true g = absurd (cc)
         each false g = ih g
 
@@ -79,7 +80,7 @@ values-none to es object (suc n) m e = go (slice_get es n) (values-none to es ob
 pub record IsLooking (to : Colour) (es : List KeyedEntry) (object : ℕ) (u : Underway) (before : ℕ) (v : Underway) (now : ℕ) (place : Option ℕ) : Type 0 where
   pub n : ℕ
   pub last : place ≡ place_below es object n
-  pub valued : with_values to es object n (marks_of v) ≡ with_values to es object (length es) (marks_of u)
+  pub valued : with_all_given to es object n (marks_of v) ≡ with_all_given to es object (length es) (marks_of u)
   pub steps : now + count_below es object n ≡ before + count_by (has_object object) es
   pub colour : v.to ≡ u.to
   pub there : (k : ℕ) → is_there v.objects k ≡ is_there u.objects k
@@ -103,12 +104,12 @@ module _ (to : Colour) (es : List KeyedEntry) (object : ℕ) (u : Underway) (bef
 
   -- its entry was looked at
   pub looking-next : (v : Underway) (now : ℕ) (place : Option ℕ) (i : ℕ) → place ≡ Some i → (e : KeyedEntry) (w : Underway) (next : Option ℕ) → slice_get es i ≡ Some e → next ≡ place_below es object i →
-      marks_of w ≡ with_value to e (marks_of v) → w.to ≡ v.to → ((k : ℕ) → is_there w.objects k ≡ is_there v.objects k) → AreWhole w.objects →
+      marks_of w ≡ with_given to e (marks_of v) → w.to ≡ v.to → ((k : ℕ) → is_there w.objects k ≡ is_there v.objects k) → AreWhole w.objects →
       IsLooking to es object u before v now place → IsLooking to es object u before w (now + 1) next
   looking-next v now place i is e w next at further valued colour there whole h = record {
     n = i;
     last = further;
-    valued = ap (with_values to es object i) valued ∙ (sym (values-next to es object h.n i e (marks_of v) (sym h.last ∙ is) at) ∙ h.valued);
+    valued = ap (with_all_given to es object i) valued ∙ (sym (values-next to es object h.n i e (marks_of v) (sym h.last ∙ is) at) ∙ h.valued);
     steps = let so_far = h.steps in let one = count-next es object h.n i (sym h.last ∙ is) in omega (arith, so_far, one);
     colour = colour ∙ h.colour;
     there = λ k. there k ∙ h.there k;
@@ -117,7 +118,7 @@ module _ (to : Colour) (es : List KeyedEntry) (object : ℕ) (u : Underway) (bef
 
   -- all were
   pub looking-done : (v : Underway) (now : ℕ) (place : Option ℕ) → place ≡ None → IsLooking to es object u before v now place →
-      (marks_of v ≡ with_values to es object (length es) (marks_of u)) × (now ≡ before + count_by (has_object object) es)
+      (marks_of v ≡ with_all_given to es object (length es) (marks_of u)) × (now ≡ before + count_by (has_object object) es)
   looking-done v now place is h = (
     sym (values-none to es object h.n (marks_of v) (sym h.last ∙ is)) ∙ h.valued,
     let so_far = h.steps in let none = count-none es object h.n (sym h.last ∙ is) in omega (arith, so_far, none),
@@ -125,31 +126,38 @@ module _ (to : Colour) (es : List KeyedEntry) (object : ℕ) (u : Underway) (bef
 
 -- WHERE NONE WAITS nothing is looked into
 pub none-looked : (to : Colour) (m : Marking) → m.waiting ≡ [] → with_first_looked_into to m ≡ m
-none-looked to m none = ap (λ (ks : List ℕ). elim ks [ [] ↦ m | key ∷ rest ↦ raise_each to (slots_at m.objects key) (record { objects = m.objects; waiting = rest }) ]) none
+none-looked to m none = ap (λ (ks : List ℕ). elim ks [ [] ↦ m | key ∷ rest ↦ raise_each to (places_at m.objects key) (record { objects = m.objects; waiting = rest }) ]) none
 
 -- WHAT IS LEFT TO BE DONE
 
-value-spends : (to : Colour) (object : ℕ) (o : Option KeyedEntry) (m : Marking) → to_do to (with_value_of to object o m) ≤ to_do to m
+joint-spends : (to : Colour) (j : Joint) (m : Marking) → to_do to (with_joint to j m) ≤ to_do to m
+joint-spends to j m = each (has_at_least to m.objects j.the_map && has_at_least to m.objects j.key)
+  where
+    each : (b : Bool) → to_do to (elim b [ true ↦ raise_key to j.value m | false ↦ m ]) ≤ to_do to m
+    each true = raise_key-spends to j.value m
+    each false = omega arith
+
+joints-spend : (to : Colour) (js : List Joint) (m : Marking) → to_do to (with_joints to js m) ≤ to_do to m
+joints-spend to [] m = omega arith
+joints-spend to (j ∷ js) m = omega (arith, joints-spend to js (with_joint to j m), joint-spends to j m)
+
+value-spends : (to : Colour) (object : ℕ) (o : Option KeyedEntry) (m : Marking) → to_do to (with_given_of to object o m) ≤ to_do to m
 value-spends to object None m = omega arith
 value-spends to object (Some e) m = go (has_object object e)
   where
-    go : (b : Bool) → to_do to (elim b [ true ↦ with_value to e m | false ↦ m ]) ≤ to_do to m
-    go true = each (has_at_least to m.objects e.the_map && has_at_least to m.objects e.key)
-      where
-        each : (b : Bool) → to_do to (elim b [ true ↦ raise_key to e.value m | false ↦ m ]) ≤ to_do to m
-        each true = raise_key-spends to e.value m
-        each false = omega arith
+    go : (b : Bool) → to_do to (elim b [ true ↦ with_given to e m | false ↦ m ]) ≤ to_do to m
+    go true = joints-spend to (joints_of e) m
     go false = omega arith
 
-pub values-spend : (to : Colour) (es : List KeyedEntry) (object n : ℕ) (m : Marking) → to_do to (with_values to es object n m) ≤ to_do to m
+pub values-spend : (to : Colour) (es : List KeyedEntry) (object n : ℕ) (m : Marking) → to_do to (with_all_given to es object n m) ≤ to_do to m
 values-spend to es object zero m = omega arith
-values-spend to es object (suc n) m = omega (arith, values-spend to es object n (with_value_of to object (slice_get es n) m), value-spends to object (slice_get es n) m)
+values-spend to es object (suc n) m = omega (arith, values-spend to es object n (with_given_of to object (slice_get es n) m), value-spends to object (slice_get es n) m)
 
 -- less, once one more was looked into
 pub turn-spends : (to : Colour) (es : List KeyedEntry) (m : Marking) (key : ℕ) (rest : List ℕ) → m.waiting ≡ key ∷ rest → (n : Marking) →
-    n ≡ with_values to es key (length es) (raise_each to (slots_at m.objects key) (record { objects = m.objects; waiting = rest })) → to_do to n < to_do to m
+    n ≡ with_all_given to es key (length es) (raise_each to (places_at m.objects key) (record { objects = m.objects; waiting = rest })) → to_do to n < to_do to m
 turn-spends to es m key rest front n e =
-    let after = raise_each to (slots_at m.objects key) (record { objects = m.objects; waiting = rest }) in
-    let last : to_do to n ≡ to_do to (with_values to es key (length es) after) = ap (to_do to) e in
+    let after = raise_each to (places_at m.objects key) (record { objects = m.objects; waiting = rest }) in
+    let last : to_do to n ≡ to_do to (with_all_given to es key (length es) after) = ap (to_do to) e in
     let waits : length m.waiting ≡ suc (length rest) = ap length front in
-    omega (arith, last, waits, values-spend to es key (length es) after, raise_each-spends to (slots_at m.objects key) (record { objects = m.objects; waiting = rest }))
+    omega (arith, last, waits, values-spend to es key (length es) after, raise_each-spends to (places_at m.objects key) (record { objects = m.objects; waiting = rest }))

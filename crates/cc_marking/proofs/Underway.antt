@@ -2,27 +2,29 @@
 -- each look at an entry leaves one side of it less. Where none waits any more, all that a mark comes to was raised.
 use Rattle.std.specs.Prelude.{IsTrue}
 use Rattle.std.proofs.Common.{◌≡◌, ℕ, ◌+◌, ◌≤◌, ◌==◌, Bool, true, false, not, cond, ◌||◌, ◌&&◌, List, [], ◌∷◌, ◌++◌, length, Option, Some, None, refl, sym, ◌∙◌, ap, subst, inl, inr, ◌⊎◌, ⊎_elim, arith, count_by}
-use Rattle.std.proofs.lemmas.Bool.{and_from, cases_Bool, or_cases, true≢false, eq-eqb, eqb-true, or_right}
+use Rattle.std.proofs.lemmas.Bool.{and_from, cases_Bool, or_cases, true≢false, eqb-true}
 use Rattle.std.proofs.lemmas.Option.{slice_get_within}
 use Rattle.cc_lists.specs.Members.{Among, has}
 use Rattle.cc_lists.proofs.ListWrites.{map-agree}
 use Rattle.cc_lists.proofs.Members.{Among-append, Among-left, Among-right}
 use Rattle.cc_lists.proofs.Places.{among-place}
 use Rattle.cc_names.specs.declared.kind.Colour.{Colour}
-use Rattle.cc_script.specs.Objects.{Object, HaveOwnKeys, object_at, is_there, slots_at, slots_or_none, is_below, raised, raised_among}
+use Rattle.cc_script.specs.Objects.{Object, HaveOwnKeys, object_at, is_there, places_at, places_or_none, is_below, raised, raised_among}
 use Rattle.cc_script.specs.Marking.{Marking, raise_each}
 use Rattle.cc_script.specs.Walking.{edges}
 use Rattle.cc_script.proofs.Colours.{not_below-self, raised-same}
 use Rattle.cc_script.proofs.Keys.{object_at-among, object_at-key}
-use Rattle.cc_script.proofs.Raising.{slots_at-kept}
+use Rattle.cc_script.proofs.Raising.{places_at-kept}
 use Rattle.cc_script.proofs.Reaching.{edge-slot, slot-edge}
-use Rattle.cc_script.proofs.Walks.{risen, risen-key, risen-slots}
+use Rattle.cc_script.proofs.Walks.{risen, risen-key, risen-places}
 use Rattle.cc_script.proofs.Wholeness.{there-raised}
 use Rattle.cc_weakmaps.specs.Entries.{KeyedEntry}
 use Rattle.cc_weakmaps.specs.Index.{has_object}
+use Rattle.cc_marking.specs.Joints.{Joint, joints, joints_of}
 use Rattle.cc_marking.specs.Levels.{AreFollowed, AreOrdered, has_at_least, is_at_least, keys_at_least}
-use Rattle.cc_marking.specs.Looking.{sides_left, with_all_started, with_values}
+use Rattle.cc_marking.specs.Looking.{sides_left, with_all_started, with_all_given}
 use Rattle.cc_marking.specs.Marking.{AreEntriesThere, IsMarkedFrom, keys_marked}
+use Rattle.cc_marking.proofs.Joints.{entry-joint, joint-entry, joint-gives, joint-has_key, joint-has_map, joint-there}
 use Rattle.cc_marking.proofs.Levels.{at_least-cases, at_least-kept, at_least-listed, at_least-risen, listed-at_least, member-there}
 use Rattle.cc_marking.proofs.Looked.{sides-fewer, sides-less}
 use Rattle.cc_marking.proofs.Marks.{marked-along, marked-decided, marked-root, marked-value, marked-within}
@@ -44,12 +46,12 @@ module _ (to : Colour) (entries : List KeyedEntry) (old : List Object) (roots : 
     pub tidy : IsTidy to m
     pub have : AllHave to IsFrom m
     pub closed : (x y : ℕ) → Among (x, y) (edges old) → IsTrue (looked to m x) → IsTrue (has_at_least to m.objects y)
-    pub followed : (e : KeyedEntry) → Among e entries → IsTrue (looked to m e.the_map) → IsTrue (looked to m e.key) → IsTrue (has_at_least to m.objects e.value)
+    pub followed : (j : Joint) → Among j (joints entries) → IsTrue (looked to m j.the_map) → IsTrue (looked to m j.key) → IsTrue (has_at_least to m.objects j.value)
     pub rooted : (key : ℕ) → Among key roots → IsTrue (has_at_least to m.objects key)
     pub few : now + sides_left (looked to m) entries ≤ before + sides_left (has_at_least to old) entries
 
-  -- an entry whose map and key have the colour has given it to its value, where none is due
-  pub followed-value : (objects : List Object) → AreFollowed to objects entries → (e : KeyedEntry) → Among e entries →
+  -- a joint of which the first two have the colour has given it to the third, where none is due
+  pub followed-value : (objects : List Object) → AreFollowed to objects entries → (e : Joint) → Among e (joints entries) →
       IsTrue (has_at_least to objects e.the_map) → IsTrue (has_at_least to objects e.key) → IsTrue (has_at_least to objects e.value)
   followed-value objects followed e m the_map key = ⊎_elim
       (λ t. t)
@@ -102,40 +104,40 @@ module _ (to : Colour) (entries : List KeyedEntry) (old : List Object) (roots : 
     gone = record { objects = m.objects; waiting = rest }
 
     abbrev slotted : Marking
-    slotted = raise_each to (slots_at m.objects key) gone
+    slotted = raise_each to (places_at m.objects key) gone
 
     abbrev valued : Marking
-    valued = with_values to entries key (length entries) slotted
+    valued = with_all_given to entries key (length entries) slotted
 
     there_still : (q : ℕ) → is_there m.objects q ≡ is_there old q
     there_still q = ap (λ os. is_there os q) u.raised ∙ there-raised u.keys to old q
 
-    slots_still : slots_at m.objects key ≡ slots_at old key
-    slots_still = ap (λ os. slots_at os key) u.raised ∙ slots_at-kept (risen u.keys to) (risen-key u.keys to) (risen-slots u.keys to) old key
+    places_still : places_at m.objects key ≡ places_at old key
+    places_still = ap (λ os. places_at os key) u.raised ∙ places_at-kept (risen u.keys to) (risen-key u.keys to) (risen-places u.keys to) old key
 
     -- what the slots hold, an edge leads to, and the other way round
-    slot-leads : (q : ℕ) → Among (Some q) (slots_at m.objects key) → Among (key, q) (edges old)
-    slot-leads q n = go (object_at old key) refl (subst (Among (Some q)) slots_still n)
+    place-leads : (q : ℕ) → Among (Some q) (places_at m.objects key) → Among (key, q) (edges old)
+    place-leads q n = go (object_at old key) refl (subst (Among (Some q)) places_still n)
       where
-        go : (o : Option Object) → object_at old key ≡ o → Among (Some q) (slots_or_none o) → Among (key, q) (edges old)
+        go : (o : Option Object) → object_at old key ≡ o → Among (Some q) (places_or_none o) → Among (key, q) (edges old)
         go None e held = absurd held
         go (Some o) e held = subst (λ k. Among (k, q) (edges old)) (object_at-key old key o e) (slot-edge old o q (object_at-among old key o e) held)
 
-    edge-held : (q : ℕ) → Among (key, q) (edges old) → Among (Some q) (slots_at m.objects key)
+    edge-held : (q : ℕ) → Among (key, q) (edges old) → Among (Some q) (places_at m.objects key)
     edge-held q edge =
         let f = edge-slot old key q edge in
         let at : object_at old key ≡ Some f.0 = subst (λ k. object_at old k ≡ Some f.0) f.2 (own f.0 f.1) in
-        subst (Among (Some q)) (sym (slots_still ∙ ap slots_or_none at)) f.3
+        subst (Among (Some q)) (sym (places_still ∙ ap places_or_none at)) f.3
 
-    slot-there : (q : ℕ) → Among (Some q) (slots_at m.objects key) → IsTrue (is_there m.objects q)
-    slot-there q n = let f = edge-slot old key q (slot-leads q n) in there_still q ∙ ordered.whole f.0 q f.1 f.3
+    place-there : (q : ℕ) → Among (Some q) (places_at m.objects key) → IsTrue (is_there m.objects q)
+    place-there q n = let f = edge-slot old key q (place-leads q n) in there_still q ∙ ordered.whole f.0 q f.1 f.3
 
     here : IsTrue (has_at_least to m.objects key)
     here = u.tidy.risen key (subst (Among key) (sym front) (inl refl))
 
     -- further over slots, and then over entries
     over_slots : IsFurther to IsFrom gone slotted
-    over_slots = further-slots to IsFrom (slots_at m.objects key) gone (λ q n. marked-along old entries from_all key q (slot-leads q n) (u.have key here))
+    over_slots = further-slots to IsFrom (places_at m.objects key) gone (λ q n. marked-along old entries from_all key q (place-leads q n) (u.have key here))
 
     over_entries : IsFurther to IsFrom slotted valued
     over_entries = further-values to IsFrom entries (λ e a. marked-value old entries from_all e a) entries (λ e a. a) key (length entries) slotted (over_slots.have u.have)
@@ -153,26 +155,24 @@ module _ (to : Colour) (entries : List KeyedEntry) (old : List Object) (roots : 
     looked-cases : (j : ℕ) → IsTrue (looked to valued j) → IsTrue (looked to m j) ⊎ (key ≡ j)
     looked-cases j h = ⊎_elim (λ a. inl a) (λ b. inr (eqb-true key j b)) (or_cases (looked to m j) (key == j) (sym (now_looked j) ∙ h))
 
-    -- an entry that has it was looked at
-    looked-value : (e : KeyedEntry) → Among e entries → has_object key e ≡ true → IsTrue (looked to valued e.the_map) → IsTrue (looked to valued e.key) → IsTrue (has_at_least to valued.objects e.value)
-    looked-value e a has the_map key_looked =
+    -- a joint of an entry that has it was looked at
+    looked-value : (e : KeyedEntry) (j : Joint) → Among e entries → Among j (joints_of e) → has_object key e ≡ true →
+        IsTrue (looked to valued j.the_map) → IsTrue (looked to valued j.key) → IsTrue (has_at_least to valued.objects j.value)
+    looked-value e j a n has the_map key_looked =
         let at = among-place e entries a in
-        values-here to entries key (length entries) slotted at.0 e (slice_get_within entries at.0 e at.1) at.1 has
-        (further-there to IsFrom gone slotted over_slots e.value ∙ (there_still e.value ∙ (there e a).value))
-        (sym (over_entries.looked e.the_map) ∙ the_map)
-        (sym (over_entries.looked e.key) ∙ key_looked)
+        values-here to entries key (length entries) slotted at.0 e j n (slice_get_within entries at.0 e at.1) at.1 has
+        (further-there to IsFrom gone slotted over_slots j.value ∙ (there_still j.value ∙ joint-there old entries there j (entry-joint entries e j a n)))
+        (sym (over_entries.looked j.the_map) ∙ the_map)
+        (sym (over_entries.looked j.key) ∙ key_looked)
 
-    -- another one was before
-    other-value : (e : KeyedEntry) → Among e entries → has_object key e ≡ false → IsTrue (looked to valued e.the_map) → IsTrue (looked to valued e.key) → IsTrue (has_at_least to valued.objects e.value)
-    other-value e a lacks the_map key_looked = more e.value (u.followed e a
-        (⊎_elim (λ h. h) (λ s. absurd (true≢false (sym (map-has s) ∙ lacks))) (looked-cases e.the_map the_map))
-        (⊎_elim (λ h. h) (λ s. absurd (true≢false (sym (key-has s) ∙ lacks))) (looked-cases e.key key_looked)))
-      where
-        map-has : key ≡ e.the_map → has_object key e ≡ true
-        map-has s = ap (λ b. b || e.key == key) (eq-eqb e.the_map key (sym s))
-
-        key-has : key ≡ e.key → has_object key e ≡ true
-        key-has s = ap (λ b. e.the_map == key || b) (eq-eqb e.key key (sym s)) ∙ or_right (e.the_map == key) true refl
+    -- one of another was before
+    other-value : (e : KeyedEntry) (j : Joint) → Among e entries → Among j (joints_of e) → has_object key e ≡ false →
+        IsTrue (looked to valued j.the_map) → IsTrue (looked to valued j.key) → IsTrue (has_at_least to valued.objects j.value)
+    other-value e j a n lacks the_map key_looked =
+        let gives = joint-gives e j n in
+        more j.value (u.followed j (entry-joint entries e j a n)
+        (⊎_elim (λ h. h) (λ s. absurd (true≢false (sym (joint-has_map e j key gives s) ∙ lacks))) (looked-cases j.the_map the_map))
+        (⊎_elim (λ h. h) (λ s. absurd (true≢false (sym (joint-has_key e j key gives s) ∙ lacks))) (looked-cases j.key key_looked)))
 
     pub under_way-turns : (n : Marking) → n ≡ valued → IsUnderWay before (now + count_by (has_object key) entries) n
     under_way-turns n e = subst (IsUnderWay before (now + count_by (has_object key) entries)) (sym e) (record {
@@ -183,12 +183,14 @@ module _ (to : Colour) (entries : List KeyedEntry) (old : List Object) (roots : 
       closed = λ x y edge h. ⊎_elim
           (λ was. more y (u.closed x y edge was))
           (λ s. further-more to IsFrom slotted valued over_entries y
-          (slots-here to (slots_at m.objects key) gone slot-there y (edge-held y (subst (λ z. Among (z, y) (edges old)) (sym s) edge))))
+          (slots-here to (places_at m.objects key) gone place-there y (edge-held y (subst (λ z. Among (z, y) (edges old)) (sym s) edge))))
           (looked-cases x h);
-      followed = λ d a the_map key_looked. ⊎_elim
-          (λ has. looked-value d a has the_map key_looked)
-          (λ lacks. other-value d a lacks the_map key_looked)
-          (cases_Bool (has_object key d));
+      followed = λ j a the_map key_looked.
+          let f = joint-entry entries j a in
+          ⊎_elim
+          (λ has. looked-value f.0 j f.1 f.2 has the_map key_looked)
+          (λ lacks. other-value f.0 j f.1 f.2 lacks the_map key_looked)
+          (cases_Bool (has_object key f.0));
       rooted = λ k a. more k (u.rooted k a);
       few =
           let fewer = sides-fewer (looked to m) (looked to valued) key entries (front-waits to m key rest front u.tidy) now_looked in
@@ -218,7 +220,7 @@ module _ (to : Colour) (entries : List KeyedEntry) (old : List Object) (roots : 
         along : (x y : ℕ) → Among (x, y) (edges old) → IsTrue (has_at_least to m.objects x) → IsTrue (has_at_least to m.objects y)
         along x y edge h = u.closed x y edge (looked_all x ∙ h)
 
-        value : (e : KeyedEntry) → Among e entries → IsTrue (has_at_least to m.objects e.the_map) → IsTrue (has_at_least to m.objects e.key) → IsTrue (has_at_least to m.objects e.value)
+        value : (e : Joint) → Among e (joints entries) → IsTrue (has_at_least to m.objects e.the_map) → IsTrue (has_at_least to m.objects e.key) → IsTrue (has_at_least to m.objects e.value)
         value e a the_map key = u.followed e a (looked_all e.the_map ∙ the_map) (looked_all e.key ∙ key)
 
     abbrev marks : List ℕ

@@ -1,3 +1,4 @@
+pub mod Joints
 pub mod Marking
 pub mod Levels
 pub mod Looking

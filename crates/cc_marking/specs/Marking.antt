@@ -1,24 +1,17 @@
--- WHAT A MARKING LEAVES BLACK, GRAY AND WHITE, by keys, for two lists of roots: over slots, and over the entries of weak
--- maps.
-use Rattle.std.specs.Prelude.{◌≡◌, ◌↔◌, IsTrue, ℕ, ◌==◌, List, [], ◌∷◌, ◌++◌, map}
+-- WHAT A MARKING LEAVES BLACK, GRAY AND WHITE, by keys, for two lists of roots: over slots, from proxies to their delegates,
+-- and over the entries of weak maps.
+use Rattle.std.specs.Prelude.{◌≡◌, ◌↔◌, IsTrue, ℕ, ◌==◌, List, ◌++◌, Some}
 use Rattle.cc_lists.specs.Members.{Among}
 use Rattle.cc_lists.specs.Least.{Rule, Least, system, closure}
 use Rattle.cc_names.specs.declared.kind.Colour.TheVariants.{Gray, Black}
-use Rattle.cc_names.specs.Places.{entry_joint}
-use Rattle.cc_script.specs.Objects.{Object, coloured_by, is_there}
+use Rattle.cc_script.specs.Objects.{Object, coloured_by, delegate_at, is_there}
 use Rattle.cc_script.specs.Walking.{edges}
 use Rattle.cc_weakmaps.specs.Entries.{KeyedEntry}
+use Rattle.cc_marking.specs.Joints.{Joint, joints, rules_of}
 
--- an entry as a rule: map and key together give the value
-abbrev pub joint : KeyedEntry → List ℕ × ℕ
-joint e = entry_joint e.the_map e.key e.value
-
-abbrev pub joints : List KeyedEntry → List (List ℕ × ℕ)
-joints es = map joint es
-
--- from these keys over slots and entries
+-- from these keys over slots, to delegates, and over entries
 abbrev pub mark_rules : List Object → List KeyedEntry → List ℕ → List (Rule ℕ)
-mark_rules objects entries keys = system keys (edges objects) (joints entries)
+mark_rules objects entries keys = system keys (edges objects) (rules_of (joints entries))
 
 -- THE SET of the keys that a mark from these keys comes to
 abbrev pub IsMarkedFrom : List Object → List KeyedEntry → List ℕ → ℕ → Type 0
@@ -46,11 +39,22 @@ pub record AreLeast (blacks grays : List ℕ) (entries : List KeyedEntry) (old n
   pub black : (o : Object) → Among o new → (o.colour ≡ Black) ↔ IsMarkedFrom old entries blacks o.key
   pub gray : (o : Object) → Among o new → (o.colour ≡ Gray) ↔ (IsMarkedFrom old entries (blacks ++ grays) o.key × (¬ (IsMarkedFrom old entries blacks o.key)))
 
+-- what a joint names is there
+pub record IsJointThere (objects : List Object) (j : Joint) : Type 0 where
+  pub the_map : IsTrue (is_there objects j.the_map)
+  pub key : IsTrue (is_there objects j.key)
+  pub value : IsTrue (is_there objects j.value)
+
 -- what an entry names is there
 pub record IsEntryThere (objects : List Object) (e : KeyedEntry) : Type 0 where
   pub the_map : IsTrue (is_there objects e.the_map)
   pub key : IsTrue (is_there objects e.key)
   pub value : IsTrue (is_there objects e.value)
+  pub delegate : (d : ℕ) → e.delegate ≡ Some d → IsTrue (is_there objects d)
 
 abbrev pub AreEntriesThere : List Object → List KeyedEntry → Type 0
 AreEntriesThere objects es = (e : KeyedEntry) → Among e es → IsEntryThere objects e
+
+-- the delegate that stands with an entry is that of its key, and none where the key has none
+abbrev pub AreDelegatesOfKeys : List Object → List KeyedEntry → Type 0
+AreDelegatesOfKeys objects es = (e : KeyedEntry) → Among e es → e.delegate ≡ delegate_at objects e.key

@@ -1,13 +1,14 @@
-//! The script objects marked from two lists of roots, over slots and over the entries of weak maps.
-ghost use Rattle.std.specs.Prelude.{◌≡◌, ◌+◌, ◌*◌, ◌≤◌, ℕ, not, [], ◌++◌, length, count_by, IsTrue};
+//! The script objects marked from two lists of roots, over slots, to delegates, and over the entries of weak maps.
+ghost use Rattle.std.specs.Prelude.{◌≡◌, ◌+◌, ◌*◌, ◌≤◌, ℕ, not, [], ◌++◌, length, count_by, option_map, IsTrue};
 ghost use Rattle.cc_lists.specs.Members.{Among};
 ghost use Rattle.cc_script.specs.Objects.{AreWhole, is_below, is_there, raised_among};
 ghost use Rattle.cc_script.specs.Underway.{marks_of};
 ghost use Rattle.cc_weakmaps.specs.Entries.{entry};
+ghost use Rattle.cc_marking.specs.Joints.{joint};
 ghost use Rattle.cc_weakmaps.specs.Index.{has_object};
 ghost use Rattle.cc_marking.specs.Levels.{AreFollowed, AreOrdered, has_at_least, keys_at_least};
-ghost use Rattle.cc_marking.specs.Marking.{AreEntriesThere, AreLeast, IsEntryThere, keys_marked, marked_from};
-ghost use Rattle.cc_marking.specs.Looking.{sides_left, with_all_started, with_value, with_values};
+ghost use Rattle.cc_marking.specs.Marking.{AreDelegatesOfKeys, AreEntriesThere, AreLeast, IsEntryThere, IsJointThere, keys_marked, marked_from};
+ghost use Rattle.cc_marking.specs.Looking.{sides_left, with_all_given, with_all_started, with_given, with_joint};
 
 use crate::roots::Roots;
 use cc_names::{Colour, SKey};
@@ -37,13 +38,13 @@ fn start_each<R: Roots>(marking: &mut Marking, roots: &mut R)
     }
 }
 
-/// Looks at an entry: where map and key have at least the colour of the marking, `to`, its value has it from then on.
-// so an entry gives its value the lesser colour of its map and its key, and gives its key none
+/// Where map and key have at least the colour of the marking, `to`, the value has it from then on.
+// so the value gets the lesser colour of the two
 fn mark_value(marking: &mut Marking, to: Colour, the_map: SKey, key: SKey, value: SKey)
-    requires there { IsEntryThere marking.old.objects (entry the_map.0 key.0 value.0) }
+    requires there { IsJointThere marking.old.objects (joint the_map.0 key.0 value.0) }
     requires colour { to ≡ marking.old.to }
     requires whole { AreWhole marking.old.objects }
-    ensures valued { marks_of marking.new ≡ with_value to (entry the_map.0 key.0 value.0) (marks_of marking.old) }
+    ensures valued { marks_of marking.new ≡ with_joint to (joint the_map.0 key.0 value.0) (marks_of marking.old) }
     ensures colour { marking.new.to ≡ marking.old.to }
     ensures there { (k : ℕ) → is_there marking.new.objects k ≡ is_there marking.old.objects k }
     ensures whole { AreWhole marking.new.objects }
@@ -53,8 +54,33 @@ fn mark_value(marking: &mut Marking, to: Colour, the_map: SKey, key: SKey, value
     }
 }
 
-/// Looks at each entry whose map or key an object is, the last one first. Each takes one step.
-fn mark_values<L: Ledger>(
+/// Looks at an entry: its key gets the lesser colour of its map and its delegate, where it has one, and then its value that of
+/// its map and its key.
+// so an entry gives its own key a colour by its delegate alone, and none without the map's
+fn mark_entry(
+    marking: &mut Marking,
+    to: Colour,
+    the_map: SKey,
+    key: SKey,
+    delegate: Option<SKey>,
+    value: SKey,
+)
+    requires there { IsEntryThere marking.old.objects (entry the_map.0 key.0 (option_map (λ k. k.0) delegate) value.0) }
+    requires colour { to ≡ marking.old.to }
+    requires whole { AreWhole marking.old.objects }
+    ensures given { marks_of marking.new ≡ with_given to (entry the_map.0 key.0 (option_map (λ k. k.0) delegate) value.0) (marks_of marking.old) }
+    ensures colour { marking.new.to ≡ marking.old.to }
+    ensures there { (k : ℕ) → is_there marking.new.objects k ≡ is_there marking.old.objects k }
+    ensures whole { AreWhole marking.new.objects }
+{
+    if let Some(delegate) = delegate {
+        mark_value(marking, to, the_map, delegate, key);
+    }
+    mark_value(marking, to, the_map, key, value);
+}
+
+/// Looks at each entry whose map, key or delegate an object is, the last one first. Each takes one step.
+fn mark_entries<L: Ledger>(
     marking: &mut Marking,
     to: Colour,
     weak: &WeakMaps,
@@ -64,7 +90,7 @@ fn mark_values<L: Ledger>(
     requires entries { AreEntriesThere marking.old.objects weak.now }
     requires colour { to ≡ marking.old.to }
     requires whole { AreWhole marking.old.objects }
-    ensures valued { marks_of marking.new ≡ with_values to weak.now object.0 (length weak.now) (marks_of marking.old) }
+    ensures given { marks_of marking.new ≡ with_all_given to weak.now object.0 (length weak.now) (marks_of marking.old) }
     ensures colour { marking.new.to ≡ marking.old.to }
     ensures whole { AreWhole marking.new.objects }
     ensures steps { steps.new ≡ steps.old + count_by (has_object object.0) weak.now }
@@ -72,8 +98,8 @@ fn mark_values<L: Ledger>(
     let mut place = weak.first_with(object);
     while let Some(i) = place {
         steps.tick();
-        let (the_map, key, value) = weak.entry(i);
-        mark_value(marking, to, the_map, key, value);
+        let (the_map, key, delegate, value) = weak.entry(i);
+        mark_entry(marking, to, the_map, key, delegate, value);
         place = weak.next_with(object, i);
     }
 }
@@ -81,7 +107,7 @@ fn mark_values<L: Ledger>(
 /// Raises to at least the colour `to` what a mark over slots and entries comes to from the roots, and from all that has at
 /// least that colour. Of what has it before, all that a mark comes to has it too: it is not looked into again.
 ///
-/// It takes at most as many steps as entries have maps and keys that get the colour.
+/// It takes at most as many steps as entries have maps, keys and delegates that get the colour.
 fn mark_to<R: Roots, L: Ledger>(
     scripts: &mut Scripts,
     weak: &WeakMaps,
@@ -100,17 +126,18 @@ fn mark_to<R: Roots, L: Ledger>(
     let mut marking = scripts.start_marking(to);
     start_each(&mut marking, roots);
     while let Some(key) = marking.next_marked() {
-        mark_values(&mut marking, to, weak, key, steps);
+        mark_entries(&mut marking, to, weak, key, steps);
     }
     scripts.end_marking(marking);
 }
 
 /// Gives each script object its colour: black what a mark from `black` comes to, gray what else one from the black ones and
-/// `gray` comes to, white the rest. A mark goes over slots, and from a map and a key that are marked together to the value
-/// of their entry, which has at least the lesser of their two marks. Takes no memory, at any depth.
+/// `gray` comes to, white the rest. A mark goes over slots, from proxies to their delegates, and from a map and a key that
+/// are marked together to the value of their entry, which has at least the lesser of their two marks. So it goes too from a map
+/// and the delegate of an entry's key to the key. Takes no memory, at any depth.
 ///
-/// `steps` counts the entries that are looked at, each as often: when its map gets its mark and when its key does. So it
-/// takes at most twice as many steps as there are entries.
+/// `steps` counts the entries that are looked at, each as often: when its map gets its mark, when its key does, and when its
+/// key's delegate does. So it takes at most three times as many steps as there are entries.
 pub fn mark<B: Roots, G: Roots, L: Ledger>(
     scripts: &mut Scripts,
     weak: &WeakMaps,
@@ -121,12 +148,13 @@ pub fn mark<B: Roots, G: Roots, L: Ledger>(
     requires black { (key : ℕ) → Among key (B.left black.old) → IsTrue (is_there scripts.old key) }
     requires gray { (key : ℕ) → Among key (G.left gray.old) → IsTrue (is_there scripts.old key) }
     requires entries { AreEntriesThere scripts.old weak.now }
+    requires delegates { AreDelegatesOfKeys scripts.old weak.now }
     requires whole { AreWhole scripts.old }
     ensures colours { scripts.new ≡ marked_from (B.left black.old) (G.left gray.old) weak.now scripts.old }
     ensures least { AreLeast (B.left black.old) (G.left gray.old) weak.now scripts.old scripts.new }
     ensures black { B.left black.new ≡ [] }
     ensures gray { G.left gray.new ≡ [] }
-    ensures steps { steps.new ≤ steps.old + 2 * length weak.now }
+    ensures steps { steps.new ≤ steps.old + 3 * length weak.now }
 {
     scripts.clear_marks();
     mark_to(scripts, weak, black, Colour::Black, steps);

@@ -1,12 +1,12 @@
 use Rattle.std.proofs.Common.{◌≡◌, [], ◌∷◌, length, drop, sym, ◌∙◌, ap, subst}
 use Rattle.cc_names.specs.declared.kind.Colour.{Colour}
-use Rattle.cc_script.specs.Objects.{AreWhole, is_there, slots_at}
+use Rattle.cc_script.specs.Objects.{AreWhole, is_there, places_at}
 use Rattle.cc_script.specs.Marking.{Marking, raise_each}
 use Rattle.cc_script.specs.Underway.{Underway, marks_of, with_first_looked_into}
 use Rattle.cc_script.proofs.Popping.{front-popped, none-popped}
 use Rattle.cc_script.proofs.Underway.{first-looked}
 use Rattle.cc_script.proofs.Wholeness.{there-raised}
-use Rattle.cc_marking.specs.Looking.{with_all_started, with_values}
+use Rattle.cc_marking.specs.Looking.{with_all_started, with_all_given}
 use Rattle.cc_marking.proofs.There.{AreEntriesThere-stay}
 use Rattle.cc_marking.proofs.Turns.{none-looked, turn-spends}
 use Rattle.cc_marking.proofs.Underway.{IsUnderWay, under_way-begins, under_way-turns, under_way-ends, under_way-spent}
@@ -25,7 +25,7 @@ loop-key-init g c = (
 )
 
 -- the first of those that wait
-module _ (g : given.Over) (c : goal.After-mark_values g) where
+module _ (g : given.Over) (c : goal.After-mark_entries g) where
   abbrev m : Marking
   m = marks_of c.loop-key.marking
 
@@ -33,7 +33,7 @@ module _ (g : given.Over) (c : goal.After-mark_values g) where
   front = front-popped m.waiting c.in-Some.key.0 c.in-Some.ensures.first
 
   abbrev slotted : Marking
-  slotted = raise_each c.args.to (slots_at m.objects c.in-Some.key.0) (record { objects = m.objects; waiting = drop 1 m.waiting })
+  slotted = raise_each c.args.to (places_at m.objects c.in-Some.key.0) (record { objects = m.objects; waiting = drop 1 m.waiting })
 
   slotted-is : marks_of c.next_marked.new.self ≡ slotted
   slotted-is =
@@ -41,26 +41,26 @@ module _ (g : given.Over) (c : goal.After-mark_values g) where
       ∙ (ap (λ (to : Colour). with_first_looked_into to m) c.loop-key.invariant.1
       ∙ first-looked c.args.to m c.in-Some.key.0 (drop 1 m.waiting) front)
 
-  valued-is : marks_of c.mark_values.new.marking ≡ with_values c.args.to c.args.weak.now c.in-Some.key.0 (length c.args.weak.now) slotted
-  valued-is = c.mark_values.ensures.valued ∙ ap (with_values c.args.to c.args.weak.now c.in-Some.key.0 (length c.args.weak.now)) slotted-is
+  valued-is : marks_of c.mark_entries.new.marking ≡ with_all_given c.args.to c.args.weak.now c.in-Some.key.0 (length c.args.weak.now) slotted
+  valued-is = c.mark_entries.ensures.given ∙ ap (with_all_given c.args.to c.args.weak.now c.in-Some.key.0 (length c.args.weak.now)) slotted-is
 
-pub mark_values-requires-clause-entries : goal.mark_values-requires-clause-entries
-mark_values-requires-clause-entries g c =
+pub mark_entries-requires-clause-entries : goal.mark_entries-requires-clause-entries
+mark_entries-requires-clause-entries g c =
     let u = c.loop-key.invariant.0 in
     AreEntriesThere-stay c.args.scripts.now c.next_marked.new.self.objects
     (λ k h. c.in-Some.ensures.there k ∙ (ap (λ os. is_there os k) u.raised ∙ (there-raised u.keys c.args.to c.args.scripts.now k ∙ h))) c.args.weak.now c.requires.entries
 
 pub loop-key-smaller : goal.loop-key-smaller
 loop-key-smaller g c =
-    turn-spends c.args.to c.args.weak.now (m g c) c.in-Some.key.0 (drop 1 (m g c).waiting) (front g c) (marks_of c.mark_values.new.marking) (valued-is g c)
+    turn-spends c.args.to c.args.weak.now (m g c) c.in-Some.key.0 (drop 1 (m g c).waiting) (front g c) (marks_of c.mark_entries.new.marking) (valued-is g c)
 
 pub loop-key-preserved : goal.loop-key-preserved
 loop-key-preserved g c = (
-  subst (λ n. IsUnderWay c.args.to c.args.weak.now c.args.scripts.now (g.R.Roots.left c.args.roots.now) c.args.steps.now n (marks_of c.mark_values.new.marking)) (sym c.mark_values.ensures.steps)
+  subst (λ n. IsUnderWay c.args.to c.args.weak.now c.args.scripts.now (g.R.Roots.left c.args.roots.now) c.args.steps.now n (marks_of c.mark_entries.new.marking)) (sym c.mark_entries.ensures.steps)
       (under_way-turns c.args.to c.args.weak.now c.args.scripts.now (g.R.Roots.left c.args.roots.now) c.requires.ordered c.start_marking-marking.ensures.own c.requires.entries
-      c.args.steps.now c.loop-key.steps (m g c) c.loop-key.invariant.0 c.in-Some.key.0 (drop 1 (m g c).waiting) (front g c) (marks_of c.mark_values.new.marking) (valued-is g c)),
-  c.mark_values.ensures.colour ∙ (ap (λ (u : Underway). u.to) c.in-Some.ensures.looked ∙ c.loop-key.invariant.1),
-  c.mark_values.ensures.whole,
+      c.args.steps.now c.loop-key.steps (m g c) c.loop-key.invariant.0 c.in-Some.key.0 (drop 1 (m g c).waiting) (front g c) (marks_of c.mark_entries.new.marking) (valued-is g c)),
+  c.mark_entries.ensures.colour ∙ (ap (λ (u : Underway). u.to) c.in-Some.ensures.looked ∙ c.loop-key.invariant.1),
+  c.mark_entries.ensures.whole,
 )
 
 -- none waits

@@ -1,6 +1,6 @@
 use Rattle.cc_weakmaps.proofs.Sought.{places_left}
 use Rattle.cc_marking.proofs.Turns.{IsLooking}
-use Rattle.cc_marking.proofs.marking.mark_values.Given as goal
+use Rattle.cc_marking.proofs.marking.mark_entries.Given as goal
 
 abbrev pub invariant-loop-place : goal.invariant-loop-place
 invariant-loop-place g l = IsLooking l.to l.weak l.object.0 l.initial.marking l.initial.steps l.marking l.steps l.place
