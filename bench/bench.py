@@ -173,6 +173,43 @@ def mapping_chain_backwards(size):
     return scanned(entries_backwards(size))
 
 
+def proxies(size):
+    """A chain of proxies: each stands for the one before it, the first for a plain object. s1 holds the last."""
+    lines = ["script s1 0"]
+    for _ in range(1, size):
+        lines += ["proxy s2 s1", "copy s1 s2"]
+    return lines + ["drop s2"]
+
+
+def held_by_native(lines):
+    """What s1 holds is held by a native, which n0 holds, and by no script register, so a script collection makes it gray."""
+    return lines + ["native n0 1", "set n0 0 s1", "drop s1", "gc"]
+
+
+def proxy_chain(size):
+    """A chain of proxies whose last a register holds, so all live: script collections mark it."""
+    return Shape(proxies(size), ["gc"], 0, 0, times=64)
+
+
+def proxy_chain_exposed(size):
+    """A gray chain of proxies, exposed by its last, and made gray again."""
+    return Shape(held_by_native(proxies(size)), ["expose n0 0", "gc"], 0, 0, times=32)
+
+
+def proxy_chain_scanned(size):
+    """A gray chain of proxies, traversed and scanned by collections that follow each other."""
+    return Shape(held_by_native(proxies(size)), ["copy n1 n0", "drop n1", "collect"], 0, 0, times=8)
+
+
+def proxy_keys(size):
+    """One map whose keys are proxies of one object that lives. No register holds the proxies or their values: they live by
+    the map and the delegate alone. Script collections mark them."""
+    lines = ["weakmap s0", "script s1 0"]
+    for _ in range(size // 2):
+        lines += ["proxy s2 s1", "script s3 0", "wset s0 s2 s3"]
+    return Shape(lines + ["drop s2", "drop s3"], ["gc"], 0, 0, times=64)
+
+
 def live_chain_in_slices(size):
     """The live chain, a unit at a time with a command between: a begin, a unit for each suspect, and the end. What is
     divided by the objects is the time of one unit and that command."""
@@ -194,6 +231,10 @@ SHAPES = [
     ("chain of entries, marked against its order", entry_chain_backwards),
     ("chain of entries, scanned", mapping_chain),
     ("chain of entries, scanned against its order", mapping_chain_backwards),
+    ("chain of proxies, marked", proxy_chain),
+    ("chain of proxies, exposed", proxy_chain_exposed),
+    ("chain of proxies, scanned", proxy_chain_scanned),
+    ("keys that are proxies, marked", proxy_keys),
 ]
 
 

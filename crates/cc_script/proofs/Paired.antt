@@ -1,5 +1,4 @@
 -- A SLAB AND A LIST BESIDE IT: what is read at a key, and what a write of either changes.
-use Rattle.cc_lists.proofs.Held.{is_some-found}
 use Rattle.std.proofs.Common.{◌≡◌, ◌≢◌, ℕ, ◌<◌, zero, suc, List, [], ◌∷◌, length, drop, get_or, Option, Some, None, option_map, is_some, true, refl, sym, ◌∙◌, ap, arith}
 use Rattle.std.proofs.Math.ListN.{set}
 use Rattle.slab.specs.Slab.{Slab, ContainsKey, Updates, get}

@@ -5,8 +5,8 @@ use Rattle.cc_names.specs.declared.number.SKey.{SKey}
 use Rattle.cc_names.specs.Places.{where_set}
 use Rattle.cc_script.specs.Cells.{Content, Label, Linked, filled, filled_slab, nothing}
 use Rattle.cc_script.proofs.Coloured.{held-bare, held-label, read-coloured, read-filled}
-use Rattle.cc_script.proofs.Paired.{some-of}
 use Rattle.cc_script.proofs.cells.Cells.delegate.Goals as goal
+use Rattle.cc_lists.proofs.Held.{is_some-found}
 
 pub index-requires : goal.index-requires
 index-requires c =
@@ -41,7 +41,7 @@ returns-else-index c =
     let contents = c.self.inside.bodies.items in
     let held = held-label s contents c.args.key (held-bare (filled_slab s contents) c.self.inside.colours.items c.args.self.now c.self.view_is c.args.key c.requires) in
     let content = get_or contents c.args.key nothing in
-    let there = some-of (get s c.args.key) held in
+    let there = is_some-found (get s c.args.key) held in
     let told : content.is_proxy ≡ false =
     sym (ap (λ (w : Content). w.is_proxy) (c.behind-self.view_is ∙ (c.index.ensures ∙ get_or_default contents c.args.key c.index.result.now nothing (c.self.invariant.filled c.args.key held)))) ∙ c.if-index.false in
     ap (option_map (λ (z : Linked). z.placed.delegate))

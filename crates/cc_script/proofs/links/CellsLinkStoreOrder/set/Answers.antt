@@ -6,7 +6,6 @@ use Rattle.slab.specs.Slab.{Slab, get}
 use Rattle.cc_names.specs.declared.kind.Colour.TheVariants.{White}
 use Rattle.cc_chain.specs.declared.link.Link.{Link}
 use Rattle.cc_chain.specs.Links.{with_link}
-use Rattle.cc_chain.proofs.Slots.{some-map}
 use Rattle.cc_script.specs.Beings.{delegate_key_of, kind_of, name_of, native_key_of}
 use Rattle.cc_script.specs.Paired.{paired}
 use Rattle.cc_script.specs.Cells.{Bare, Label, Linked, beside_order, coloured_slab, filled, filled_slab, in_colour, nothing, order_links}

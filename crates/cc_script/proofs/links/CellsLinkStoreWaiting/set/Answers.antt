@@ -30,8 +30,8 @@ returns-clause-links c =
     let colours = c.self.inside.colours.items in
     let held = held-label s contents c.args.key
     (held-bare (filled_slab s contents) c.self.inside.colours.items c.args.self.now c.self.view_is c.args.key
-    (sym (some-map (λ (z : Linked). z.waiting) (get c.args.self.now c.args.key)) ∙ c.requires)) in
-    let there = some-of (get s c.args.key) held in
+    (sym (is_some-map (λ (z : Linked). z.waiting) (get c.args.self.now c.args.key)) ∙ c.requires)) in
+    let there = is_some-found (get s c.args.key) held in
     let content : Content = record { slots = map held_key c.behind-self.inside.slots.items; is_proxy = c.behind-self.inside.is_proxy; waiting = c.of.result } in
     ap (λ (z : Slab Bare). waiting_links (coloured_slab room z colours).slots) (content-set s contents c.args.key there.0 content (c.self.invariant.filled c.args.key held) there.1)
     ∙ (link-set (filled_slab s contents) colours c.args.self.now c.self.view_is c.args.key (λ (z : Linked). z.waiting) (filled (get_or contents c.args.key nothing) there.0) (filled content there.0)
@@ -48,8 +48,8 @@ returns-clause-rest c =
     let colour = get_or colours c.args.key White in
     let held = held-label s contents c.args.key
     (held-bare (filled_slab s contents) c.self.inside.colours.items c.args.self.now c.self.view_is c.args.key
-    (sym (some-map (λ (z : Linked). z.waiting) (get c.args.self.now c.args.key)) ∙ c.requires)) in
-    let there = some-of (get s c.args.key) held in
+    (sym (is_some-map (λ (z : Linked). z.waiting) (get c.args.self.now c.args.key)) ∙ c.requires)) in
+    let there = is_some-found (get s c.args.key) held in
     let content : Content = record { slots = map held_key c.behind-self.inside.slots.items; is_proxy = c.behind-self.inside.is_proxy; waiting = c.of.result } in
     let b = filled (get_or contents c.args.key nothing) there.0 in
     let d = filled content there.0 in

@@ -1,5 +1,4 @@
 use Rattle.std.proofs.Common.{◌≡◌, ℕ, List, Option, Some, drop, ap, sym, subst, ◌∙◌, refl, inl}
-use Rattle.cc_script.proofs.Wholeness.{there-object}
 use Rattle.cc_lists.specs.Members.{Among}
 use Rattle.cc_script.specs.Objects.{Object, object_at, is_there, places_at}
 use Rattle.cc_script.specs.Lists.{Lists, objects_of, IsPlaced}
