@@ -19,7 +19,7 @@ use Rattle.cc_holders.specs.declared.entry.Entry.TheVariants.{Unknown, Known}
 use Rattle.cc_holders.specs.declared.holders.Holders.{Holders}
 use Rattle.cc_holders.specs.Entries.{IsFirst, behind, count_of, key_of, one_if, with_key}
 use Rattle.cc_holders.specs.Known.{entry_at, key_at}
-use Rattle.cc_holders.proofs.Counting.{counted, past}
+use Rattle.cc_holders.proofs.Counting.{counted}
 use Rattle.cc_holders.proofs.Known.{entries-kept}
 use Rattle.cc_counted.specs.declared.held.Held.{Held}
 use Rattle.cc_counted.specs.declared.held.Held.TheVariants as held

@@ -4,7 +4,7 @@ use Rattle.std.specs.List.{filter}
 use Rattle.std.specs.Option.{option_to_list}
 use Rattle.std.proofs.lemmas.Bool.{eq-eqb, ne_eqb, true≢false}
 use Rattle.std.proofs.lemmas.List.{get_or-set_same, get_or-set_other}
-use Rattle.cc_lists.specs.Members.{Among}
+use Rattle.cc_lists.specs.Members.{Among, without}
 use Rattle.cc_lists.proofs.Members.{Among-map, Among-filter, Among-filtered, Among-passes, Among-flat_map}
 use Rattle.cc_lists.proofs.Searching.{filter-map}
 use Rattle.cc_lists.proofs.Counting.{count_by-some}
@@ -21,7 +21,7 @@ use Rattle.cc_purple.specs.Marks.{Marked}
 use Rattle.cc_counted.specs.declared.held.Held.{Held}
 use Rattle.cc_counted.specs.declared.held.Held.TheVariants as held
 use Rattle.cc_counted.specs.Counts.{Counts, number_at, number_or_none, the_number, name_of, is_live, numbers_held}
-use Rattle.cc_counted.specs.Lists.{Placed, Lists, cell_at, keyed, shown, shown_at, numbers_in, marked_number, draining_of, IsPlaced, without, taken_out}
+use Rattle.cc_counted.specs.Lists.{Placed, Lists, cell_at, keyed, shown, shown_at, numbers_in, marked_number, draining_of, IsPlaced, taken_out}
 use Rattle.cc_counted.proofs.Places.{cell_number, number_at-cells, number_at-cell, the_number-cell, shown-number, native_at-cell}
 use Rattle.cc_lists.proofs.ListWrites.{map-agree}
 use Rattle.cc_counted.proofs.Changing.{cell-within}
@@ -136,16 +136,16 @@ module _ (owned : List ℕ) (l : Lists) (es : List Event) (p : IsPlaced l) (b : 
   others : ℕ → Bool
   others k = not (k == key)
 
-  other-key : (k : ℕ) → Among k (without key l.order) → k ≢ key
+  other-key : (k : ℕ) → Among k (without ◌==◌ key l.order) → k ≢ key
   other-key k m e = true≢false (sym (Among-passes (λ k. not (k == key)) k l.order m) ∙ ap not (eq-eqb k key e))
 
   order-test : (k : ℕ) → Among k l.order → not (k == key) ≡ not (the_number numbers k == c.number)
   order-test k m = let f = p.in_order k m in ap not (key-test l p key c at k f.0 f.1)
 
   -- the native is taken out by its number
-  natives-left : map (shown_at left.cells) (without key l.order) ≡ filter (λ n. not (n.number == c.number)) (map (shown_at l.cells) l.order)
+  natives-left : map (shown_at left.cells) (without ◌==◌ key l.order) ≡ filter (λ n. not (n.number == c.number)) (map (shown_at l.cells) l.order)
   natives-left =
-      map-agree (shown_at left.cells) (shown_at l.cells) (without key l.order) each
+      map-agree (shown_at left.cells) (shown_at l.cells) (without ◌==◌ key l.order) each
       ∙ (ap (map (shown_at l.cells))
       (filter-agree (λ k. not (k == key)) (λ k. not ((shown_at l.cells k).number == c.number)) l.order
       (λ k m. order-test k m ∙ ap (λ j. not (j == c.number)) (sym (shown-number l.cells k))))
@@ -155,7 +155,7 @@ module _ (owned : List ℕ) (l : Lists) (es : List Event) (p : IsPlaced l) (b : 
       shown-same k a e = ap (λ ys. record { number = a.number; slots = ys; preserved = a.preserved; count = a.count })
           (names-same numbers (keyed left.cells) a.slots (λ x m. (slot-same k a x e m).0))
 
-      each : (k : ℕ) → Among k (without key l.order) → shown_at left.cells k ≡ shown_at l.cells k
+      each : (k : ℕ) → Among k (without ◌==◌ key l.order) → shown_at left.cells k ≡ shown_at l.cells k
       each k m =
           let o = other-key k m in
           let f = p.in_order k (Among-filtered (λ k. not (k == key)) k l.order m) in
@@ -185,9 +185,9 @@ module _ (owned : List ℕ) (l : Lists) (es : List Event) (p : IsPlaced l) (b : 
     marked = λ m n. still_there m.key (not_marked m n) (p.marked m n);
   }
     where
-      rising : IsRising (map (the_number (keyed left.cells)) (without key l.order))
+      rising : IsRising (map (the_number (keyed left.cells)) (without ◌==◌ key l.order))
       rising = subst IsRising (sym
-          (map-agree (the_number (keyed left.cells)) (the_number numbers) (without key l.order) (λ k m. the_number-other k (other-key k m))
+          (map-agree (the_number (keyed left.cells)) (the_number numbers) (without ◌==◌ key l.order) (λ k m. the_number-other k (other-key k m))
           ∙ (ap (map (the_number numbers)) (filter-agree (λ k. not (k == key)) (λ k. not (the_number numbers k == c.number)) l.order order-test)
           ∙ sym (filter-map (λ j. not (j == c.number)) (the_number numbers) l.order))))
           (IsRising-filter (λ j. not (j == c.number)) (map (the_number numbers) l.order) p.rising)

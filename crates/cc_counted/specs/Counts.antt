@@ -1,5 +1,5 @@
 -- WHAT A COUNTED HEAP SHOWS: its natives and its buffer by names, and which native stands at which key.
-use Rattle.std.specs.Prelude.{ℕ, zero, Bool, true, false, List, [], ◌∷◌, ◌++◌, map, filter, Option, Some, None, option_map, slice_index_or, slice_set, nat_lt, is_some, if◌then◌else◌}
+use Rattle.std.specs.Prelude.{ℕ, zero, Bool, true, false, List, [], ◌∷◌, map, filter, Option, Some, None, option_map, slice_index_or, slice_set, nat_lt, is_some, if◌then◌else◌}
 use Rattle.cc_lists.specs.Walks.{first_key}
 use Rattle.cc_names.specs.Allowance.{Allowance}
 use Rattle.cc_names.specs.declared.name.Name.{Name}

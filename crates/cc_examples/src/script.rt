@@ -21,7 +21,7 @@ pub struct Example {
     pub name: &'static str,
     /// How many natives may be made, at most 1000000.
     pub natives: u32,
-    /// How many plain objects and weak maps may be made, at most 1000000.
+    /// How many plain objects, weak maps and proxies may be made, at most 1000000.
     pub scripts: u32,
     /// How many bytes may be read.
     pub bytes: u32,

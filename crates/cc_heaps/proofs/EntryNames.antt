@@ -8,7 +8,7 @@ use Rattle.std.specs.List.{find}
 use Rattle.std.proofs.lemmas.Bool.{eqb-true, eq-eqb, false≢true}
 use Rattle.cc_lists.specs.Members.{Among}
 use Rattle.cc_lists.proofs.Filtering.{filter-agree}
-use Rattle.cc_lists.proofs.Members.{Among-filtered}
+use Rattle.cc_lists.proofs.Members.{Among-filtered, Among-map}
 use Rattle.cc_lists.proofs.Searching.{filter-map, find-map, find-only}
 use Rattle.cc_names.specs.declared.name.Name.{Name}
 use Rattle.cc_names.specs.declared.name.Name.TheVariants as name
@@ -23,14 +23,15 @@ use Rattle.cc_model.specs.Slots.{Slots}
 use Rattle.cc_model.specs.Checks.{is_map_in, value_at}
 use Rattle.cc_model.specs.Heap.{HeapScript, objects_of, script_at, slots_in, slots_of_kind, slots_of_script}
 use Rattle.cc_model.specs.WellFormed.{script_names}
-use Rattle.cc_laws_heap.proofs.Face.{native-no_script}
+use Rattle.cc_laws_heap.proofs.Face.{is_some-found, native-no_script}
 use Rattle.cc_script.specs.Objects.{Object, is_there, kind_at, name_at, object_at}
 use Rattle.cc_weakmaps.specs.Entries.{KeyedEntry, entry, has_value_in, is_entry_of, value_in, with_entry, without_entry}
-use Rattle.cc_marking.specs.Marking.{IsEntryThere, AreEntriesThere}
+use Rattle.cc_marking.specs.Marking.{AreDelegatesOfKeys, IsEntryThere, AreEntriesThere}
+use Rattle.cc_script.proofs.PlacesOf.{delegate-place}
 use Rattle.cc_heaps.specs.Keyed.{Keyed, IsInOrder, name_held, the_name_at, named_entry, named_entries, named_object}
 use Rattle.cc_heaps.specs.Changes.{IsScriptThere, script_name}
 use Rattle.cc_heaps.proofs.Keys.{object-name}
-use Rattle.cc_heaps.proofs.Reaching.{HasOneName, key-named, name_at-found, object_at-found, same-tests, the_name-there}
+use Rattle.cc_heaps.proofs.Reaching.{HasOneName, key-named, name_at-found, object_at-found, same-tests, the_name-is, the_name-there}
 use Rattle.cc_heaps.proofs.ScriptsChanged.{HasOneName-named}
 
 -- Entries changed and read
@@ -143,6 +144,29 @@ module _ (owned : List ℕ) (v : Keyed) (o : IsInOrder owned v) where
   script_at-named q m = ap (find (λ (s : HeapScript). same_name s.name q.name)) o.named
       ∙ (find-map (λ (s : HeapScript). same_name s.name q.name) (named_object v.scripts) v.scripts
       ∙ ap (option_map (named_object v.scripts)) (find-only (λ (s : Object). same_name s.name q.name) v.scripts q (one_name-order q.name) m (same_name-refl q.name)))
+
+  -- THE DELEGATE OF AN ENTRY IS THAT OF ITS KEY, by keys as by names
+  pub delegates-order : AreDelegatesOfKeys v.scripts v.entries
+  delegates-order e m =
+      let there = o.entries_there e m in
+      let f = is_some-found (object_at v.scripts e.key) there.key in
+      let i = (object_at-found v.scripts e.key f.0 f.1).0 in
+      let given : Among (named_entry v.scripts e) v.heap.entries = subst (Among (named_entry v.scripts e)) (sym o.entries) (Among-map (named_entry v.scripts) e v.entries m) in
+      let same = (o.sound.well_formed.entries (named_entry v.scripts e) given).delegate (named_object v.scripts f.0)
+      (subst (Among (named_object v.scripts f.0)) (sym o.named) (Among-map (named_object v.scripts) f.0 v.scripts i))
+      (sym (the_name-is v.scripts e.key f.0.name (ap (option_map (λ (q : Object). q.name)) f.1))) in
+      sym (only f.0.delegate e.delegate (λ d q. o.whole f.0 d i (delegate-place f.0 d q)) there.delegate same)
+      ∙ sym (ap (option_and_then (λ (q : Object). q.delegate)) f.1)
+    where
+      only : (a b : Option ℕ) → ((d : ℕ) → a ≡ Some d → IsTrue (is_there v.scripts d)) → ((d : ℕ) → b ≡ Some d → IsTrue (is_there v.scripts d)) →
+          name_held v.scripts a ≡ name_held v.scripts b → a ≡ b
+      only None None s t e = refl
+      only None (Some b) s t e = let n = the_name-there v.scripts b (t b refl) in let none : None ≡ Some (the_name_at v.scripts b) = e ∙ n in absurd (cc)
+      only (Some a) None s t e = let n = the_name-there v.scripts a (s a refl) in let none : Some (the_name_at v.scripts a) ≡ None = sym n ∙ e in absurd (cc)
+      only (Some a) (Some b) s t e =
+          let n = the_name-there v.scripts a (s a refl) in
+          let f = name_at-found v.scripts a (the_name_at v.scripts a) n in
+          ap (λ (k : ℕ). Some k) (sym f.2 ∙ key-named v.scripts one_name-order b (the_name_at v.scripts a) (sym e ∙ n) f.0 f.1 f.3)
 
   -- and its slots
   slots_in-named : (q : Object) → Among q v.scripts → slots_in v.heap q.name ≡ slots_of_script (named_object v.scripts q)

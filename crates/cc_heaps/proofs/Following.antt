@@ -3,7 +3,7 @@
 use Rattle.cc_heaps.proofs.ObjectsKept.{there-named}
 use Rattle.cc_lists.proofs.Held.{held-is, of-one}
 use Rattle.cc_heaps.proofs.Keys.{name-in, script_name-in}
-use Rattle.std.proofs.Common.{◌≡◌, ℕ, ◌<◌, ◌≤◌, ◌==◌, true, List, ◌++◌, length, get_or, Option, Some, None, option_map, refl, sym, ◌∙◌, ap, subst, inl, inr, ⊎_elim, arith}
+use Rattle.std.proofs.Common.{◌≡◌, ℕ, ◌+◌, ◌<◌, ◌≤◌, ◌==◌, true, List, ◌++◌, length, get_or, Option, Some, None, option_map, refl, sym, ◌∙◌, ap, subst, inl, inr, ⊎_elim, arith}
 use Rattle.std.specs.Prelude.{IsTrue, IfSome}
 use Rattle.std.specs.Option.{option_and_then, option_to_list}
 use Rattle.std.proofs.lemmas.Bool.{lt-ltb, le-leb, lt-leb}
@@ -16,31 +16,37 @@ use Rattle.cc_names.specs.declared.name.Name.TheVariants as name
 use Rattle.cc_names.specs.Names.{native, object, reflector}
 use Rattle.cc_names.specs.declared.kind.Colour.TheVariants.{Black}
 use Rattle.cc_names.specs.declared.number.SKey.{SKey}
+use Rattle.cc_names.specs.declared.register.Reg.TheVariants.{S}
 use Rattle.cc_names.specs.Sizes.{bank_length, most_slots}
 use Rattle.cc_model.specs.Slots.{Slots}
 use Rattle.cc_model.specs.Ranges.{in_range}
-use Rattle.cc_model.specs.Heap.{Heap, objects_of, HeapNative, HeapScript, native_at, set_slot, change_script, change_native, with_native_slot, with_script_slot, suspect}
+use Rattle.cc_model.specs.Heap.{Heap, objects_of, HeapNative, HeapScript, native_at, preserve, set_register, set_slot, change_script, change_native, with_native_slot, with_script_slot, suspect}
 use Rattle.cc_model.specs.Cascade.{take_up, let_go}
 use Rattle.cc_model.specs.End.{slots_now}
 use Rattle.cc_model.specs.View.{view, ReachedIn}
 use Rattle.cc_model.specs.Colours.{HasColourInvariant}
-use Rattle.cc_model.specs.Effects.{effects, hold_native, hold_script, make_native, make_object}
+use Rattle.cc_model.specs.Effects.{effects, hold_native, hold_script, make_native, make_object, make_proxy, with_object}
 use Rattle.cc_model.specs.Exposure.{exposed}
 use Rattle.cc_model.specs.Snapshot.{Snapshot}
 use Rattle.cc_model.specs.Fresh.{IsFresh}
 use Rattle.cc_model.specs.Suspected.{IsSuspected}
 use Rattle.cc_model.specs.WellFormed.{IsWellFormed, native_names, names_there, script_names}
 use Rattle.cc_laws_heap.specs.Sound.{IsSound, numbers_of}
-use Rattle.cc_laws_heap.proofs.Face.{AreColoured-from_view, AreColoured-register, AreColoured-slot, HasColourInvariant-from, IsColoured, IsHeldBlack, IsIn, IsTaken, SameScripts, SameScripts-coloured, SameScripts-take_up, effects-coloured, effects-sound, exposed-black, exposed-coloured, exposed-sound, hold_native-scripts, hold_native-sound, hold_script-sound, let_go-scripts, let_go-sound, make_native-scripts, make_native-sound, names_there-take_up, native-no_script, native_slot-sound, script-named, script_slot-sound, take_up-sound}
+use Rattle.cc_laws_heap.proofs.Face.{AreColoured-from_view, AreColoured-register, AreColoured-slot, HasColourInvariant-from, IsColoured, IsHeldBlack, IsIn, IsTaken, SameScripts, SameScripts-coloured, SameScripts-take_up, effects-coloured, effects-sound, exposed-black, exposed-coloured, exposed-sound, hold_native-scripts, hold_native-sound, hold_script-sound, let_go-scripts, let_go-sound, make_proxy-coloured, make_proxy-sound, option_map-found, make_native-scripts, make_native-sound, names_there-take_up, native-no_script, native_slot-sound, script-named, script_slot-sound, take_up-sound}
 use Rattle.cc_laws_snapshot.specs.Losing.{IsLoyal}
-use Rattle.cc_laws_snapshot.proofs.Face.{AreGentle, AreGentle-then, AreTaken, IsGentleBut-then, Still-hold_script, effects-fresh, exposed-gentle, exposed-suspected, fresh-coloured, fresh-more, hold_native-gentle, hold_native-loyal, hold_script-gentle, let_go-caught, let_go-gentle, loyal-suspected, make_native-gentle, marked-buffer, native-name_of, native-no_script as native-is_no_script, native_made-suspected, native_slot-gentle, not_gray-held, object_made-suspected, script_slot-gentle, script_slot_written-suspected, still-loyal, stored-loyal, suspect-keeps_purple, suspect-purple, take_up-gentle, take_up-taken, with_mark-keeps}
+use Rattle.cc_laws_snapshot.proofs.Face.{AreGentle, AreGentle-then, AreTaken, IsGentleBut-then, Still-hold_script, Still-make_proxy, effects-fresh, exposed-gentle, exposed-suspected, fresh-coloured, fresh-more, hold_native-gentle, hold_native-loyal, hold_script-gentle, let_go-caught, let_go-gentle, loyal-suspected, make_native-gentle, make_proxy-gentle, marked-buffer, native-name_of, native-no_script as native-is_no_script, native_made-suspected, native_slot-gentle, not_gray-held, object_made-suspected, script_slot-gentle, script_slot_written-suspected, still-loyal, stored-loyal, suspect-keeps_purple, suspect-purple, take_up-gentle, take_up-taken, with_mark-keeps}
 use Rattle.cc_counted.specs.Counts.{slots_of}
 use Rattle.cc_counted.specs.Counts as counts
 use Rattle.cc_counted.specs.declared.held.Held.{Held}
 use Rattle.cc_counted.specs.declared.held.Held.TheVariants as held
-use Rattle.cc_script.specs.Objects.{Object, colour_at, is_there, name_at}
+use Rattle.cc_script.specs.Objects.{Object, colour_at, is_there, name_at, object_at}
 use Rattle.cc_heaps.specs.Keyed.{Keyed, keyed_name, keyed_native, IsInOrder, counts_of, left_with, named_object, the_number}
-use Rattle.cc_heaps.specs.Making.{kind_to_make, command_to_make, slots_to_make}
+use Rattle.cc_heaps.specs.Making.{MayBeMade, delegate_name, kind_to_make, slots_to_make}
+use Rattle.cc_heaps.specs.declared.heaps.to_make.ToMake.{ToMake}
+use Rattle.cc_heaps.specs.declared.heaps.to_make.ToMake.TheVariants.{Plain, Map, Proxy}
+use Rattle.cc_names.specs.declared.kind.Kind.TheVariants as kind
+use Rattle.cc_model.specs.declared.command.Command.{Command}
+use Rattle.cc_model.specs.declared.command.Command.TheVariants.{Script, WeakMap}
 use Rattle.cc_heaps.specs.Changes.{IsBlackHeld, held_name, script_name, stored_in}
 use Rattle.cc_heaps.proofs.Content.{held-in, native-in}
 use Rattle.cc_heaps.proofs.Reaching.{key-named, object_at-own}
@@ -300,6 +306,19 @@ module _ (owned : List ℕ) (v : Keyed) (o : IsInOrder owned v) where
 -- A script object is made, and a register holds it: the heaps afterwards
 abbrev pub made_by : Keyed → ℕ → ToMake → Heap
 made_by v d what = make_object (preserve v.heap (delegate_name v what)) d (kind_to_make what) (slots_to_make what) (delegate_name v what)
+
+-- the same where the delegate is preserved once the object is made
+pub made_first : (v : Keyed) (d : ℕ) (what : ToMake) →
+    set_register (preserve (with_object v.heap (kind_to_make what) (slots_to_make what) (delegate_name v what)) (delegate_name v what)) (S d) (Some (object (v.heap.scripts_made + 1))) ≡
+    made_by v d what
+made_first v d what = go (delegate_name v what)
+  where
+    go : (x : Option Name) → set_register (preserve (with_object v.heap (kind_to_make what) (slots_to_make what) x) x) (S d) (Some (object (v.heap.scripts_made + 1))) ≡
+        make_object (preserve v.heap x) d (kind_to_make what) (slots_to_make what) x
+    go None = refl
+    go (Some (name.Native k)) = refl
+    go (Some (name.Script k)) = refl
+    go (Some (name.Reflector k)) = refl
 
 -- of a proxy they are those of the definitions
 pub proxy-made : (v : Keyed) (d : ℕ) (k : SKey) → colour_at v.scripts k.0 ≡ Some Black → make_proxy v.heap d (name_at v.scripts k.0) ≡ made_by v d (Proxy k)

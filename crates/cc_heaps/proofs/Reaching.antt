@@ -28,7 +28,8 @@ use Rattle.cc_script.specs.Objects.{Object, object_at, is_there, name_at, places
 use Rattle.cc_script.specs.Walking.{edges, keys_reached}
 use Rattle.cc_script.proofs.Reaching.{edge-slot, slot-edge, held-among, among-held}
 use Rattle.cc_weakmaps.specs.Entries.{KeyedEntry}
-use Rattle.cc_marking.specs.Marking.{AreEntriesThere, joints, joints_of, key_joint, keys_marked, mark_rules}
+use Rattle.cc_marking.specs.Marking.{AreEntriesThere, keys_marked, mark_rules}
+use Rattle.cc_marking.specs.Joints as by_keys
 use Rattle.cc_heaps.specs.Keyed.{name_held, named_entries, named_entry, named_object, named_objects, the_name_at}
 
 -- at most one object stands at a key, and at most one has a name
@@ -107,16 +108,6 @@ found-named objects o q y m i e = Among-flat_map script_slot_edges (named_object
     (subst (Among (Some y)) (sym (named-places objects o))
     (subst (λ s. Among s (map (name_held objects) (places_of o))) e (Among-map (name_held objects) (Some q) (places_of o) i)))))
 
--- what an entry gives by keys
-value-rule : (es : List KeyedEntry) (e : KeyedEntry) → Among e es → Among (joint_rule e.the_map e.key e.value) (joints es)
-value-rule es e m = Among-flat_map joints_of e (joint_rule e.the_map e.key e.value) es m
-    (Among-right (joint_rule e.the_map e.key e.value) (key_joint e.the_map e.delegate e.key) (joint_rule e.the_map e.key e.value ∷ []) (inl refl))
-
-key-rule : (es : List KeyedEntry) (e : KeyedEntry) (d : ℕ) → Among e es → e.delegate ≡ Some d → Among (joint_rule e.the_map d e.key) (joints es)
-key-rule es e d m is = Among-flat_map joints_of e (joint_rule e.the_map d e.key) es m
-    (Among-left (joint_rule e.the_map d e.key) (key_joint e.the_map e.delegate e.key) (joint_rule e.the_map e.key e.value ∷ [])
-    (subst (λ x. Among (joint_rule e.the_map d e.key) (key_joint e.the_map x e.key)) (sym is) (inl refl)))
-
 -- THE NAMES OF SOME KEYS, as a set: order and repeats are free, and a key at which nothing stands has none
 pub record AreNamesOf (objects : List Object) (keys : List ℕ) (names : List Name) : Type 0 where
   pub named : (k : ℕ) (x : Name) → Among k keys → name_at objects k ≡ Some x → Among x names
@@ -135,6 +126,9 @@ module _ (objects : List Object) (one_key : HasOneKey objects) (one_name : HasOn
   same-key a b x e d = let f = name_at-found objects a x e in sym f.2 ∙ key-named objects one_name b x d f.0 f.1 f.3
 
   module _ (es : List KeyedEntry) (there : AreEntriesThere objects es) (keys : List ℕ) (names : List Name) (roots : AreNamesOf objects keys names) where
+    abbrev rules : List (List ℕ × ℕ)
+    rules = by_keys.rules_of (by_keys.joints es)
+
     abbrev named_joints : List entries.Joint
     named_joints = entries.joints (named_entries objects es)
 
@@ -142,13 +136,16 @@ module _ (objects : List Object) (one_key : HasOneKey objects) (one_name : HasOn
     named_rules = entries.rules_of named_joints
 
     -- what a key gives, its name gives,
-    names-carried : Carries (λ k x. name_at objects k ≡ Some x) keys (edges objects) (joints es) names (named_edges objects) named_rules
+    names-carried : Carries (λ k x. name_at objects k ≡ Some x) keys (edges objects) rules names (named_edges objects) named_rules
     names-carried = record {
       root = roots.named;
       edge = λ k q y m r.
           let f = edge-slot objects k q m in
           (f.0.name, ap (name_at objects) (sym f.2) ∙ name_at-own objects one_key f.0 f.1, found-named objects f.0 q y f.1 f.3 r);
-      entry = λ ks v y m. let f = Among-flat_map_cases joints_of es (ks, v) m in at f.0 y f.1 ks v f.2;
+      entry = λ ks v y m.
+          let f = Among-map_cases by_keys.rule_of (by_keys.joints es) (ks, v) m in
+          let g = Among-flat_map_cases by_keys.joints_of es f.0 f.1 in
+          subst (Gives y) f.2 (at g.0 y g.1 f.0 g.2);
     }
       where
         Gives : Name → List ℕ × ℕ → Type 0
@@ -166,25 +163,26 @@ module _ (objects : List Object) (one_key : HasOneKey objects) (one_name : HasOn
               (⊎_elim (λ e. (b, inr (inl refl), the_name-there objects b t ∙ ap (λ z. Some z) e)) (λ n. absurd n)) i,
         )
 
-        by_key : (e : KeyedEntry) (y : Name) → Among e es → (d : Option ℕ) → e.delegate ≡ d → (ks : List ℕ) (v : ℕ) → Among (ks, v) (key_joint e.the_map d e.key) → Gives y (ks, v)
-        by_key e y m None is ks v i = absurd i
-        by_key e y m (Some d) is ks v i = ⊎_elim
-            (λ q. subst (Gives y) q (triple e.the_map d e.key y (there e m).the_map ((there e m).delegate d is)
+        by_key : (e : KeyedEntry) (y : Name) → Among e es → (d : Option ℕ) → e.delegate ≡ d → (j : by_keys.Joint) → Among j (by_keys.key_joint e.the_map d e.key) →
+            Gives y (by_keys.rule_of j)
+        by_key e y m None is j i = absurd i
+        by_key e y m (Some d) is j i = ⊎_elim
+            (λ q. subst (λ t. Gives y (by_keys.rule_of t)) q (triple e.the_map d e.key y (there e m).the_map ((there e m).delegate d is)
             (delegate-joint (named_entries objects es) (named_entry objects e) (the_name_at objects d) (Among-map (named_entry objects) e es m)
             (ap (name_held objects) is ∙ the_name-there objects d ((there e m).delegate d is)))))
             (λ n. absurd n) i
 
-        at : (e : KeyedEntry) (y : Name) → Among e es → (ks : List ℕ) (v : ℕ) → Among (ks, v) (joints_of e) → Gives y (ks, v)
-        at e y m ks v i = ⊎_elim
-            (λ j. by_key e y m e.delegate refl ks v j)
-            (λ j. ⊎_elim
-            (λ q. subst (Gives y) q (triple e.the_map e.key e.value y (there e m).the_map (there e m).key
+        at : (e : KeyedEntry) (y : Name) → Among e es → (j : by_keys.Joint) → Among j (by_keys.joints_of e) → Gives y (by_keys.rule_of j)
+        at e y m j i = ⊎_elim
+            (λ t. by_key e y m e.delegate refl j t)
+            (λ t. ⊎_elim
+            (λ q. subst (λ u. Gives y (by_keys.rule_of u)) q (triple e.the_map e.key e.value y (there e m).the_map (there e m).key
             (value-joint (named_entries objects es) (named_entry objects e) (Among-map (named_entry objects) e es m))))
-            (λ n. absurd n) j)
-            (Among-append (ks, v) (key_joint e.the_map e.delegate e.key) (joint_rule e.the_map e.key e.value ∷ []) i)
+            (λ n. absurd n) t)
+            (Among-append j (by_keys.key_joint e.the_map e.delegate e.key) (by_keys.joint e.the_map e.key e.value ∷ []) i)
 
     -- and the other way round.
-    keys-carried : Carries (λ x k. name_at objects k ≡ Some x) names (named_edges objects) named_rules keys (edges objects) (joints es)
+    keys-carried : Carries (λ x k. name_at objects k ≡ Some x) names (named_edges objects) named_rules keys (edges objects) rules
     keys-carried = record {
       root = λ x k m r. let f = roots.keyed x m in subst (λ j. Among j keys) (same-key f.0 k x f.2 r) f.1;
       edge = λ x y k m r. let f = named-found objects x y m in (
@@ -200,30 +198,40 @@ module _ (objects : List Object) (one_key : HasOneKey objects) (one_name : HasOn
     }
       where
         Gives : ℕ → List Name × Name → Type 0
-        Gives k r = name_at objects k ≡ Some r.1 → (ks : List ℕ) × Among (ks, k) (joints es) × ((j : ℕ) → Among j ks → (x : Name) × Among x r.0 × (name_at objects j ≡ Some x))
+        Gives k r = name_at objects k ≡ Some r.1 → (ks : List ℕ) × Among (ks, k) rules × ((j : ℕ) → Among j ks → (x : Name) × Among x r.0 × (name_at objects j ≡ Some x))
 
         named : (j i : ℕ) → IsTrue (is_there objects j) → j ≡ i → name_at objects i ≡ Some (the_name_at objects j)
         named j i t s = ap (name_at objects) (sym s) ∙ the_name-there objects j t
 
         -- three names by keys
-        triple : (a b c k : ℕ) → IsTrue (is_there objects a) → IsTrue (is_there objects b) → IsTrue (is_there objects c) → Among (joint_rule a b c) (joints es) →
+        triple : (a b c k : ℕ) → IsTrue (is_there objects a) → IsTrue (is_there objects b) → IsTrue (is_there objects c) → Among (by_keys.joint a b c) (by_keys.joints es) →
             Gives k (joint_rule (the_name_at objects a) (the_name_at objects b) (the_name_at objects c))
         triple a b c k s t u m r = (
           a ∷ b ∷ [],
-          subst (λ j. Among (a ∷ b ∷ [], j) (joints es)) (same-key c k (the_name_at objects c) (the_name-there objects c u) r) m,
+          subst (λ j. Among (a ∷ b ∷ [], j) rules) (same-key c k (the_name_at objects c) (the_name-there objects c u) r)
+              (Among-map by_keys.rule_of (by_keys.joint a b c) (by_keys.joints es) m),
           λ j i. ⊎_elim
               (λ e. (the_name_at objects a, inl refl, named a j s e))
               (⊎_elim (λ e. (the_name_at objects b, inr (inl refl), named b j t e)) (λ n. absurd n)) i,
         )
 
+        value-given : (e : KeyedEntry) → Among e es → Among (by_keys.joint e.the_map e.key e.value) (by_keys.joints es)
+        value-given e m = Among-flat_map by_keys.joints_of e (by_keys.joint e.the_map e.key e.value) es m
+            (Among-right (by_keys.joint e.the_map e.key e.value) (by_keys.key_joint e.the_map e.delegate e.key) (by_keys.joint e.the_map e.key e.value ∷ []) (inl refl))
+
+        key-given : (e : KeyedEntry) (d : ℕ) → Among e es → e.delegate ≡ Some d → Among (by_keys.joint e.the_map d e.key) (by_keys.joints es)
+        key-given e d m is = Among-flat_map by_keys.joints_of e (by_keys.joint e.the_map d e.key) es m
+            (Among-left (by_keys.joint e.the_map d e.key) (by_keys.key_joint e.the_map e.delegate e.key) (by_keys.joint e.the_map e.key e.value ∷ [])
+            (subst (λ x. Among (by_keys.joint e.the_map d e.key) (by_keys.key_joint e.the_map x e.key)) (sym is) (inl refl)))
+
         by_key : (e : KeyedEntry) (k : ℕ) → Among e es → (d : Name) (held : Option ℕ) → e.delegate ≡ held → name_held objects held ≡ Some d →
             Gives k (joint_rule (the_name_at objects e.the_map) d (the_name_at objects e.key))
         by_key e k m d None is q = absurd (cc)
         by_key e k m d (Some j) is q = subst (λ z. Gives k (joint_rule (the_name_at objects e.the_map) z (the_name_at objects e.key))) (the_name-is objects j d q)
-            (triple e.the_map j e.key k (there e m).the_map ((there e m).delegate j is) (there e m).key (key-rule es e j m is))
+            (triple e.the_map j e.key k (there e m).the_map ((there e m).delegate j is) (there e m).key (key-given e j m is))
 
         at : (e : KeyedEntry) (k : ℕ) → Among e es → (j : entries.Joint) → JointOf (named_entry objects e) j → Gives k (entries.rule_of j)
-        at e k m _ its_value = triple e.the_map e.key e.value k (there e m).the_map (there e m).key (there e m).value (value-rule es e m)
+        at e k m _ its_value = triple e.the_map e.key e.value k (there e m).the_map (there e m).key (there e m).value (value-given e m)
         at e k m _ (its_key d q) = by_key e k m d e.delegate refl q
 
     -- FROM ROOTS THAT ARE THE NAMES OF THE KEYS as a set, over places and entries
@@ -235,9 +243,9 @@ module _ (objects : List Object) (one_key : HasOneKey objects) (one_name : HasOn
         let by_name = closure-decides same_name same_name-exact (system names (named_edges objects) named_rules) o.name in
         same-tests (has ◌==◌ (keys_marked objects es keys) o.key)
         (has same_name (closure same_name (system names (named_edges objects) named_rules)) o.name)
-        (λ e. by_name.1 (least-carried (λ k x. name_at objects k ≡ Some x) keys (edges objects) (joints es) names (named_edges objects) named_rules names-carried
+        (λ e. by_name.1 (least-carried (λ k x. name_at objects k ≡ Some x) keys (edges objects) rules names (named_edges objects) named_rules names-carried
         o.key (by_key.0 e) o.name (name_at-own objects one_key o m)))
-        (λ e. by_key.1 (least-carried (λ x k. name_at objects k ≡ Some x) names (named_edges objects) named_rules keys (edges objects) (joints es) keys-carried
+        (λ e. by_key.1 (least-carried (λ x k. name_at objects k ≡ Some x) names (named_edges objects) named_rules keys (edges objects) rules keys-carried
         o.name (by_name.0 e) o.key (name_at-own objects one_key o m)))
 
   -- and over places alone

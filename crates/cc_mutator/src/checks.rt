@@ -7,8 +7,7 @@ ghost use Rattle.cc_model.specs.declared.item.Refusal.TheVariants.{Empty as empt
 ghost use Rattle.cc_model.specs.Checks.{first_refusal, is_map_in, is_native_there, is_script_there, refusal_of, slot_at, slots_at};
 ghost use Rattle.cc_model.specs.Heap.{objects_of, register};
 ghost use Rattle.cc_heaps.specs.Keyed.{IsInOrder};
-ghost use Rattle.cc_counted.specs.Scripts.{is_script};
-ghost use Rattle.cc_mutator.specs.Commands.{is_native_held};
+ghost use Rattle.cc_mutator.specs.Commands.{is_native_held, is_script_held};
 
 use crate::reads::{is_empty, native_content, slots};
 use cc_counted::Held;
@@ -51,7 +50,7 @@ fn is_native(content: Option<Held>) -> bool
 
 /// Whether a content is a script object.
 fn is_script(content: Option<Held>) -> bool
-    ensures { result ≡ is_script content }
+    ensures { result ≡ is_script_held content }
 {
     match content {
         Some(Held::Native(_)) => false,
@@ -180,7 +179,12 @@ pub(crate) fn refusal_of_expose(heaps: &Heaps, s: RegNo, i: u32) -> Option<Refus
 }
 
 /// Why `put` is refused.
-pub(crate) fn refusal_of_put(heaps: &Heaps, d: RegNo, i: u32, from: Option<RegNo>) -> Option<Refusal>
+pub(crate) fn refusal_of_put(
+    heaps: &Heaps,
+    d: RegNo,
+    i: u32,
+    from: Option<RegNo>,
+) -> Option<Refusal>
     requires { (owned : List ℕ) × IsInOrder owned heaps.now }
     ensures { result ≡ refusal_of (objects_of heaps.now.heap) (Put d i from) }
 {
@@ -199,7 +203,12 @@ pub(crate) fn refusal_of_take(heaps: &Heaps, d: RegNo, s: RegNo, i: u32) -> Opti
 }
 
 /// Why `wset` is refused.
-pub(crate) fn refusal_of_set_entry(heaps: &Heaps, m: RegNo, k: RegNo, from: Option<RegNo>) -> Option<Refusal>
+pub(crate) fn refusal_of_set_entry(
+    heaps: &Heaps,
+    m: RegNo,
+    k: RegNo,
+    from: Option<RegNo>,
+) -> Option<Refusal>
     requires { (owned : List ℕ) × IsInOrder owned heaps.now }
     ensures { result ≡ refusal_of (objects_of heaps.now.heap) (SetEntry m k from) }
 {

@@ -1,21 +1,17 @@
 -- Words at which a simple command has no fault are taken.
-use Rattle.std.proofs.Common.{rules, ◌≡◌, ◌&&◌, ◌||◌, ℕ, Bool, cond, codes, true, false, not, zero, suc, refl, arith, List, [], ◌∷◌, length, drop, Option, Some, None, is_some, nat_le}
-use Rattle.std.specs.Prelude.{encode_utf8, slice_get, find}
+use Rattle.std.proofs.Common.{rules, ◌≡◌, ◌&&◌, ◌||◌, ℕ, Bool, cond, true, false, not, zero, suc, refl, arith, List, [], ◌∷◌, Option, Some, None, is_some, nat_le}
+use Rattle.std.specs.Prelude.{find}
 use Rattle.std.specs.List.{list_all, list_any}
-use Rattle.std.specs.Str.{bytes_eq, chars}
-use Rattle.clap.specs.Lexer.{long_of, short_of}
-use Rattle.clap.specs.Facts.{explicit_source, parser_of_value, unwrap_or_range}
 use Rattle.clap.specs.Values.{refused_kind}
 use Rattle.clap.specs.ValueTests.{accepts}
-use Rattle.clap.specs.Walk.{Held, Names, Row, Rule, Step, Text, Waiting, Walk, action_of, answers_to, arg_by_id, arg_by_index, arg_by_long, arg_by_short, attached_value, finished, has_row, is_pending, most_values, next, nothing_held, reacted, settled, subcommand, subcommand_met, takes_several, takes_values, trailing, value, values_or_missing, walk, walk_from, walked, word_met}
-use Rattle.clap.specs.Simple.{App, Shape, argument_words, built, entered, is_simple, label_of, names_of}
+use Rattle.clap.specs.Walk.{Held, Names, Row, Rule, Step, Text, Waiting, Walk, answers_to, attached_value, next, nothing_held, reacted, subcommand, subcommand_met, takes_values, trailing, value, walked}
+use Rattle.clap.specs.Simple.{App, Shape, built, is_simple, label_of}
 use Rattle.clap.specs.Kinds.{Kinds, check_kinds, or_else, range_kinds, value_kinds, values_kinds}
 use Rattle.clap.specs.Takes
 use Rattle.clap.specs.Faults
 use Rattle.clap.specs.Takes.{takes, level_passes, default_passes, is_given, is_valid}
 use Rattle.clap.specs.Faults.{fault_of, level_fault}
 use Rattle.clap.specs.declared.builder.action.ArgAction.{ArgAction}
-use Rattle.clap.specs.declared.builder.action.ArgAction.TheVariants as action
 use Rattle.clap.specs.declared.builder.value_parser.ValueParser.{ValueParser}
 use Rattle.clap.specs.declared.error.kind.ErrorKind.{ErrorKind}
 use Rattle.clap.specs.declared.error.kind.ErrorKind.TheVariants as kind
@@ -25,8 +21,7 @@ use Rattle.clap.proofs.WalkLemmas.{both}
 
 -- neither of two steps has a fault
 no_fault : (a b : Kinds) → or_else a b ≡ [] → (a ≡ []) × (b ≡ [])
-no_fault [] b e = (refl, e)
-no_fault (k ∷ ks) b e = cc
+no_fault a b e = grind arith
 
 -- a test that has no fault where it is true
 test_passes : (b : Bool) (k : ErrorKind) (ks : Kinds) → cond b [] (k ∷ ks) ≡ [] → b ≡ true
@@ -45,8 +40,7 @@ values_free i p (v ∷ vs) e =
     and_from _ _ (value_free i p v free.0) (values_free i p vs free.1)
 
 count_free : (a : Rule) (values : List Text) (rows : List Row) → Faults.count_fault a values rows ≡ [] → Takes.count_passes a values rows ≡ true
-count_free a [] rows e = value_free a.ignore_case (parser_of_value a.parser) _ e
-count_free a (v ∷ vs) rows e = values_free a.ignore_case (parser_of_value a.parser) (v ∷ vs) e
+count_free a values rows e = grind (arith, value_free, values_free)
 
 repeat_free : (has again : Bool) (k : ErrorKind) → cond (has && not again) (k ∷ []) [] ≡ [] → (not has || again) ≡ true
 repeat_free false again k e = refl
@@ -60,15 +54,7 @@ set_free again a values rows e =
 
 action_free : (x : ArgAction) (again : Bool) (a : Rule) (values : List Text) (rows : List Row) → Faults.action_fault x again a values rows ≡ []
     → Takes.action_passes x again a values rows ≡ true
-action_free action.Set again a values rows e = set_free again a values rows e
-action_free action.SetTrue again a values rows e = set_free again a values rows e
-action_free action.SetFalse again a values rows e = set_free again a values rows e
-action_free action.Append again a values rows e = values_free a.ignore_case (parser_of_value a.parser) values e
-action_free action.Count again a values rows e = count_free a values rows e
-action_free action.Help again a values rows e = cc
-action_free action.HelpShort again a values rows e = cc
-action_free action.HelpLong again a values rows e = cc
-action_free action.Version again a values rows e = cc
+action_free x again a values rows e = grind (arith, set_free, values_free, count_free)
 
 range_free : (least most n : ℕ) → range_kinds least most n ≡ [] → (nat_le least n ≡ true) × (nat_le n most ≡ true)
 range_free least most n e = (grind arith, grind arith)
@@ -82,17 +68,7 @@ use_free again a values rows e =
 -- ---- the walk over the words
 
 settle_free : (c : List Rule) (again : Bool) (h : Held) → Faults.settle_fault c again h ≡ [] → Takes.settle_passes c again h ≡ true
-settle_free c again h e = go h.pending e
-  where
-    by_rule : (o : Option Rule) (values : List Text) → option_map_or (λ a. Faults.use_fault again a values h.rows) o [] ≡ []
-        → option_map_or (λ a. Takes.use_passes again a values h.rows) o true ≡ true
-    by_rule None values e = refl
-    by_rule (Some a) values e = use_free again a values h.rows e
-
-    go : (o : Option (Text × List Text)) → option_map_or (λ p. option_map_or (λ a. Faults.use_fault again a p.1 h.rows) (arg_by_id c p.0) []) o [] ≡ []
-        → option_map_or (λ p. option_map_or (λ a. Takes.use_passes again a p.1 h.rows) (arg_by_id c p.0) true) o true ≡ true
-    go None e = refl
-    go (Some p) e = by_rule (arg_by_id c p.0) p.1 e
+settle_free c again h e = grind (arith, use_free)
 
 react_free : (c : List Rule) (again : Bool) (a : Rule) (values : List Text) (h : Held) → Faults.react_fault c again a values h ≡ []
     → Takes.react_passes c again a values h ≡ true
@@ -133,41 +109,20 @@ short_free c again (Some a) rest h fault passes free e = go (takes_values a) e
 step_of_bundle_free : (c : List Rule) (again : Bool) (o : Option ℕ) (flags : Text) (skip : ℕ) (h : Held) (fault : Text → ℕ → Held → Kinds) (passes : Text → ℕ → Held → Bool)
     → ((t : Text) (n : ℕ) (k : Held) → fault t n k ≡ [] → passes t n k ≡ true)
     → Faults.bundle_step_fault c again o flags skip h fault ≡ [] → Takes.bundle_step_passes c again o flags skip h passes ≡ true
-step_of_bundle_free c again None flags skip h fault passes free e = refl
-step_of_bundle_free c again (Some x) flags zero h fault passes free e =
-    let rest = drop (length (encode_utf8 x)) flags in
-    short_free c again (arg_by_short c x) rest h (fault rest 0) (passes rest 0) (free rest 0) e
-step_of_bundle_free c again (Some x) flags (suc skip) h fault passes free e = free _ skip h e
+step_of_bundle_free c again o flags skip h fault passes free e = grind (arith, short_free)
 
 flags_free : (c : List Rule) (again : Bool) (k : ℕ) (flags : Text) (skip : ℕ) (h : Held) → Faults.flags_fault c again k flags skip h ≡ []
     → Takes.flags_pass c again k flags skip h ≡ true
 unfolding Faults.flags_fault Takes.flags_pass
 flags_free c again zero flags skip h e = refl
-flags_free c again (suc k) flags skip h e =
-    step_of_bundle_free c again (slice_get (chars flags) 0) flags skip h (Faults.flags_fault c again k) (Takes.flags_pass c again k) (flags_free c again k) e
+flags_free c again (suc k) flags skip h e = grind (arith, step_of_bundle_free, flags_free c again k)
 
 flag_word_free : (c : List Rule) (again : Bool) (o : Option (Text × Option Text)) (word : Text) (h : Held) → Faults.flag_word_fault c again o word h ≡ []
     → Takes.flag_word_passes c again o word h ≡ true
-flag_word_free c again (Some p) word h e = long_free c again (arg_by_long c p.0) p.1 h e
-flag_word_free c again None word h e = go (short_of word) e
-  where
-    go : (o : Option Text) → option_map_or (λ flags. Faults.bundle_fault c again flags h) o [] ≡ [] → option_map_or (λ flags. Takes.bundle_passes c again flags h) o true ≡ true
-    go None e = refl
-    go (Some flags) e = flags_free c again (length flags) flags h.skip (record h { skip = 0 }) e
+flag_word_free c again o word h e = grind (arith, long_free, flags_free)
 
 other_free : (s : Shape) (o : Option Text) (word : Text) (h : Held) → Faults.other_fault s o word h ≡ [] → Takes.other_passes s o word h ≡ true
-other_free s (Some name) word h e = go (bytes_eq name (codes "help")) s.disable_help_subcommand e
-  where
-    go : (a b : Bool) → cond (a && not b) (kind.DisplayHelp ∷ kind.InvalidSubcommand ∷ []) [] ≡ [] → (not a || b) ≡ true
-    go false b e = refl
-    go true true e = refl
-    go true false e = cc
-other_free s None word h e = go (bytes_eq word (45 ∷ 45 ∷ [])) e
-  where
-    go : (b : Bool) → cond b [] (Faults.flag_word_fault s.rules s.args_override_self (long_of word) word h) ≡ []
-        → (b || Takes.flag_word_passes s.rules s.args_override_self (long_of word) word h) ≡ true
-    go true e = refl
-    go false e = flag_word_free s.rules s.args_override_self (long_of word) word h e
+other_free s o word h e = grind (arith, flag_word_free)
 
 word_free : (s : Shape) (names : Names) (is_trailing : Bool) (waiting : Waiting) (word : Text) (h : Held) → Faults.word_fault s names is_trailing waiting word h ≡ []
     → Takes.word_passes s names is_trailing waiting word h ≡ true
@@ -175,24 +130,13 @@ word_free s names true waiting word h e = refl
 word_free s names false waiting word h e = other_free s (subcommand_met names waiting word) word h e
 
 positional_free : (c : List Rule) (again : Bool) (a : Rule) (h : Held) → Faults.positional_fault c again a h ≡ [] → Takes.positional_passes c again a h ≡ true
-positional_free c again a h e = go (is_pending a h.pending && takes_several a) e
-  where
-    go : (b : Bool) → cond b [] (Faults.settle_fault c again h) ≡ [] → (b || Takes.settle_passes c again h) ≡ true
-    go true e = refl
-    go false e = settle_free c again h e
+positional_free c again a h e = grind (arith, settle_free)
 
 step_free : (s : Shape) (position : ℕ) (h : Held) (step : Step) → Faults.step_fault s position h step ≡ [] → Takes.step_passes s position h step ≡ true
 step_free s position h (next w) e = refl
 step_free s position h (trailing p) e = refl
 step_free s position h (subcommand name) e = refl
-step_free s position h value e = go (arg_by_index s.rules position) s.is_leaf e
-  where
-    go : (o : Option Rule) (leaf : Bool)
-        → option_map_or (λ a. Faults.positional_fault s.rules s.args_override_self a h) o (cond leaf (kind.UnknownArgument ∷ []) (kind.UnknownArgument ∷ kind.InvalidSubcommand ∷ [])) ≡ []
-        → option_map_or (λ a. Takes.positional_passes s.rules s.args_override_self a h) o false ≡ true
-    go None true e = cc
-    go None false e = cc
-    go (Some a) leaf e = positional_free s.rules s.args_override_self a h e
+step_free s position h value e = grind (arith, positional_free)
 
 turn_free : (s : Shape) (names : Names) (w : Walk) (word : Text) → Faults.turn_fault s names w word ≡ [] → Takes.turn_passes s names w word ≡ true
 turn_free s names w word e = go (is_some w.stopped) e
@@ -236,15 +180,7 @@ subcommand_free true false e = cc
 all_given : (rows : List Row) (rules : List Rule) → list_any (λ a. a.required && not (is_given a.id rows)) rules ≡ false
     → list_all (λ a. not a.required || is_given a.id rows) rules ≡ true
 all_given rows [] e = refl
-all_given rows (a ∷ rest) e = go a.required (is_given a.id rows) (all_given rows rest) e
-  where
-    go : (wanted given : Bool)
-        → (list_any (λ a. a.required && not (is_given a.id rows)) rest ≡ false → list_all (λ a. not a.required || is_given a.id rows) rest ≡ true)
-        → ((wanted && not given) || list_any (λ a. a.required && not (is_given a.id rows)) rest) ≡ false
-        → ((not wanted || given) && list_all (λ a. not a.required || is_given a.id rows) rest) ≡ true
-    go false given all e = all e
-    go true true all e = all e
-    go true false all e = cc
+all_given rows (a ∷ rest) e = grind (arith, all_given rows rest)
 
 required_free : (lifted : Bool) (rows : List Row) (rules : List Rule) → (not lifted && list_any (λ a. a.required && not (is_given a.id rows)) rules) ≡ false
     → (lifted || list_all (λ a. not a.required || is_given a.id rows) rules) ≡ true

@@ -29,8 +29,14 @@ fn a_byte_above_the_limit_is_told(rt: HostRuntime) -> Result<(), Fail> {
 
 #[test]
 fn a_proxy_is_asked_for_with_two_script_registers(rt: HostRuntime) {
-    assert_eq!(rt; parse(b"proxy s1 s0".as_slice()), Some(Command::Proxy(1, 0)));
-    assert_eq!(rt; parse(b"proxy s255 s255\r".as_slice()), Some(Command::Proxy(255, 255)));
+    assert_eq!(rt;
+        parse(b"proxy s1 s0".as_slice()),
+        Some(Command::Proxy(1, 0))
+    );
+    assert_eq!(rt;
+        parse(b"proxy s255 s255\r".as_slice()),
+        Some(Command::Proxy(255, 255))
+    );
     assert_eq!(rt; parse(b"proxy s0".as_slice()), None);
     assert_eq!(rt; parse(b"proxy n0 s0".as_slice()), None);
     assert_eq!(rt; parse(b"proxy s0 n0".as_slice()), None);

@@ -1,6 +1,7 @@
 //! Script objects, their slots and colours.
-ghost use Rattle.std.specs.Prelude.{◌≡◌, [], IfOk, IsTrue, OnOk};
-ghost use Rattle.cc_script.specs.Objects.{AreWhole, is_there};
+ghost use Rattle.std.specs.Prelude.{◌≡◌, [], Some, IfOk, IsTrue, OnOk};
+ghost use Rattle.cc_names.specs.declared.kind.Colour.TheVariants.{Black};
+ghost use Rattle.cc_script.specs.Objects.{AreWhole, colour_at, is_there};
 
 use cc_names::{Colour, Kind, NKey, Name, NativeNo, NoMemory, SKey, ScriptNo};
 use cc_script::{Marking, Scripts, raised_is_least};
@@ -36,6 +37,7 @@ fn make(heap: &mut Scripts) -> Result<SKey, NoMemory>
     requires { heap.old ≡ [] }
     ensures whole { OnOk result (AreWhole heap.new) }
     ensures live { IfOk result (λ key. IsTrue (is_there heap.new key.0)) }
+    ensures black { IfOk result (λ key. colour_at heap.new key.0 ≡ Some Black) }
 {
     heap.create_plain(ScriptNo(7), 1)
 }
@@ -47,7 +49,7 @@ fn is_seven(heap: &Scripts, key: SKey) -> bool
     let named = heap.kind(key) == Kind::Plain && heap.name(key) == Name::Script(ScriptNo(7));
     let coloured = heap.colour(key) == Colour::Black && !heap.has_colour(Colour::Gray);
     let alone = heap.first() == Some(key) && heap.next(key).is_none();
-    named && coloured && alone && heap.native_of(key).is_none()
+    named && coloured && alone && heap.native_of(key).is_none() && heap.delegate(key).is_none()
 }
 
 /// Whether its first slot is empty once it was emptied.
@@ -149,5 +151,53 @@ fn object_is_marked_in_each_way(rt: HostRuntime) -> Result<(), Fail> {
     assert!(rt; marks_one_after_another(rt.alloc()));
     assert!(rt; takes_back(rt.alloc()));
     raised_is_least();
+    Ok(())
+}
+
+/// Makes a proxy of an object, with the number 8.
+fn make_proxy(heap: &mut Scripts, delegate: SKey) -> Result<SKey, NoMemory>
+    requires black { colour_at heap.old delegate.0 ≡ Some Black }
+    requires whole { AreWhole heap.old }
+    ensures whole { OnOk result (AreWhole heap.new) }
+    ensures live { IfOk result (λ key. IsTrue (is_there heap.new key.0)) }
+{
+    heap.create_proxy(ScriptNo(8), delegate)
+}
+
+/// Whether an object is that one, without slots, with this delegate.
+fn is_proxy_of(heap: &Scripts, key: SKey, delegate: SKey) -> bool
+    requires { IsTrue (is_there heap.now key.0) }
+{
+    let named = heap.kind(key) == Kind::Proxy && heap.name(key) == Name::Script(ScriptNo(8));
+    let empty = heap.slots(key) == 0 && heap.native_of(key).is_none();
+    named && empty && heap.delegate(key) == Some(delegate)
+}
+
+/// Whether none is white once all were and an object is exposed.
+fn exposes_all(heap: &mut Scripts, key: SKey) -> bool
+    requires live { IsTrue (is_there heap.old key.0) }
+    requires whole { AreWhole heap.old }
+{
+    heap.clear_marks();
+    heap.expose(key);
+    !heap.has_colour(Colour::White)
+}
+
+/// Makes an object and a proxy of it, reads the proxy and exposes it; whether there was memory, and the object is black too.
+fn leads_to_its_delegate(alloc: Global) -> bool {
+    let mut heap = Scripts::new(alloc);
+    let made = make(&mut heap);
+    if let Ok(delegate) = made {
+        let proxy = make_proxy(&mut heap, delegate);
+        if let Ok(key) = proxy {
+            return is_proxy_of(&heap, key, delegate) && exposes_all(&mut heap, key);
+        }
+    }
+    false
+}
+
+#[test]
+fn proxy_leads_to_its_delegate(rt: HostRuntime) -> Result<(), Fail> {
+    assert!(rt; leads_to_its_delegate(rt.alloc()));
     Ok(())
 }

@@ -9,8 +9,8 @@ use std::test::Fail;
 fn set_all(maps: &mut WeakMaps, count: u32) -> bool {
     let mut set = true;
     for number in 0..count {
-        let made = maps.set(SKey(number), SKey(number), SKey(0));
-        let replaced = maps.set(SKey(number), SKey(number), SKey(number));
+        let made = maps.set(SKey(number), SKey(number), None, SKey(0));
+        let replaced = maps.set(SKey(number), SKey(number), None, SKey(number));
         set = set && made.is_ok() && replaced.is_ok();
     }
     set
@@ -20,7 +20,7 @@ fn set_all(maps: &mut WeakMaps, count: u32) -> bool {
 fn set_each_key(maps: &mut WeakMaps, the_map: SKey, count: u32) -> bool {
     let mut set = true;
     for number in 0..count {
-        let made = maps.set(the_map, SKey(number), SKey(0));
+        let made = maps.set(the_map, SKey(number), None, SKey(0));
         set = set && made.is_ok();
     }
     set
@@ -48,9 +48,9 @@ fn there_is_memory_for_65537_entries_maps_and_keys(rt: HostRuntime) -> Result<()
 /// Whether the greatest key is kept as a value, and is replaced by another.
 fn keeps_the_greatest_key(alloc: Global) -> bool {
     let mut maps = WeakMaps::new(alloc);
-    let made = maps.set(SKey(1), SKey(2), SKey(u32::MAX)).is_ok();
+    let made = maps.set(SKey(1), SKey(2), None, SKey(u32::MAX)).is_ok();
     let read = maps.get(SKey(1), SKey(2)) == Some(SKey(u32::MAX));
-    let again = maps.set(SKey(1), SKey(2), SKey(3)).is_ok();
+    let again = maps.set(SKey(1), SKey(2), None, SKey(3)).is_ok();
     made && read && again && maps.get(SKey(1), SKey(2)) == Some(SKey(3))
 }
 
@@ -66,8 +66,8 @@ fn first_key(maps: &WeakMaps) -> Option<u32> {
 /// Sets two entries, reads both, and takes out one in each way; whether the answers are right.
 fn calls_answer(alloc: Global) -> bool {
     let mut maps = WeakMaps::new(alloc);
-    let one = maps.set(SKey(1), SKey(2), SKey(3)).is_ok();
-    let two = maps.set(SKey(4), SKey(5), SKey(6)).is_ok();
+    let one = maps.set(SKey(1), SKey(2), None, SKey(3)).is_ok();
+    let two = maps.set(SKey(4), SKey(5), None, SKey(6)).is_ok();
     let read = maps.get(SKey(4), SKey(5)) == Some(SKey(6)) && first_key(&maps) == Some(2);
     maps.unset(SKey(1), SKey(2));
     let one_left = maps.len() == 1;
@@ -75,9 +75,44 @@ fn calls_answer(alloc: Global) -> bool {
     one && two && read && one_left && maps.is_empty()
 }
 
+/// The delegate that stands with the first entry that an object leads to.
+fn first_delegate(maps: &WeakMaps, object: SKey) -> Option<SKey> {
+    let place = maps.first_with(object)?;
+    maps.entry(place).2
+}
+
+/// Sets an entry whose key has a delegate, and again with another one, which no entry had; whether each leads to it while it
+/// stands with it.
+fn follows_a_delegate(alloc: Global) -> bool {
+    let mut maps = WeakMaps::new(alloc);
+    let made = maps.set(SKey(1), SKey(2), Some(SKey(3)), SKey(4)).is_ok();
+    let read = first_delegate(&maps, SKey(3)) == Some(SKey(3));
+    let again = maps.set(SKey(1), SKey(2), Some(SKey(9)), SKey(4)).is_ok();
+    let gone = maps.first_with(SKey(3)).is_none();
+    let there = first_delegate(&maps, SKey(9)) == Some(SKey(9))
+        && first_delegate(&maps, SKey(2)) == Some(SKey(9));
+    made && read && again && gone && there
+}
+
+/// Entries that are set, set again with another delegate, added and taken out after that; whether the answers are right.
+fn answers_after_another_delegate(alloc: Global) -> bool {
+    let mut maps = WeakMaps::new(alloc);
+    let one = maps.set(SKey(1), SKey(2), Some(SKey(3)), SKey(4)).is_ok();
+    let again = maps.set(SKey(1), SKey(2), None, SKey(5)).is_ok();
+    let two = maps.set(SKey(6), SKey(7), Some(SKey(8)), SKey(9)).is_ok();
+    let read = maps.get(SKey(1), SKey(2)) == Some(SKey(5))
+        && first_delegate(&maps, SKey(8)) == Some(SKey(8));
+    maps.unset(SKey(1), SKey(2));
+    let one_left = maps.len() == 1 && first_key(&maps).is_none();
+    maps.drop_dead(|key| key != SKey(7));
+    one && again && two && read && one_left && maps.is_empty()
+}
+
 #[test]
 fn entries_are_set_read_and_taken_out(rt: HostRuntime) -> Result<(), Fail> {
     assert!(rt; keeps_the_greatest_key(rt.alloc()));
     assert!(rt; calls_answer(rt.alloc()));
+    assert!(rt; follows_a_delegate(rt.alloc()));
+    assert!(rt; answers_after_another_delegate(rt.alloc()));
     Ok(())
 }

@@ -3,7 +3,7 @@ ghost use Rattle.std.specs.Prelude.{◌≡◌, ◌<◌, ℕ, List, IsTrue};
 ghost use Rattle.cc_lists.specs.Members.{Among};
 ghost use Rattle.cc_model.specs.Colours.{marked, HasColours};
 ghost use Rattle.cc_script.specs.Objects.{AreWhole, is_there};
-ghost use Rattle.cc_marking.specs.Marking.{AreEntriesThere, marked_from};
+ghost use Rattle.cc_marking.specs.Marking.{AreDelegatesOfKeys, AreEntriesThere, marked_from};
 ghost use Rattle.cc_heaps.specs.Keyed.{IsInOrder};
 ghost use Rattle.cc_heaps.specs.Standing.{StillStands};
 ghost use Rattle.cc_heaps.specs.Keeping.{KeepsObjects};
@@ -31,6 +31,7 @@ fn mark_uncounted<L: Ledger>(
     requires registers { (key : ℕ) → Among key registers.old → IsTrue (is_there scripts.old key) }
     requires held { (key : ℕ) → Among key held.old → IsTrue (is_there scripts.old key) }
     requires entries { AreEntriesThere scripts.old weak.now }
+    requires delegates { AreDelegatesOfKeys scripts.old weak.now }
     requires whole { AreWhole scripts.old }
     ensures { scripts.new ≡ marked_from registers.old held.old weak.now scripts.old }
 {

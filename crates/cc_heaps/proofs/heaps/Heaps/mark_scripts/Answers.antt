@@ -7,6 +7,7 @@ use Rattle.cc_heaps.specs.Changes.{KeepsKeys}
 use Rattle.cc_heaps.specs.Fields.{keyed_of, heap_of, IsLinked}
 use Rattle.cc_heaps.specs.Roots.{keys_in_registers}
 use Rattle.cc_heaps.proofs.ObjectsKept.{keys-counted, with_objects}
+use Rattle.cc_heaps.proofs.EntryNames.{delegates-order}
 use Rattle.cc_heaps.proofs.ReferenceNames.{few_slots-counted}
 use Rattle.cc_heaps.proofs.RootNames.{register-there, native-there}
 use Rattle.cc_heaps.proofs.MarkedObjects.{marked_objects, heap-marked, keys-marked, order-marked, linked-marked}
@@ -29,6 +30,9 @@ mark_uncounted-requires-clause-whole c = (rw (← c.self.view_is) at c.requires.
 
 pub mark_uncounted-requires-clause-entries : goal.mark_uncounted-requires-clause-entries
 mark_uncounted-requires-clause-entries c = (rw (← c.self.view_is) at c.requires.order).1.entries_there
+
+pub mark_uncounted-requires-clause-delegates : goal.mark_uncounted-requires-clause-delegates
+mark_uncounted-requires-clause-delegates c = let f = rw (← c.self.view_is) at c.requires.order in delegates-order f.0 (keyed_of c.self.inside) f.1
 
 pub mark_uncounted-requires-clause-registers : goal.mark_uncounted-requires-clause-registers
 mark_uncounted-requires-clause-registers c = λ k m.

@@ -25,5 +25,5 @@ pub returns-in-Script : goal.returns-in-Script
 returns-in-Script c =
     let f = rw (← c.self.view_is) at c.requires.order in
     let live = script-live c.self.view_is c.in-Script.is c.requires.there in
-    ap (λ i. i + 1) c.slots-in-Script.ensures
+    ap (λ i. i + 2) c.slots-in-Script.ensures
     ∙ sym (ap length (places-same c.self.view_is c.in-Script.is) ∙ script_places-length c.self.inside f.0 c.self.invariant f.1 c.in-Script.key live)
