@@ -20,11 +20,7 @@ use Rattle.cc_chain.proofs.Rows.{AllDiffer-push, AllDiffer-filter, without-first
 -- Who is live, and who is in the list
 
 linked-live : (links : Links) (key : ℕ) → is_linked links key ≡ true → IsTrue (is_live links key)
-linked-live links key = go (links key)
-  where
-    go : (o : Option (Option Link)) → is_some (option_flatten o) ≡ true → is_some o ≡ true
-    go None e = e
-    go (Some o) e = refl
+linked-live links key = grind arith
 
 -- a walk from the first key of a part of the list gives that part
 walked-from : (links : Links) (n : ℕ) (before : Option ℕ) (keys : List ℕ) → AllDiffer keys → ((k : ℕ) → Among k keys → link_at links k ≡ link_from before keys k) →
@@ -159,11 +155,7 @@ module _ {R : Type 0} (links : Links) (chain : Chain R) (keys : List ℕ) (c : I
 
   -- The front leaves
   pub chain-front : (key : ℕ) → chain.first ≡ Some key → without ◌==◌ key keys ≡ drop 1 keys
-  chain-front key e = go keys c.differ (sym c.first ∙ e)
-    where
-      go : (ks : List ℕ) → AllDiffer ks → first_of ks ≡ Some key → without ◌==◌ key ks ≡ drop 1 ks
-      go [] d f = absurd (cc)
-      go (k ∷ ks) d f = let same : k ≡ key = cc in subst (λ z. without ◌==◌ z (k ∷ ks) ≡ ks) same (without-first k ks d.0)
+  chain-front key e = grind (arith, without-first)
 
   -- The list is read from the store
   pub chain-walked : (n : ℕ) → length keys ≤ n → walked n links chain.first ≡ keys
