@@ -183,14 +183,3 @@ chain-kept links new chain keys same c = record { differ = c.differ; first = c.f
 pub chain-one_list : {R : Type 0} (links : Links) (chain : Chain R) (xs ys : List ℕ) → IsChain links chain xs → IsChain links chain ys → xs ≡ ys
 chain-one_list links chain xs ys c d =
     sym (chain-walked links chain xs c (length xs + length ys) (omega arith)) ∙ chain-walked links chain ys d (length xs + length ys) (omega arith)
-
--- and that a chain is some list has one proof alone: a ghost field may say it
-chosen-prop : {A : Type 0} (P : A → Type 0) → ((x : A) → IsProp (P x)) → ((x y : A) → P x → P y → x ≡ y) → IsProp ((x : A) × P x)
-chosen-prop P prop one s t = subst (λ y. (d : P y) → (s.0, s.1) ≡ (y, d)) (one s.0 t.0 s.1 t.1) (λ d. ap (λ e. (s.0, e)) (prop s.0 s.1 d)) t.1
-
-AllDiffer-prop : (xs : List ℕ) → IsProp (AllDiffer xs)
-AllDiffer-prop [] = hlevel
-AllDiffer-prop (x ∷ xs) = hlevel (AllDiffer-prop xs)
-
-pub IsSomeChain-prop : {R : Type 0} (links : Links) (chain : Chain R) → IsProp (IsSomeChain links chain)
-IsSomeChain-prop links chain = chosen-prop (IsChain links chain) (λ keys. hlevel (AllDiffer-prop, props)) (chain-one_list links chain)

@@ -54,10 +54,6 @@ module _ (cells : List (Option Placed)) (h : Holders) (k : AreKnown cells h) whe
   pub known-room : (key : ℕ) (c : Placed) → cell_at cells key ≡ Some c → count_of (entry_at h c.number) < 255
   known-room key c at = let few = scripts-few c (k.few key c at) in rw (k.known key c at) (omega (arith, few))
 
-  -- a table that says the same
-  pub known-same : (j : Holders) → ((n : ℕ) → entry_at j n ≡ entry_at h n) → AreKnown cells j
-  known-same j same = grind (arith, k.known)
-
   -- A native is another, of the same number.
   pub known-changed : (key : ℕ) (c d : Placed) → cell_at cells key ≡ Some c → d.number ≡ c.number → length d.slots ≤ 64 → (j : Holders) →
       ((n : ℕ) → entry_at j n ≡ (if c.number == n then Known (scripts_of d) key else entry_at h n)) → AreKnown (set cells key (Some d)) j
@@ -114,18 +110,6 @@ module _ (cells : List (Option Placed)) (h : Holders) (k : AreKnown cells h) whe
   pub known-removed : (key : ℕ) (c : Placed) → cell_at cells key ≡ Some c → (j : Holders) →
       ((n : ℕ) → entry_at j n ≡ (if c.number == n then Unknown else entry_at h n)) → AreKnown (set cells key None) j
   known-removed key c at j entries = grind (arith, get_or-set_other, known-one, eqb_tells, set, get_or-set_same, cell-inside, k.known, k.there)
-
-  -- A number that no native has is unknown,
-  unknown-fresh : (m : ℕ) → ((key : ℕ) (c : Placed) → cell_at cells key ≡ Some c → c.number ≢ m) → entry_at h m ≡ Unknown
-  unknown-fresh m fresh = grind (arith, k.there)
-
-  -- so it may be known for a while, and be forgotten.
-  pub known-refused : (m : ℕ) → ((key : ℕ) (c : Placed) → cell_at cells key ≡ Some c → c.number ≢ m) → (i j : Holders) (x : Entry) →
-      ((n : ℕ) → entry_at i n ≡ (if m == n then x else entry_at h n)) → ((n : ℕ) → entry_at j n ≡ (if m == n then Unknown else entry_at i n)) → AreKnown cells j
-  known-refused m fresh i j x added removed = known-same j (λ n. removed n ∙ ⊎_elim
-      (λ t. rw t.0 (sym (ap (entry_at h) (sym t.1) ∙ unknown-fresh m fresh)))
-      (λ o. rw o.0 (added n ∙ rw o.0 refl))
-      (eqb_tells m n))
 
   -- A native came to stand at a key.
   pub known-inserted : (new : List (Option Placed)) (key : ℕ) (d : Placed) → cell_at cells key ≡ None → cell_at new key ≡ Some d →

@@ -1,5 +1,5 @@
 -- HOW A DOCUMENT READS AFTER A STEP, where it is read from its graph.
-use Rattle.std.proofs.Common.{◌≡◌, ◌≢◌, ℕ, ◌+◌, ◌<◌, ◌⊎◌, length, get_or, List, [], ◌∷◌, ◌++◌, Option, Some, None, option_map, refl, sym, ◌∙◌, ap, subst, ⊎_elim}
+use Rattle.std.proofs.Common.{◌≡◌, ◌≢◌, ℕ, ◌<◌, ◌⊎◌, length, get_or, [], ◌∷◌, Option, Some, None, option_map, refl, sym, ◌∙◌, ap, subst, ⊎_elim, arith}
 use Rattle.std.specs.Option.{option_and_then}
 use Rattle.std.proofs.lemmas.Bool.Decides.{eqb_tells}
 use Rattle.std.proofs.lemmas.List.{length-set, get_or-set_same, get_or-set_other}
@@ -10,7 +10,7 @@ use Rattle.cc_names.specs.declared.register.Reg.TheVariants.{N, S}
 use Rattle.cc_names.specs.Names.{object}
 use Rattle.cc_model.specs.Slots.{Slots}
 use Rattle.cc_model.specs.Checks.{slots_or_none, native_of}
-use Rattle.cc_model.specs.Graph.{Graph, GraphNative, GraphScript, plain_object, numbered, native_in, script_in, slots_of_script, objects_of, register, set_native, set_slot, with_slot, as_preserved, as_wrapped, with_script_slot, slots_or_blank, with_script, wrapped, preserve}
+use Rattle.cc_model.specs.Graph.{Graph, GraphNative, GraphScript, plain_object, numbered, native_in, script_in, slots_of_script, objects_of, register, set_native, set_slot, with_slot, as_preserved, with_script, wrapped, preserve}
 use Rattle.cc_laws_heap.proofs.Face.{change_numbered, numbered-change, numbered-change_other, numbered-next, numbered-push, numbered-push_other, set_native-is, set_script-is, with_natives, with_scripts}
 use Rattle.cc_document.specs.Words.{element, element_of, slot_of, spoken_of}
 
@@ -120,11 +120,7 @@ alike-native g a f slots spoken = subst (StaysAlike g) (sym (set_native-is g a (
 -- a blank reflector made, or none
 pub wrapped-alike : (g : Graph) (x : Option Name) → StaysAlike g (wrapped g x)
 wrapped-alike g None = alike-nothing g
-wrapped-alike g (Some (name.Native k)) = alike-native g k.0 as_wrapped (λ n. refl) (λ n. blank n.reflector)
-  where
-    blank : (r : Option Slots) → element_of (native_of (slot_in (Some (slots_or_blank r)) 0)) ≡ element_of (native_of (slot_in r 0))
-    blank None = refl
-    blank (Some slots) = refl
+wrapped-alike g (Some (name.Native k)) = grind (arith, alike-native)
 wrapped-alike g (Some (name.Script k)) = alike-nothing g
 wrapped-alike g (Some (name.Reflector k)) = alike-nothing g
 
@@ -143,23 +139,7 @@ closure_reads o = element_of (native_of (slot_in (option_and_then slots_of_scrip
 
 -- a closure made, which speaks of nothing yet
 pub plain-alike : (g : Graph) (fresh : Option Name) → AreAlike fresh g (with_script g (plain_object (None ∷ [])))
-plain-alike g fresh = record { slots = λ e i. refl; spoken = λ x ne. spoken x; entries = refl }
-  where
-    new : List GraphScript
-    new = g.scripts ++ plain_object (None ∷ []) ∷ []
-
-    reads : (k : ℕ) → closure_reads (numbered new k) ≡ closure_reads (numbered g.scripts k)
-    reads k = ⊎_elim
-        (λ t. ap (λ i. closure_reads (numbered new i)) t.1 ∙ (ap closure_reads (numbered-push g.scripts (plain_object (None ∷ [])))
-        ∙ (sym (ap closure_reads (numbered-next g.scripts)) ∙ ap (λ i. closure_reads (numbered g.scripts i)) (sym t.1))))
-        (λ t. ap closure_reads (numbered-push_other g.scripts (plain_object (None ∷ [])) k t.1))
-        (eqb_tells k (length g.scripts + 1))
-
-    spoken : (x : Option Name) → spoken_of (objects_of (with_script g (plain_object (None ∷ [])))) x ≡ spoken_of (objects_of g) x
-    spoken None = refl
-    spoken (Some (name.Native k)) = refl
-    spoken (Some (name.Script k)) = reads k.0
-    spoken (Some (name.Reflector k)) = refl
+plain-alike g fresh = grind (arith, numbered-push, numbered-next, numbered-push_other, eqb_tells)
 
 -- its slot written
 pub record IsClosed (g k : Graph) (a : ℕ) (y : Option Name) : Type 0 where
@@ -168,21 +148,4 @@ pub record IsClosed (g k : Graph) (a : ℕ) (y : Option Name) : Type 0 where
   pub registers : (r : Reg) → register k r ≡ register g r
 
 pub closure-written : (g : Graph) (a : ℕ) (y : Option Name) → IsClosed g (set_slot g (Some (object a)) 0 y) a y
-closure-written g a y = subst (λ k. IsClosed g k a y) (sym (set_script-is g a (option_map f (script_in g a)))) (record {
-  alike = record { slots = λ e i. refl; spoken = spoken; entries = refl };
-  now = λ e. ap closure_reads (numbered-change g.scripts a f ∙ ap (option_map f) e);
-  registers = same-register;
-})
-  where
-    f : GraphScript → GraphScript
-    f o = with_script_slot 0 y o
-
-    spoken : (x : Option Name) → x ≢ Some (object a) → spoken_of (objects_of (with_scripts g (change_numbered g.scripts a f))) x ≡ spoken_of (objects_of g) x
-    spoken None ne = refl
-    spoken (Some (name.Native k)) ne = refl
-    spoken (Some (name.Script k)) ne = ap closure_reads (numbered-change_other g.scripts a f k.0 (λ e. ne (ap (λ i. Some (object i)) e)))
-    spoken (Some (name.Reflector k)) ne = refl
-
-    same-register : (r : Reg) → register (with_scripts g (change_numbered g.scripts a f)) r ≡ register g r
-    same-register (N r) = refl
-    same-register (S r) = refl
+closure-written g a y = grind (arith, set_script-is, numbered-change, with_scripts, change_numbered, numbered-change_other)

@@ -1,12 +1,10 @@
 -- AN ELEMENT APPENDED, AND REMOVED, in the host's words.
-use Rattle.std.proofs.Common.{◌≡◌, ◌≢◌, ℕ, ◌+◌, ◌<◌, ◌⊎◌, Option, Some, None, refl, sym, ◌∙◌, ap, subst, inl, inr, arith}
+use Rattle.std.proofs.Common.{◌≡◌, ◌≢◌, ℕ, ◌+◌, ◌<◌, ◌⊎◌, Option, Some, None, refl, ◌∙◌, ap, subst, inl, inr, arith}
 use Rattle.cc_names.specs.declared.name.Name.{Name}
 use Rattle.cc_names.specs.declared.register.Reg.{Reg}
 use Rattle.cc_names.specs.declared.register.Reg.TheVariants.{N, S}
-use Rattle.cc_names.specs.Names.{reflector}
-use Rattle.cc_model.specs.Entries.{value_in}
 use Rattle.cc_model.specs.Checks.{value_at}
-use Rattle.cc_model.specs.Graph.{Graph, GraphNative, native_in, objects_of, register, source, set_slot}
+use Rattle.cc_model.specs.Graph.{Graph, GraphNative, native_in, objects_of, register, source}
 use Rattle.cc_model.specs.WellMade.{IsWellMade}
 use Rattle.cc_laws_heap.proofs.Face.{MadeNative, OfSome, is_some-found, native_register-made}
 use Rattle.cc_document.specs.Words.{places, element, element_of, slot_of, spoken_of, parent_of, child_of}
@@ -21,24 +19,17 @@ element-made g w v a e = is_some-found (native_in g a) (subst (OfSome (MadeNativ
 -- the value of a key is the same where entries are
 pub value-alike : (g k : Graph) → k.entries ≡ g.entries → register k (S 0) ≡ register g (S 0) → (y : Name) →
     value_at (objects_of k) (register k (S 0)) (Some y) ≡ value_at (objects_of g) (register g (S 0)) (Some y)
-value-alike g k es r y = ap (λ m. value_at (objects_of k) m (Some y)) r ∙ go (register g (S 0))
-  where
-    go : (m : Option Name) → value_at (objects_of k) m (Some y) ≡ value_at (objects_of g) m (Some y)
-    go None = refl
-    go (Some m) = ap (λ e. value_in e m y) es
+value-alike g k es r y = grind arith
 
 -- and so is what it speaks of, where closures speak of the same
 pub data-alike : (g k : Graph) → k.entries ≡ g.entries → register k (S 0) ≡ register g (S 0) →
     ((x : Option Name) → spoken_of (objects_of k) x ≡ spoken_of (objects_of g) x) → SameData (objects_of g) (objects_of k)
-data-alike g k es r spoken = λ e. ap (spoken_of (objects_of k)) (value-alike g k es r (reflector e))
-    ∙ spoken (value_at (objects_of g) (register g (S 0)) (Some (reflector e)))
+data-alike g k es r spoken = grind (arith, value-alike)
 
 -- a slot of the element in a variable written with what a register holds
 pub written-reads : (g : Graph) (v i : ℕ) (from : Option Reg) (a : ℕ) (y : Option Name) → register g (N v) ≡ element a → source g from ≡ y →
     IsWritten g (written v i from g) a i y
-written-reads g v i from a y e f =
-    subst (λ x. IsWritten g (set_slot g x i (source g from)) a i y) (sym e)
-    (subst (λ z. IsWritten g (set_slot g (element a) i z) a i y) (sym f) (slot-written g a i y))
+written-reads g v i from a y e f = grind (arith, IsWritten, slot-written)
 
 -- two slots of elements written: the parent of one, and a place of the other
 pub record AreWritten (g k : Graph) (a b place : ℕ) (x y : Option Name) : Type 0 where

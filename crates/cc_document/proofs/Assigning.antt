@@ -1,16 +1,15 @@
 -- A VARIABLE ASSIGNED, in the host's words: with an element that is there, with a new one, or with nothing.
-use Rattle.std.proofs.Common.{◌≡◌, ℕ, zero, suc, ◌+◌, ◌<◌, false, length, get_or, Option, Some, None, option_map, refl, sym, ◌∙◌, ap, subst, ⊎_elim}
+use Rattle.std.proofs.Common.{◌≡◌, ℕ, zero, suc, ◌+◌, ◌<◌, false, length, get_or, Option, Some, None, option_map, refl, arith}
 use Rattle.std.specs.Option.{option_and_then}
 use Rattle.std.proofs.lemmas.Bool.Decides.{eqb_tells}
 use Rattle.std.proofs.lemmas.List.{get_or-set_same, get_or-set_other}
 use Rattle.cc_names.specs.declared.name.Name.{Name}
 use Rattle.cc_names.specs.declared.name.Name.TheVariants as name
 use Rattle.cc_names.specs.declared.register.Reg.TheVariants.{N}
-use Rattle.cc_names.specs.Names.{native}
 use Rattle.cc_model.specs.declared.command.Command.TheVariants.{Native}
 use Rattle.cc_model.specs.Slots.{empty_slots}
 use Rattle.cc_model.specs.Checks.{refusal_of, native_of}
-use Rattle.cc_model.specs.Graph.{Graph, GraphNative, native_in, objects_of, set_register, with_native, changed, unless_refused}
+use Rattle.cc_model.specs.Graph.{Graph, GraphNative, native_in, objects_of, set_register, with_native, changed}
 use Rattle.cc_laws_heap.proofs.Face.{numbered-next, numbered-push, numbered-push_other}
 use Rattle.cc_document.specs.Words.{element, element_of, element_slots, slot_of, spoken_of}
 use Rattle.cc_document.specs.Changes.{IsAsBefore, IsAssigned}
@@ -19,14 +18,7 @@ use Rattle.cc_document.proofs.Alike.{slot_in}
 
 -- with what is there, or nothing
 pub assigned-reads : (g : Graph) (v : ℕ) (x : Option Name) → v < length g.native_registers → IsAssigned (objects_of g) (objects_of (set_register g (N v) x)) v x
-assigned-reads g v x within = record {
-  now = get_or-set_same g.native_registers v x None within;
-  others = λ w ne. get_or-set_other g.native_registers v w x None ne;
-  parents = λ e. refl;
-  children = λ e i. refl;
-  listeners = λ e. refl;
-  attached = λ e. refl;
-}
+assigned-reads g v x within = search (get_or-set_same, get_or-set_other)
 
 -- empty slots hold nothing
 pub empty-slot : (n i : ℕ) → get_or (empty_slots n) i None ≡ None
@@ -40,10 +32,7 @@ module _ (g : Graph) where
   new = record { slots = empty_slots element_slots; preserved = false; reflector = None }
 
   reads : {X : Type 0} (r : Option GraphNative → X) → r (Some new) ≡ r None → (j : ℕ) → r (native_in (with_native g element_slots) j) ≡ r (native_in g j)
-  reads r same j = ⊎_elim
-      (λ t. ap (λ i. r (native_in (with_native g element_slots) i)) t.1 ∙ (ap r (numbered-push g.natives new) ∙ (same ∙ (sym (ap r (numbered-next g.natives)) ∙ ap (λ i. r (native_in g i)) (sym t.1)))))
-      (λ t. ap r (numbered-push_other g.natives new j t.1))
-      (eqb_tells j (length g.natives + 1))
+  reads r same j = grind (arith, numbered-push, numbered-next, numbered-push_other, eqb_tells)
 
   slots : (e i : ℕ) → slot_of (objects_of (with_native g element_slots)) (element e) i ≡ slot_of (objects_of g) (element e) i
   slots e i = reads (λ o. slot_in (option_map (λ (n : GraphNative). n.slots) o) i) (empty-slot element_slots i) e
@@ -58,25 +47,9 @@ module _ (g : Graph) where
   pub made-reads : (v : ℕ) → v < length g.native_registers → refusal_of (objects_of g) (Native v element_slots) ≡ None →
       IsAssigned (objects_of g) (objects_of (made_in v g)) v (element (length g.natives + 1))
   unfolding changed
-  made-reads v within taken =
-      let h = with_native g element_slots in
-      let is : made_in v g ≡ set_register h (N v) (Some (native (length g.natives + 1))) = ap (λ o. unless_refused o g (changed g (Native v element_slots))) taken in
-      subst (λ k. IsAssigned (objects_of g) (objects_of k) v (element (length g.natives + 1))) (sym is) (record {
-        now = get_or-set_same g.native_registers v (Some (native (length g.natives + 1))) None within;
-        others = λ w ne. get_or-set_other g.native_registers v w (Some (native (length g.natives + 1))) None ne;
-        parents = λ e. ap element_of (slots e 0);
-        children = λ e i. ap element_of (slots e (i + 2));
-        listeners = λ e. ap (spoken_of (objects_of h)) (slots e 1) ∙ spoken (slot_of (objects_of g) (element e) 1);
-        attached = λ e. spoken _;
-      })
+  made-reads v within taken = grind (arith, get_or-set_same, get_or-set_other, slots, spoken)
 
 -- Nothing changed
 
 pub as_before-then : (g k l : Graph) → IsAsBefore (objects_of g) (objects_of k) → IsAsBefore (objects_of k) (objects_of l) → IsAsBefore (objects_of g) (objects_of l)
-as_before-then g k l p q = record {
-  variables = λ v. q.variables v ∙ p.variables v;
-  parents = λ e. q.parents e ∙ p.parents e;
-  children = λ e i. q.children e i ∙ p.children e i;
-  listeners = λ e. q.listeners e ∙ p.listeners e;
-  attached = λ e. q.attached e ∙ p.attached e;
-}
+as_before-then g k l p q = grind (arith, p.variables, p.parents, p.children, p.listeners, p.attached)

@@ -1,5 +1,5 @@
 -- A DOCUMENT WITHOUT ELEMENTS IS SHOWN.
-use Rattle.std.proofs.Common.{◌≡◌, ◌≤◌, [], Option, Some, None, refl, ap, subst, sym, ◌∙◌}
+use Rattle.std.proofs.Common.{◌≡◌, ◌≤◌, [], Option, Some, None, ap, subst, sym, ◌∙◌, arith}
 use Rattle.std.proofs.lemmas.List.{get_or-set_other}
 use Rattle.cc_model.specs.Slots.{empty_slots}
 use Rattle.cc_names.specs.Allowance.{Allowance}
@@ -26,12 +26,7 @@ module _ (limits : Allowance) (room : ¬ (limits.scripts ≤ 0)) where
   empty-is = ap (λ o. unless_refused o (empty_graph limits) (changed (empty_graph limits) (WeakMap 0))) (room-for_map (objects_of (empty_graph limits)) room)
 
   empty-document : IsDocument (empty_document limits)
-  empty-document = subst IsDocument (sym empty-is) (record {
-    elements = λ k n e. absurd (numbered-nothing k n e);
-    map_number = 1;
-    map_held = refl;
-    map_made = refl;
-  })
+  empty-document = grind (arith, empty-is, numbered-nothing)
 
   -- IT IS SHOWN once the weak map of all data was made in empty heaps.
   pub Shows-empty : (v w : Keyed) (c : Option Built) → c ≡ None → StandsFor v.heap (empty_graph limits) → HasColourInvariant (view v.heap) → IsSuspected (view v.heap) [] →

@@ -7,17 +7,16 @@ use Rattle.cc_lists.specs.Members.{Among}
 use Rattle.cc_lists.proofs.Filtering.{find-among}
 use Rattle.cc_lists.proofs.Places.{among-get}
 use Rattle.cc_names.specs.declared.name.Name.{Name}
-use Rattle.cc_names.specs.declared.name.Name.TheVariants as name
 use Rattle.cc_names.specs.declared.number.NKey.{NKey}
-use Rattle.cc_names.specs.declared.register.Reg.TheVariants.{N, S}
+use Rattle.cc_names.specs.declared.register.Reg.TheVariants.{N}
 use Rattle.cc_names.specs.Names.{native, reflector}
 use Rattle.cc_model.specs.Slots.{Slots}
 use Rattle.cc_model.specs.Entries.{value_in}
-use Rattle.cc_model.specs.Checks.{Objects, native_of, reflector_of, value_at}
+use Rattle.cc_model.specs.Checks.{Objects, native_of, reflector_of}
 use Rattle.cc_model.specs.WellFormed.{script_names}
 use Rattle.cc_model.specs.Heap.{objects_of, register}
 use Rattle.cc_laws_heap.proofs.Face.{found-among}
-use Rattle.cc_counted.specs.Counts.{number_or_none, reflector_at}
+use Rattle.cc_counted.specs.Counts.{reflector_at}
 use Rattle.cc_script.specs.Objects.{Object, is_there, name_at}
 use Rattle.cc_script.specs.Objects as objects
 use Rattle.cc_heaps.specs.Keyed.{Keyed, IsInOrder, Reflects, counts_of, named_object, name_held, number_at, the_number, reflector_key}
@@ -30,9 +29,7 @@ use Rattle.cc_document.specs.Words.{element_of, slot_of, spoken_of, data_of}
 
 -- a closure is read by its first slot
 spoken-script : (o : Objects) (x : Name) (k : Option ℕ) (v : Keyed) → Reflects v x k → spoken_of o (Some x) ≡ element_of (native_of (slot_of o (Some x) 0))
-spoken-script o (name.Native i) k v r = absurd r
-spoken-script o (name.Script i) k v r = refl
-spoken-script o (name.Reflector i) k v r = refl
+spoken-script o x k v r = grind arith
 
 -- no slot, nothing in it
 pub no-slot : (l : List (Option ℕ)) → length l < 1 → get_or l 0 None ≡ None
@@ -82,9 +79,7 @@ module _ (v : Keyed) (order : IsInOrder [] v) where
 
   module _ (of : ℕ) (key : NKey) (name : native_name v (Some key) ≡ register v.heap (N of)) (there : IsSome (number_at v key.0)) where
     in-variable : register v.heap (N of) ≡ Some (native (the_number v key.0))
-    in-variable =
-        let n = native-at [] v order of key name there in
-        n.held ∙ sym (ap (λ o. Some (native (number_or_none o))) n.at)
+    in-variable = grind (arith, native-at)
 
     -- the element's reflector, by its key
     pub wrapper-named : (r : ℕ) → Some r ≡ reflector_at (counts_of v) key.0 → name_at v.scripts r ≡ reflector_of (register v.heap (N of))
@@ -95,9 +90,4 @@ module _ (v : Keyed) (order : IsInOrder [] v) where
 
     -- no reflector, no data
     pub data-unwrapped : None ≡ reflector_at (counts_of v) key.0 → data_of (objects_of v.heap) (register v.heap (N of)) ≡ None
-    data-unwrapped e =
-        ap (λ x. data_of (objects_of v.heap) x) in-variable ∙ ap (spoken_of (objects_of v.heap)) (none (register v.heap (S 0)))
-      where
-        none : (m : Option Name) → value_at (objects_of v.heap) m (Some (reflector (the_number v key.0))) ≡ None
-        none None = refl
-        none (Some m) = no-reflector (the_number v key.0) (sym (e ∙ reflector_at-number v key.0 there)) m
+    data-unwrapped e = grind (arith, in-variable, no-reflector, reflector_at-number)

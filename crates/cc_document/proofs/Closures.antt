@@ -54,23 +54,11 @@ wrapping-reads g v enough =
 
 -- and it is as new as it was
 pub new_closure-wrapped : (g : Graph) (v : ℕ) → length g.script_registers ≡ 256 → HasNewClosure g → HasNewClosure (wrapping v g)
-new_closure-wrapped g v enough n =
-    let t = wrapping-reads g v enough in
-    record { number = n.number; held = t.others 1 (λ e. cc) ∙ n.held; made = ap (λ os. numbered os n.number) t.scripts ∙ n.made }
+new_closure-wrapped g v enough n = grind (arith, wrapping-reads)
 
 -- and where the register of the reflector is emptied, a document reads as before
 pub unwrapped-reads : (g : Graph) (v : ℕ) → length g.script_registers ≡ 256 → IsAsBefore (objects_of g) (objects_of (without 2 (wrapping v g)))
-unwrapped-reads g v enough =
-    let t = wrapping-reads g v enough in
-    let k = without 2 (wrapping v g) in
-    let m : register k (S 0) ≡ register g (S 0) = get_or-set_other (wrapping v g).script_registers 2 0 None None (λ e. cc) ∙ t.others 0 (λ e. cc) in
-    record {
-      variables = t.variables;
-      parents = λ e. ap element_of (t.slots e 0);
-      children = λ e i. ap element_of (t.slots e (i + 2));
-      listeners = λ e. ap (spoken_of (objects_of k)) (t.slots e 1) ∙ t.spoken (slot_of (objects_of g) (element e) 1);
-      attached = data-alike g k t.entries m t.spoken;
-    }
+unwrapped-reads g v enough = grind (arith, wrapping-reads, get_or-set_other, data-alike)
 
 -- A closure that speaks of an element, in its register
 pub record IsClosedOver (g k : Graph) (b : ℕ) : Type 0 where
@@ -101,10 +89,7 @@ closing-reads g a y e f =
 
 -- which stays in its register
 pub closure-closed : (g : Graph) → HasClosure g → HasClosure (without 2 (closing g))
-closure-closed g n = record {
-  number = n.number;
-  held = get_or-set_other (closing g).script_registers 2 1 None None (λ e. cc) ∙ ((closing-reads g n.number (register g (S 2)) n.held refl).registers (S 1) ∙ n.held);
-}
+closure-closed g n = grind (arith, get_or-set_other, closing-reads)
 
 pub closed_over-reads : (g : Graph) (about b : ℕ) → length g.script_registers ≡ 256 → register g (N about) ≡ element b →
     refusal_of (objects_of g) (Script 1 1) ≡ None → IsClosedOver g (closed_over about g) b
@@ -182,13 +167,7 @@ made-before g w taken =
 
 -- a document reads as before once a closure was let go
 pub without-before : (g : Graph) → IsAsBefore (objects_of g) (objects_of (without 1 g))
-without-before g = record {
-  variables = λ v. refl;
-  parents = λ e. refl;
-  children = λ e i. refl;
-  listeners = λ e. refl;
-  attached = data-alike g (without 1 g) refl (get_or-set_other g.script_registers 1 0 None None (λ e. cc)) (λ x. refl);
-}
+without-before g = grind (arith, data-alike, get_or-set_other)
 
 -- A LISTENER
 

@@ -1,5 +1,5 @@
 -- A GRAPH IS A DOCUMENT STILL after each step.
-use Rattle.std.proofs.Common.{◌≡◌, ◌≢◌, ℕ, ◌+◌, false, List, length, Option, Some, None, option_map, refl, sym, ◌∙◌, ap, subst, ⊎_elim}
+use Rattle.std.proofs.Common.{◌≡◌, ◌≢◌, ℕ, ◌+◌, List, length, Option, Some, None, option_map, refl, arith}
 use Rattle.std.proofs.lemmas.Bool.Decides.{eqb_tells}
 use Rattle.std.proofs.lemmas.List.{length-set, get_or-set_other}
 use Rattle.cc_names.specs.declared.name.Name.{Name}
@@ -11,7 +11,7 @@ use Rattle.cc_model.specs.declared.item.Refusal.{Refusal}
 use Rattle.cc_model.specs.Slots.{empty_slots}
 use Rattle.cc_model.specs.Entries.{Entry, with_entry, without_entry}
 use Rattle.cc_model.specs.Checks.{refusal_of}
-use Rattle.cc_model.specs.Graph.{Graph, GraphNative, GraphScript, plain_object, weak_map, numbered, native_in, script_in, objects_of, set_register, set_native, set_script, set_slot, with_slot, with_reflector_slot, as_preserved, as_wrapped, with_script_slot, with_native, with_script, wrapped, preserve, set_entry, changed, unless_refused}
+use Rattle.cc_model.specs.Graph.{Graph, GraphNative, GraphScript, plain_object, native_in, script_in, objects_of, set_register, set_native, set_script, set_slot, with_slot, with_reflector_slot, with_script_slot, with_native, with_script, wrapped, preserve, set_entry, changed, unless_refused}
 use Rattle.cc_laws_heap.proofs.Face.{change_numbered, numbered-change, numbered-change_other, numbered-push_cases, numbered-push_old, set_native-is, set_script-is}
 use Rattle.cc_document.specs.Words.{element_slots}
 use Rattle.cc_document.specs.Shown.{IsDocument, made_in, without, making_closure}
@@ -20,34 +20,11 @@ module _ (g : Graph) (d : IsDocument g) where
   -- a native changed, with as many slots as before
   change_native-document : (k : ℕ) (f : GraphNative → GraphNative) → ((n : GraphNative) → length (f n).slots ≡ length n.slots) →
       IsDocument (set_native g k (option_map f (native_in g k)))
-  change_native-document k f few = subst IsDocument (sym (set_native-is g k (option_map f (native_in g k)))) (record {
-    elements = λ j n e. ⊎_elim
-        (λ t. now (native_in g k) refl n (sym (numbered-change g.natives k f) ∙ (ap (numbered (change_numbered g.natives k f)) (sym t.1) ∙ e)))
-        (λ t. d.elements j n (sym (numbered-change_other g.natives k f j t.1) ∙ e))
-        (eqb_tells j k);
-    map_number = d.map_number;
-    map_held = d.map_held;
-    map_made = d.map_made;
-  })
-    where
-      now : (o : Option GraphNative) → native_in g k ≡ o → (n : GraphNative) → option_map f o ≡ Some n → length n.slots ≡ element_slots
-      now None e n i = absurd (cc)
-      now (Some m) e n i = let same : f m ≡ n = cc in subst (λ (x : GraphNative). length x.slots ≡ element_slots) same (few m ∙ d.elements k m e)
+  change_native-document k f few = grind (arith, set_native-is, numbered-change, change_numbered, numbered-change_other, eqb_tells, d.elements)
 
   -- a slot of a script object written
   script_slot-document : (k i : ℕ) (x : Option Name) → IsDocument (set_script g k (option_map (with_script_slot i x) (script_in g k)))
-  script_slot-document k i x = subst IsDocument (sym (set_script-is g k (option_map f (script_in g k)))) (record {
-    elements = d.elements;
-    map_number = d.map_number;
-    map_held = d.map_held;
-    map_made = ⊎_elim
-        (λ t. ap (numbered (change_numbered g.scripts k f)) t.1 ∙ (numbered-change g.scripts k f ∙ ap (option_map f) (ap (script_in g) (sym t.1) ∙ d.map_made)))
-        (λ t. numbered-change_other g.scripts k f d.map_number t.1 ∙ d.map_made)
-        (eqb_tells d.map_number k);
-  })
-    where
-      f : GraphScript → GraphScript
-      f o = with_script_slot i x o
+  script_slot-document k i x = grind (arith, set_script-is, change_numbered, numbered-change, numbered-change_other, eqb_tells)
 
   -- a slot of any object
   pub slot-document : (x : Option Name) (i : ℕ) (y : Option Name) → IsDocument (set_slot g x i y)
@@ -61,41 +38,19 @@ module _ (g : Graph) (d : IsDocument g) where
   native_register-document r x = record { elements = d.elements; map_number = d.map_number; map_held = d.map_held; map_made = d.map_made }
 
   pub script_register-document : (r : ℕ) (x : Option Name) → r ≢ 0 → IsDocument (set_register g (S r) x)
-  script_register-document r x ne = record {
-    elements = d.elements;
-    map_number = d.map_number;
-    map_held = get_or-set_other g.script_registers r 0 x None (λ e. ne (sym e)) ∙ d.map_held;
-    map_made = d.map_made;
-  }
+  script_register-document r x ne = grind (arith, get_or-set_other)
 
   pub wrapped-document : (x : Option Name) → IsDocument (wrapped g x)
-  wrapped-document None = d
-  wrapped-document (Some (name.Native k)) = change_native-document k.0 as_wrapped (λ n. refl)
-  wrapped-document (Some (name.Script k)) = d
-  wrapped-document (Some (name.Reflector k)) = d
+  wrapped-document x = grind (arith, change_native-document)
 
   preserve-document : (x : Option Name) → IsDocument (preserve g x)
-  preserve-document None = d
-  preserve-document (Some (name.Native k)) = d
-  preserve-document (Some (name.Script k)) = d
-  preserve-document (Some (name.Reflector k)) = change_native-document k.0 as_preserved (λ n. refl)
+  preserve-document x = grind (arith, change_native-document)
 
   plain-document : (o : GraphScript) → IsDocument (with_script g o)
-  plain-document o = record {
-    elements = d.elements;
-    map_number = d.map_number;
-    map_held = d.map_held;
-    map_made = numbered-push_old g.scripts o d.map_number weak_map d.map_made;
-  }
+  plain-document o = search (numbered-push_old)
 
   native-document : IsDocument (with_native g element_slots)
-  native-document = record {
-    elements = λ k n e. ⊎_elim (d.elements k n) (λ t. subst (λ (m : GraphNative). length m.slots ≡ element_slots) t.1 refl)
-        (numbered-push_cases g.natives (record { slots = empty_slots element_slots; preserved = false; reflector = None }) k n e);
-    map_number = d.map_number;
-    map_held = d.map_held;
-    map_made = d.map_made;
-  }
+  native-document = grind (arith, numbered-push_cases, d.elements)
 
 -- other entries
 entries-document : (g : Graph) (es : List Entry) → IsDocument g → IsDocument (record g { entries = es })

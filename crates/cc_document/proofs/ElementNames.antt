@@ -1,15 +1,14 @@
 -- ELEMENTS AND SCRIPT OBJECTS BY THEIR KEYS, in the host's words.
-use Rattle.std.proofs.Common.{◌≡◌, ℕ, ◌==◌, [], Option, Some, None, option_map, refl, sym, ap}
+use Rattle.std.proofs.Common.{◌≡◌, ℕ, ◌==◌, [], Option, Some, None, option_map, refl, arith}
 use Rattle.cc_lists.proofs.Filtering.{find-among}
 use Rattle.cc_names.specs.declared.name.Name.{Name}
 use Rattle.cc_names.specs.declared.name.Name.TheVariants as name
 use Rattle.cc_names.specs.Names.{native}
 use Rattle.cc_counted.specs.Counts.{native_held}
 use Rattle.cc_counted.specs.declared.held.Held.{Held}
-use Rattle.cc_counted.specs.declared.held.Held.TheVariants as held
 use Rattle.cc_model.specs.Heap.{Heap}
 use Rattle.cc_script.specs.Objects.{Object, object_at, name_at}
-use Rattle.cc_heaps.specs.Keyed.{Keyed, IsInOrder, Reflects, number_at}
+use Rattle.cc_heaps.specs.Keyed.{Keyed, IsInOrder, Reflects}
 use Rattle.cc_heaps.specs.Changes.{held_name, native_name}
 use Rattle.cc_heaps.specs.Standing.{IsReached}
 use Rattle.cc_document.specs.Words.{element_of, elements}
@@ -29,14 +28,11 @@ module _ (v : Keyed) (order : IsInOrder [] v) where
       go (Some o) e = named o.name o.native (order.reflecting o (find-among (λ (p : Object). p.key == key) v.scripts o e))
 
   native-elements : (o : Option ℕ) → option_map native o ≡ elements (element_of (option_map native o))
-  native-elements None = refl
-  native-elements (Some k) = refl
+  native-elements o = grind arith
 
   -- the element in a slot
   pub held-element : (x : Option Held) → native_name v (native_held x) ≡ elements (element_of (held_name v x))
-  held-element None = refl
-  held-element (Some (held.Native key)) = native-elements (number_at v key.0)
-  held-element (Some (held.Script key)) = sym (ap elements (script-no_element key.0))
+  held-element x = grind (arith, native-elements, script-no_element)
 
 -- an element that is reached
 pub element-is_reached : (h : Heap) (x : Option Name) → IsReached h x → IsReached h (elements (element_of x))

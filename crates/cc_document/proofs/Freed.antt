@@ -1,5 +1,5 @@
 -- WHAT CALLS IN A ROW FREE AND MAKE.
-use Rattle.std.proofs.Common.{◌≡◌, ℕ, ◌+◌, ◌<◌, ◌≤◌, [], ◌++◌, length, Option, Some, None, sym, ◌∙◌, subst, ⊎_elim, arith, ◌⊎◌, slice_index_or}
+use Rattle.std.proofs.Common.{◌≡◌, ℕ, ◌+◌, ◌<◌, ◌≤◌, [], ◌++◌, length, Option, Some, None, sym, ◌∙◌, subst, ⊎_elim, arith, slice_index_or}
 use Rattle.cc_lists.specs.Members.{Among}
 use Rattle.cc_lists.proofs.Members.{Among-left, Among-right, Among-append}
 use Rattle.cc_names.specs.declared.name.Name.{Name}

@@ -23,11 +23,7 @@ pub made-nothing : (h : Heap) → AreMade 0 0 h h
 made-nothing h = record { natives_made = omega arith; scripts_made = omega arith; limits = refl }
 
 pub made-then : (a b m n : ℕ) (h g k : Heap) → AreMade a b h g → AreMade m n g k → AreMade (a + m) (b + n) h k
-made-then a b m n h g k s t = record {
-  natives_made = omega (arith, s.natives_made, t.natives_made);
-  scripts_made = omega (arith, s.scripts_made, t.scripts_made);
-  limits = t.limits ∙ s.limits;
-}
+made-then a b m n h g k s t = grind arith
 
 -- Growing
 
@@ -113,10 +109,7 @@ grows-slot h (Some (name.Script k)) i y = script-changed h (object k.0) i y
 grows-slot h (Some (name.Reflector k)) i y = script-changed h (reflector k.0) i y
 
 grows-preserved : (h : Heap) (x : Option Name) → Grows 0 h (preserve h x)
-grows-preserved h None = grows-nothing h
-grows-preserved h (Some (name.Native k)) = grows-nothing h
-grows-preserved h (Some (name.Script k)) = grows-nothing h
-grows-preserved h (Some (name.Reflector k)) = native-changed h k.0 (λ n. record n { preserved = true }) (λ n. refl)
+grows-preserved h x = grind (arith, grows-nothing, native-changed)
 
 -- an entry set
 same-made : (h g k : Heap) → Grows 0 h g → native_names k ≡ native_names g → script_names k ≡ script_names g → AreMade 0 0 g k → Grows 0 h k

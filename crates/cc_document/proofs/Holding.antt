@@ -1,5 +1,5 @@
 -- STEPS ON SCRIPT REGISTERS ARE SHOWN: a reflector is put there, a closure is made, written, and let go.
-use Rattle.std.proofs.Common.{◌≡◌, ℕ, ◌≤◌, [], Bool, true, false, length, nat_le, Option, Some, None, IfSome, IsTrue, refl, ◌∙◌, ap}
+use Rattle.std.proofs.Common.{◌≡◌, ℕ, ◌≤◌, [], false, length, nat_le, Option, Some, None, IfSome, IsTrue, refl, ◌∙◌, ap, arith}
 use Rattle.std.specs.Option.{option_and_then}
 use Rattle.std.proofs.lemmas.Bool.{leb-true}
 use Rattle.cc_names.specs.declared.number.SKey.{SKey}
@@ -37,11 +37,7 @@ module _ (v : Keyed) (c : Option Built) (g : Graph) (s : Shows (parts v c) g) wh
 -- Objects may be made where the limit was not reached
 
 not-full : (a b : ℕ) → ¬ (a ≤ b) → nat_le a b ≡ false
-not-full a b n = go (nat_le a b) refl
-  where
-    go : (t : Bool) → nat_le a b ≡ t → t ≡ false
-    go false e = refl
-    go true e = absurd (n (leb-true a b e))
+not-full a b n = grind (arith, leb-true)
 
 pub room-for_script : (o : Objects) → ¬ (o.limits.scripts ≤ o.scripts_made) → refusal_of o (Script 1 1) ≡ None
 unfolding refusal_of

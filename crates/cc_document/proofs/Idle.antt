@@ -1,52 +1,33 @@
 -- SCRIPT REGISTERS AFTER EACH CALL hold what they held, or nothing; so no closure stays in one.
-use Rattle.std.proofs.Common.{◌≡◌, ◌≢◌, ℕ, zero, suc, ◌+◌, ◌⊎◌, List, [], ◌∷◌, length, set, get_or, Option, Some, None, option_map, refl, sym, ◌∙◌, ap, inl, inr, ⊎_elim}
+use Rattle.std.proofs.Common.{◌≡◌, ◌≢◌, ℕ, zero, suc, ◌⊎◌, List, [], ◌∷◌, length, set, get_or, Option, Some, None, refl, ◌∙◌, inl, inr, ⊎_elim, arith}
 use Rattle.std.proofs.lemmas.Bool.Decides.{eqb_tells}
 use Rattle.std.proofs.lemmas.List.{length-set, get_or-set_other}
 use Rattle.cc_names.specs.declared.name.Name.{Name}
-use Rattle.cc_names.specs.declared.name.Name.TheVariants as name
 use Rattle.cc_names.specs.declared.register.Reg.{Reg}
 use Rattle.cc_names.specs.declared.register.Reg.TheVariants.{N, S}
-use Rattle.cc_names.specs.Names.{object}
-use Rattle.cc_model.specs.declared.command.Command.TheVariants.{Native, Script}
-use Rattle.cc_model.specs.declared.item.Refusal.{Refusal}
-use Rattle.cc_model.specs.Checks.{refusal_of}
-use Rattle.cc_model.specs.Graph.{Graph, GraphNative, GraphScript, native_in, script_in, objects_of, register, source, set_native, set_script, set_slot, with_slot, with_reflector_slot, with_script_slot, as_preserved, preserve, set_entry, changed, unless_refused}
+use Rattle.cc_model.specs.Graph.{Graph, GraphNative, GraphScript, objects_of, register, source, set_native, set_script, set_slot, preserve, set_entry, changed}
 use Rattle.cc_heaps.specs.Keyed.{Keyed}
 use Rattle.cc_builder.specs.Building.{Built}
-use Rattle.cc_document.specs.Words.{element_slots}
 use Rattle.cc_document.specs.Changes.{LetsScripts}
-use Rattle.cc_document.specs.Shown.{Shows, IsIdle, parts, written, wrapping, without, making_closure, closing, entering, made_in, closed_over, listened, entered, with_data, appended, removed}
+use Rattle.cc_document.specs.Shown.{Shows, IsIdle, parts, written, wrapping, without, making_closure, entering, made_in, closed_over, listened, entered, with_data, appended, removed}
 use Rattle.cc_document.proofs.Closures.{wrapping-reads}
 use Rattle.cc_document.proofs.Reached.{alike}
 
 -- a slot written leaves registers, and so does an entry
 native-registers : (g : Graph) (k : ℕ) (o : Option GraphNative) (r : Reg) → register (set_native g k o) r ≡ register g r
-native-registers g k None r = refl
-native-registers g k (Some n) (N r) = refl
-native-registers g k (Some n) (S r) = refl
+native-registers g k o r = grind arith
 
 script-registers : (g : Graph) (k : ℕ) (o : Option GraphScript) (r : Reg) → register (set_script g k o) r ≡ register g r
-script-registers g k None r = refl
-script-registers g k (Some n) (N r) = refl
-script-registers g k (Some n) (S r) = refl
+script-registers g k o r = grind arith
 
 slot-registers : (g : Graph) (x : Option Name) (i : ℕ) (y : Option Name) (r : Reg) → register (set_slot g x i y) r ≡ register g r
-slot-registers g None i y r = refl
-slot-registers g (Some (name.Native k)) i y r = native-registers g k.0 (option_map (with_slot i y) (native_in g k.0)) r
-slot-registers g (Some (name.Script k)) i y r = script-registers g k.0 (option_map (with_script_slot i y) (script_in g k.0)) r
-slot-registers g (Some (name.Reflector k)) i y r = native-registers g k.0 (option_map (with_reflector_slot i y) (native_in g k.0)) r
+slot-registers g x i y r = grind (arith, native-registers, script-registers)
 
 preserve-registers : (g : Graph) (x : Option Name) (r : Reg) → register (preserve g x) r ≡ register g r
-preserve-registers g None r = refl
-preserve-registers g (Some (name.Native k)) r = refl
-preserve-registers g (Some (name.Script k)) r = refl
-preserve-registers g (Some (name.Reflector k)) r = native-registers g k.0 (option_map as_preserved (native_in g k.0)) r
+preserve-registers g x r = grind (arith, native-registers)
 
 entry-registers : (g : Graph) (m k v : Option Name) (r : ℕ) → register (set_entry g m k v) (S r) ≡ register g (S r)
-entry-registers g None k v r = refl
-entry-registers g (Some m) None v r = refl
-entry-registers g (Some m) (Some k) None r = refl
-entry-registers g (Some m) (Some k) (Some v) r = preserve-registers g (Some k) (S r)
+entry-registers g m k v r = grind (arith, preserve-registers)
 
 -- a register that was emptied is empty
 emptied : (l : List (Option Name)) (r : ℕ) → get_or (set l r None) r None ≡ None
@@ -56,39 +37,24 @@ emptied (x ∷ l) (suc r) = emptied l r
 
 -- and the others hold what they held
 without-lets : (g : Graph) (e r : ℕ) → ((r ≡ e) × (register (without e g) (S r) ≡ None)) ⊎ ((r ≢ e) × (register (without e g) (S r) ≡ register g (S r)))
-without-lets g e r = ⊎_elim
-    (λ t. inl (t.1, ap (λ i. get_or (set g.script_registers e None) i None) t.1 ∙ emptied g.script_registers e))
-    (λ t. inr (t.1, get_or-set_other g.script_registers e r None None t.1))
-    (eqb_tells r e)
+without-lets g e r = grind (arith, emptied, get_or-set_other, eqb_tells)
 
 -- Calls
 
 pub appended-left : (g : Graph) (parent place child : ℕ) → LetsScripts (objects_of g) (objects_of (appended parent place child g))
-appended-left g parent place child r =
-    let k = written child 0 (Some (N parent)) g in
-    inl (slot-registers k (register k (N parent)) (place + 2) (source k (Some (N child))) (S r) ∙ slot-registers g (register g (N child)) 0 (source g (Some (N parent))) (S r))
+appended-left g parent place child r = grind (arith, slot-registers)
 
 pub removed-left : (g : Graph) (parent place child : ℕ) → LetsScripts (objects_of g) (objects_of (removed parent place child g))
-removed-left g parent place child r =
-    let k = written child 0 None g in
-    inl (slot-registers k (register k (N parent)) (place + 2) None (S r) ∙ slot-registers g (register g (N child)) 0 None (S r))
+removed-left g parent place child r = grind (arith, slot-registers)
 
 pub made_in-left : (g : Graph) (v : ℕ) → LetsScripts (objects_of g) (objects_of (made_in v g))
 unfolding changed
-made_in-left g v r = inl (go (refusal_of (objects_of g) (Native v element_slots)))
-  where
-    go : (o : Option Refusal) → register (unless_refused o g (changed g (Native v element_slots))) (S r) ≡ register g (S r)
-    go None = refl
-    go (Some refusal) = refl
+made_in-left g v r = grind arith
 
 -- a closure is made in its register alone
 making-others : (g : Graph) (r : ℕ) → r ≢ 1 → register (making_closure g) (S r) ≡ register g (S r)
 unfolding changed
-making-others g r ne = go (refusal_of (objects_of g) (Script 1 1))
-  where
-    go : (o : Option Refusal) → register (unless_refused o g (changed g (Script 1 1))) (S r) ≡ register g (S r)
-    go None = get_or-set_other g.script_registers 1 r (Some (object (length g.scripts + 1))) None ne
-    go (Some refusal) = refl
+making-others g r ne = grind (arith, get_or-set_other)
 
 -- a reflector that was in its register meanwhile is not there any more
 pub unwrapped-left : (g : Graph) (v : ℕ) → length g.script_registers ≡ 256 → LetsScripts (objects_of g) (objects_of (without 2 (wrapping v g)))
@@ -96,21 +62,11 @@ unwrapped-left g v enough r = ⊎_elim (λ t. inr t.1) (λ t. inl (t.1 ∙ (wrap
 
 making-enough : (g : Graph) → length g.script_registers ≡ 256 → length (making_closure g).script_registers ≡ 256
 unfolding changed
-making-enough g enough = go (refusal_of (objects_of g) (Script 1 1))
-  where
-    go : (o : Option Refusal) → length (unless_refused o g (changed g (Script 1 1))).script_registers ≡ 256
-    go None = length-set g.script_registers 1 (Some (object (length g.scripts + 1))) ∙ enough
-    go (Some refusal) = enough
+making-enough g enough = grind (arith, length-set)
 
 closed_over-others : (g : Graph) (about r : ℕ) → length g.script_registers ≡ 256 → r ≢ 1 →
     (register (closed_over about g) (S r) ≡ register g (S r)) ⊎ (register (closed_over about g) (S r) ≡ None)
-closed_over-others g about r enough ne =
-    let m = making_closure g in
-    let h = wrapping about m in
-    ⊎_elim
-    (λ t. inr t.1)
-    (λ t. inl (t.1 ∙ (slot-registers h (register h (S 1)) 0 (register h (S 2)) (S r) ∙ ((wrapping-reads m about (making-enough g enough)).others r t.0 ∙ making-others g r ne))))
-    (without-lets (closing h) 2 r)
+closed_over-others g about r enough ne = grind (arith, slot-registers, wrapping-reads, making-enough, making-others, without-lets)
 
 -- a closure that was made and let go
 pub made-left : (g : Graph) → LetsScripts (objects_of g) (objects_of (without 1 (making_closure g)))
@@ -153,5 +109,4 @@ left-closed g k about enough p r = ⊎_elim
 
 -- NO CLOSURE IS BEING MADE after a call, where none was before.
 pub idle-after : (v w : Keyed) (b c : Option Built) (g k : Graph) → Shows (parts v b) g → Shows (parts w c) k → LetsScripts (objects_of g) (objects_of k) → IsIdle v → IsIdle w
-idle-after v w b c g k s t lets idle r ne =
-    (alike w c k t).register (S r) ∙ ⊎_elim (λ same. same ∙ (sym ((alike v b g s).register (S r)) ∙ idle r ne)) (λ n. n) (lets r)
+idle-after v w b c g k s t lets idle r ne = grind (arith, alike)

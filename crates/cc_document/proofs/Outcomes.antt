@@ -1,29 +1,20 @@
 -- WHAT CAME OF A CALL: it did what it was to do, or it was refused.
-use Rattle.std.proofs.Common.{◌≡◌, Result, Ok, Err, OnOk, OnErr, ◌⊎◌, inl, inr, sym, ◌∙◌, subst}
+use Rattle.std.proofs.Common.{◌≡◌, Result, Err, OnOk, OnErr, ◌⊎◌, arith}
 use Rattle.std.specs.Result.{IsErrAnd}
 use Rattle.std.proofs.lemmas.Result.{err_from_is_err_and}
 
 -- one of the two holds
 pub either-of : {T E : Type 0} (r : Result T E) (P Q : Type 0) → OnOk r P → OnErr r Q → P ⊎ Q
-either-of (Ok x) P Q p q = inl p
-either-of (Err e) P Q p q = inr q
+either-of r P Q p q = grind arith
 
 -- what holds of the error that came through a `?` holds of the error that is answered
 pub stopped-by : {T E : Type 0} (P : E → Type 0) (r : Result T E) (d : E) → IsErrAnd r (λ y. y ≡ d) → P d → (e : E) → r ≡ Err e → P e
-stopped-by P r d i p e is =
-    let a = err_from_is_err_and r i in
-    let both : Err a.0 ≡ Err e = sym a.1 ∙ is in
-    let same : a.0 ≡ e = cc in
-    subst P (sym a.2 ∙ same) p
+stopped-by P r d i p e is = grind (arith, err_from_is_err_and)
 
 -- the same error is answered
 pub stopped-alike : {T E : Type 0} (P : E → Type 0) (r : Result T E) (d : E) → r ≡ Err d → P d → (e : E) → r ≡ Err e → P e
-stopped-alike P r d at p e is =
-    let both : Err d ≡ Err e = sym at ∙ is in
-    let same : d ≡ e = cc in
-    subst P same p
+stopped-alike P r d at p e is = grind arith
 
 -- what holds anyway holds of an error
 pub err-of : {T E P : Type 0} (r : Result T E) → P → OnErr r P
-err-of (Ok x) p = tt
-err-of (Err e) p = p
+err-of r p = grind arith

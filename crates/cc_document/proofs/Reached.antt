@@ -1,9 +1,7 @@
 -- WHAT VARIABLES LEAD TO IS REACHED, and elements have their slots.
-use Rattle.std.proofs.Common.{◌≡◌, ℕ, ◌<◌, [], true, length, Option, Some, None, is_some, IsSome, refl, sym, ◌∙◌, ap, subst}
-use Rattle.std.specs.Option.{option_and_then}
+use Rattle.std.proofs.Common.{◌≡◌, ℕ, ◌<◌, [], true, length, Option, Some, is_some, IsSome, sym, ◌∙◌, ap, subst, arith}
 use Rattle.std.proofs.lemmas.Bool.{false≢true}
 use Rattle.cc_names.specs.declared.name.Name.{Name}
-use Rattle.cc_names.specs.declared.name.Name.TheVariants as name
 use Rattle.cc_names.specs.declared.number.NKey.{NKey}
 use Rattle.cc_names.specs.declared.register.Reg.{Reg}
 use Rattle.cc_names.specs.declared.register.Reg.TheVariants.{N}
@@ -32,8 +30,7 @@ module _ (v : Keyed) (c : Option Built) (g : Graph) (s : Shows (parts v c) g) wh
   alike = objects-stand v.heap g s.stands
 
   reached-some : (o : Option Name) → OfSome (Reached g) o → IsReached v.heap o
-  reached-some None d = tt
-  reached-some (Some x) d = reached-in v.heap g s.runs.order.sound.well_formed s.well s.stands x d
+  reached-some o d = grind (arith, reached-in)
 
   -- what a register holds
   pub register-is_reached : (r : Reg) → IsReached v.heap (heap.register v.heap r)
@@ -46,18 +43,7 @@ module _ (v : Keyed) (c : Option Built) (g : Graph) (s : Shows (parts v c) g) wh
 
   -- the slots of the element in a variable
   pub slots-of_variable : (r : ℕ) → is_some (graph.register g (N r)) ≡ true → length (slots_at (graph.objects_of g) (N r)) ≡ element_slots
-  slots-of_variable r = go (graph.register g (N r)) (native_register-made g s.well r)
-    where
-      of_native : (k : ℕ) (o : Option GraphNative) → native_in g k ≡ o → is_some o ≡ true →
-          length (slots_or_none (option_and_then (λ (n : GraphNative). Some n.slots) o)) ≡ element_slots
-      of_native k None e t = absurd (false≢true t)
-      of_native k (Some n) e t = s.document.elements k n e
-
-      go : (o : Option Name) → OfSome (MadeNative g) o → is_some o ≡ true → length (slots_or_none (option_and_then (graph.slots_in g) o)) ≡ element_slots
-      go None m t = absurd (false≢true t)
-      go (Some (name.Native k)) m t = of_native k.0 (native_in g k.0) refl m
-      go (Some (name.Script k)) m t = absurd (false≢true m)
-      go (Some (name.Reflector k)) m t = absurd (false≢true m)
+  slots-of_variable r = grind (arith, native_register-made, false≢true, OfSome, MadeNative, s.document.elements)
 
   module _ (r : ℕ) (key : NKey) (name : native_name v (Some key) ≡ heap.register v.heap (N r)) (there : IsSome (number_at v key.0)) where
     -- the graph's variable holds it too

@@ -1,5 +1,5 @@
 -- THE HEAPS READ AS THE GRAPH DOES, of what a variable holds: its listener and its data too.
-use Rattle.std.proofs.Common.{◌≡◌, ℕ, Bool, true, false, List, [], ◌∷◌, get_or, Option, Some, None, is_some, IsTrue, refl, sym, ◌∙◌, ap, subst, inl}
+use Rattle.std.proofs.Common.{◌≡◌, ℕ, Bool, true, false, List, [], ◌∷◌, Option, Some, None, is_some, IsTrue, refl, sym, ◌∙◌, ap, subst, inl, arith}
 use Rattle.std.specs.Option.{option_and_then}
 use Rattle.std.proofs.lemmas.Bool.{and_parts, false≢true}
 use Rattle.cc_lists.specs.Members.{Among}
@@ -10,7 +10,7 @@ use Rattle.cc_names.specs.declared.register.Reg.TheVariants.{N, S}
 use Rattle.cc_names.specs.Names.{native, object, reflector, is_script}
 use Rattle.cc_model.specs.Slots.{Slots, contents}
 use Rattle.cc_model.specs.Entries.{Entry, value_in}
-use Rattle.cc_model.specs.Checks.{slots_or_none, slot_at, value_at, native_of, reflector_of}
+use Rattle.cc_model.specs.Checks.{slots_or_none, value_at, reflector_of}
 use Rattle.cc_model.specs.Graph as graph
 use Rattle.cc_model.specs.Graph.{Graph, GraphNative, native_in}
 use Rattle.cc_model.specs.Reached.{Reached, held, edge, value, kept_reflector}
@@ -20,7 +20,7 @@ use Rattle.cc_model.specs.Heap as heap
 use Rattle.cc_laws_heap.proofs.Face.{ArePart-among, MadeNative, OfSome, found-among, is_some-found, native_register-made, register-reached, slot_at-alike, slot_at-reached, slots_in-graph, slots_in-heap, slots_of_shape}
 use Rattle.cc_heaps.specs.Keyed.{Keyed}
 use Rattle.cc_builder.specs.Building.{Built}
-use Rattle.cc_document.specs.Words.{element_of, slot_of, spoken_of, listener_of, data_of}
+use Rattle.cc_document.specs.Words.{slot_of, spoken_of, listener_of, data_of}
 use Rattle.cc_document.specs.Shown.{Shows, parts}
 use Rattle.cc_document.proofs.Reached.{alike}
 
@@ -30,30 +30,20 @@ module _ (v : Keyed) (c : Option Built) (g : Graph) (s : Shows (parts v c) g) wh
 
   -- a closure that is reached
   slots-reached : (x : Name) → Reached g x → slot_of (heap.objects_of v.heap) (Some x) 0 ≡ slot_of (graph.objects_of g) (Some x) 0
-  slots-reached x d =
-      let k = s.stands.reached x d in
-      ap (λ o. get_or (slots_or_none o) 0 None) (slots_in-heap v.heap x ∙ (ap slots_of_shape (k.there ∙ sym k.made) ∙ sym (slots_in-graph g x)))
+  slots-reached x d = grind (arith, slots_in-heap, slots_of_shape, slots_in-graph, s.stands.reached)
 
   spoken-alike : (x : Option Name) → OfSome (Reached g) x → spoken_of (heap.objects_of v.heap) x ≡ spoken_of (graph.objects_of g) x
-  spoken-alike None d = refl
-  spoken-alike (Some (name.Native k)) d = refl
-  spoken-alike (Some (name.Script k)) d = ap (λ y. element_of (native_of y)) (slots-reached (name.Script k) d)
-  spoken-alike (Some (name.Reflector k)) d = ap (λ y. element_of (native_of y)) (slots-reached (name.Reflector k) d)
+  spoken-alike x d = grind (arith, slots-reached)
 
   -- THE LISTENER
   pub listener-alike : (r : ℕ) → listener_of (heap.objects_of v.heap) (heap.register v.heap (N r)) ≡ listener_of (graph.objects_of g) (graph.register g (N r))
-  listener-alike r = ap (spoken_of (heap.objects_of v.heap)) (slot-alike r 1)
-      ∙ spoken-alike (slot_at (graph.objects_of g) (N r) 1) (slot_at-reached g (N r) 1)
+  listener-alike r = search (slot-alike, spoken-alike, slot_at-reached)
 
   -- The data
 
   -- a name that is the key of no entry has no value
   no-value : (es : List Entry) (m y : Name) → ((e : Entry) → Among e es → ¬ (e.key ≡ y)) → value_in es m y ≡ None
-  no-value es m y none = go (value_in es m y) refl
-    where
-      go : (o : Option Name) → value_in es m y ≡ o → o ≡ None
-      go None e = refl
-      go (Some z) e = let f = found-among es m y z e in absurd (none f.0 f.1 f.3)
+  no-value es m y none = grind (arith, found-among)
 
   -- the value of the reflector of a reached element is the same, and it is reached
   pub record IsValueAlike (m y : Name) : Type 0 where

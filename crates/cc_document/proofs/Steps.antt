@@ -1,5 +1,5 @@
 -- A STEP IS SHOWN: what a call of the heaps promises, and a document of the graph that it makes.
-use Rattle.std.proofs.Common.{◌≡◌, ℕ, [], Option, Some, None, IsSome, refl, sym, ◌∙◌, ap, subst}
+use Rattle.std.proofs.Common.{◌≡◌, ℕ, [], Option, Some, None, IsSome, refl, sym, ◌∙◌, ap, subst, arith}
 use Rattle.cc_names.specs.declared.number.NKey.{NKey}
 use Rattle.cc_names.specs.declared.register.Reg.{Reg}
 use Rattle.cc_names.specs.declared.register.Reg.TheVariants.{N}
@@ -43,12 +43,10 @@ Shows-step v w c change t g s d =
 
 -- what a variable holds, as a slot holds it
 pub native-held : (v : Keyed) (x : Option NKey) → held_name v (held_of_native x) ≡ native_name v x
-native-held v None = refl
-native-held v (Some key) = refl
+native-held v x = grind arith
 
 pub native-black : (v : Keyed) (x : Option NKey) → IsBlackHeld v (held_of_native x)
-native-black v None = tt
-native-black v (Some key) = tt
+native-black v x = grind arith
 
 -- what the writing of a native's slot promises
 pub record IsStored (v w : Keyed) (k i : ℕ) (content : Option Held) : Type 0 where

@@ -100,10 +100,6 @@ module _ (to : Colour) (es : List KeyedEntry) (object : ℕ) (u : Underway) (bef
       (marks_of v ≡ with_values to es object (length es) (marks_of u)) × (now ≡ before + count_by (has_object object) es)
   looking-done v now place is h = grind (arith, values-none, count-none)
 
--- WHERE NONE WAITS nothing is looked into
-pub none-looked : (to : Colour) (m : Marking) → m.waiting ≡ [] → with_first_looked_into to m ≡ m
-none-looked to m none = ap (λ (ks : List ℕ). elim ks [ [] ↦ m | key ∷ rest ↦ raise_each to (slots_at m.objects key) (record { objects = m.objects; waiting = rest }) ]) none
-
 -- WHAT IS LEFT TO BE DONE
 
 value-spends : (to : Colour) (object : ℕ) (o : Option KeyedEntry) (m : Marking) → to_do to (with_value_of to object o m) ≤ to_do to m

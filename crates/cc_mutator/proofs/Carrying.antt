@@ -1,5 +1,5 @@
 -- COMMANDS ANSWERED: they are refused, or lack memory, or are carried out by what they do.
-use Rattle.std.proofs.Common.{◌≡◌, ◌≢◌, ℕ, ◌+◌, ◌<◌, ◌≤◌, Bool, true, false, List, length, nat_le, Option, Some, None, option_map, refl, sym, ◌∙◌, ap, subst}
+use Rattle.std.proofs.Common.{◌≡◌, ◌≢◌, ℕ, ◌+◌, ◌<◌, ◌≤◌, true, false, List, length, Option, Some, None, option_map, refl, sym, ◌∙◌, ap, arith}
 use Rattle.std.specs.Option.{is_none}
 use Rattle.std.proofs.lemmas.Bool.{leb-true, leb-false, le-leb, lt-leb, not-false, or_parts}
 use Rattle.cc_names.specs.declared.name.Name.{Name}
@@ -8,14 +8,13 @@ use Rattle.cc_names.specs.declared.register.Reg.{Reg}
 use Rattle.cc_names.specs.declared.register.Reg.TheVariants.{N, S}
 use Rattle.cc_names.specs.Names.{native, object, reflector}
 use Rattle.cc_model.specs.declared.command.Command.{Command}
-use Rattle.cc_model.specs.declared.command.Command.TheVariants as command
 use Rattle.cc_model.specs.declared.command.Command.TheVariants.{Native, Script, WeakMap, CopyNative, CopyScript, Drop, Set, Get, Put, Take, Wrap, Unwrap, Preserve, SetEntry, GetEntry, Expose}
 use Rattle.cc_model.specs.declared.item.Refusal.{Refusal}
 use Rattle.cc_model.specs.declared.item.Refusal.TheVariants.{Full, NoMemory}
 use Rattle.cc_model.specs.declared.item.Reply.{Reply}
 use Rattle.cc_model.specs.declared.item.Reply.TheVariants.{Named, Done, Refused}
 use Rattle.cc_model.specs.Telling.{Telling, TellsEvents}
-use Rattle.cc_model.specs.Checks.{Objects, lacks_object, has_wrong_object, has_no_slot, has_wrong_content, is_full, is_map_in, slots_at, slot_at, value_at, native_of, reflector_of, named_or_nothing, refusal_of, reply_if_taken}
+use Rattle.cc_model.specs.Checks.{Objects, is_map_in, slots_at, slot_at, value_at, native_of, reflector_of, named_or_nothing, refusal_of, reply_if_taken}
 use Rattle.cc_model.specs.Heap.{Heap, Outcome, register, source, objects_of, set_register, preserve}
 use Rattle.cc_model.specs.Effects.{effects, hold_native, hold_script, make_native, make_object, put_in_script, set_entry, store_native, takes_memory, wrapped}
 use Rattle.cc_model.specs.Exposure.{exposed}
@@ -33,44 +32,15 @@ use Rattle.cc_mutator.proofs.Refusing.{refusal_by, refusal-by}
 -- no test is for want of memory
 pub refused-not_memory : (o : Objects) (c : Command) (r : Refusal) → refusal_of o c ≡ Some r → r ≢ NoMemory
 unfolding refusal_of
-refused-not_memory o c r = go (lacks_object o c) (has_wrong_object o c) (has_no_slot o c) (has_wrong_content o c) (is_full o c)
-  where
-    go : (lacks wrong slot content full : Bool) → refusal_by lacks wrong slot content full ≡ Some r → r ≢ NoMemory
-    go true wrong slot content full e f = absurd (cc)
-    go false true slot content full e f = absurd (cc)
-    go false false true content full e f = absurd (cc)
-    go false false false true full e f = absurd (cc)
-    go false false false false true e f = absurd (cc)
-    go false false false false false e f = absurd (cc)
+refused-not_memory o c r = grind (arith, refusal_by)
 
 named-not_refused : (x : Option Name) (r : Refusal) → named_or_nothing x ≢ Refused r
-named-not_refused None r e = absurd (cc)
-named-not_refused (Some x) r e = absurd (cc)
+named-not_refused x r e = grind arith
 
 -- the reply to a command that is not refused is no refusal
 reply-not_refused : (o : Objects) (c : Command) (r : Refusal) → reply_if_taken o c ≢ Refused r
 unfolding reply_if_taken
-reply-not_refused o command.Nothing r e = absurd (cc)
-reply-not_refused o (command.Native d n) r e = absurd (cc)
-reply-not_refused o (command.Script d n) r e = absurd (cc)
-reply-not_refused o (command.WeakMap d) r e = absurd (cc)
-reply-not_refused o (command.CopyNative d s) r e = named-not_refused _ r e
-reply-not_refused o (command.CopyScript d s) r e = named-not_refused _ r e
-reply-not_refused o (command.Drop d) r e = absurd (cc)
-reply-not_refused o (command.Set d i s) r e = absurd (cc)
-reply-not_refused o (command.Get d s i) r e = named-not_refused _ r e
-reply-not_refused o (command.Put d i s) r e = absurd (cc)
-reply-not_refused o (command.Take d s i) r e = named-not_refused _ r e
-reply-not_refused o (command.Wrap d s) r e = named-not_refused _ r e
-reply-not_refused o (command.Unwrap d s) r e = named-not_refused _ r e
-reply-not_refused o (command.Preserve s) r e = absurd (cc)
-reply-not_refused o (command.SetEntry m k v) r e = absurd (cc)
-reply-not_refused o (command.GetEntry d m k) r e = named-not_refused _ r e
-reply-not_refused o (command.Expose s i) r e = named-not_refused _ r e
-reply-not_refused o (command.Slice u) r e = absurd (cc)
-reply-not_refused o command.Collect r e = absurd (cc)
-reply-not_refused o command.Gc r e = absurd (cc)
-reply-not_refused o command.Census r e = absurd (cc)
+reply-not_refused o c r e = grind (arith, named-not_refused)
 
 -- The three ways
 
@@ -78,35 +48,17 @@ module _ (c : Command) (old new : Keyed) (before after : Telling) where
   -- a command that is refused
   pub applied-refused : (r : Refusal) → refusal_of (objects_of old.heap) c ≡ Some r → new ≡ old → after ≡ before →
       IsApplied c old new (Refused r) before after
-  applied-refused r is same quiet = record {
-    refused = λ q e. let s : r ≡ q = cc in (ap (λ z. Refused z) s, same, quiet);
-    done = λ e n. absurd (cc);
-    memory = λ e. let s : r ≡ NoMemory = cc in absurd (refused-not_memory (objects_of old.heap) c r is s);
-    keys = subst (KeepsKeys old) (sym same) (KeepsKeys-same old);
-    order = λ owned o. subst (IsInOrder owned) (sym same) o;
-  }
+  applied-refused r is same quiet = grind (arith, refused-not_memory, KeepsKeys-same)
 
   -- one that lacks memory
   pub applied-denied : refusal_of (objects_of old.heap) c ≡ None → takes_memory old.heap c ≡ true → new ≡ old → after ≡ before →
       IsApplied c old new (Refused NoMemory) before after
-  applied-denied none takes same quiet = record {
-    refused = λ q e. absurd (cc);
-    done = λ e n. absurd (n refl);
-    memory = λ e. (none, takes, same, quiet);
-    keys = subst (KeepsKeys old) (sym same) (KeepsKeys-same old);
-    order = λ owned o. subst (IsInOrder owned) (sym same) o;
-  }
+  applied-denied none takes same quiet = grind (arith, KeepsKeys-same)
 
   -- one that is carried out
   pub applied-done : (reply : Reply) → refusal_of (objects_of old.heap) c ≡ None → IsCarriedOut c old.heap new.heap reply before after → KeepsKeys old new →
       ((owned : List ℕ) → IsInOrder owned old → IsInOrder owned new) → IsApplied c old new reply before after
-  applied-done reply none carried keys order = record {
-    refused = λ q e. absurd (cc);
-    done = λ e n. carried;
-    memory = λ e. absurd (reply-not_refused (objects_of old.heap) c NoMemory (sym carried.reply_is ∙ e));
-    keys = keys;
-    order = order;
-  }
+  applied-done reply none carried keys order = grind (arith, reply-not_refused)
 
   -- and one that is carried out where some natives are no more
   pub applied-left : (reply : Reply) (o : Outcome) → refusal_of (objects_of old.heap) c ≡ None →
@@ -129,11 +81,7 @@ module _ (old new : Heap) (reply : Reply) (before after : Telling) where
   pub carried-copy_native : (d s : ℕ) (x : Option Name) → x ≡ register old (N s) → reply ≡ named_or_nothing x → new ≡ (hold_native old d x).heap →
       Told (hold_native old d x) → IsCarriedOut (CopyNative d s) old new reply before after
   unfolding effects reply_if_taken
-  carried-copy_native d s x e r h t = record {
-    reply_is = r ∙ ap named_or_nothing e;
-    heap = h ∙ ap (λ y. (hold_native old d y).heap) e;
-    told = subst (λ y. Told (hold_native old d y)) e t;
-  }
+  carried-copy_native d s x e r h t = grind arith
 
   pub carried-drop_native : (r : ℕ) → reply ≡ Done → new ≡ (hold_native old r None).heap → Told (hold_native old r None) →
       IsCarriedOut (Drop (N r)) old new reply before after
@@ -143,29 +91,17 @@ module _ (old new : Heap) (reply : Reply) (before after : Telling) where
   pub carried-set : (d i : ℕ) (from : Option Reg) (x : Option Name) → x ≡ source old from → reply ≡ Done → new ≡ (store_native old d i x).heap →
       Told (store_native old d i x) → IsCarriedOut (Set d i from) old new reply before after
   unfolding effects reply_if_taken
-  carried-set d i from x e r h t = record {
-    reply_is = r;
-    heap = h ∙ ap (λ y. (store_native old d i y).heap) e;
-    told = subst (λ y. Told (store_native old d i y)) e t;
-  }
+  carried-set d i from x e r h t = grind arith
 
   pub carried-get_native : (d s i : ℕ) (x : Option Name) → x ≡ slot_at (objects_of old) (N s) i → reply ≡ named_or_nothing x →
       new ≡ (hold_native old d x).heap → Told (hold_native old d x) → IsCarriedOut (Get (N d) s i) old new reply before after
   unfolding effects reply_if_taken
-  carried-get_native d s i x e r h t = record {
-    reply_is = r ∙ ap named_or_nothing e;
-    heap = h ∙ ap (λ y. (hold_native old d y).heap) e;
-    told = subst (λ y. Told (hold_native old d y)) e t;
-  }
+  carried-get_native d s i x e r h t = grind arith
 
   pub carried-unwrap : (d s : ℕ) (x : Option Name) → x ≡ native_of (register old (S s)) → reply ≡ named_or_nothing x →
       new ≡ (hold_native old d x).heap → Told (hold_native old d x) → IsCarriedOut (Unwrap d s) old new reply before after
   unfolding effects reply_if_taken
-  carried-unwrap d s x e r h t = record {
-    reply_is = r ∙ ap named_or_nothing e;
-    heap = h ∙ ap (λ y. (hold_native old d y).heap) e;
-    told = subst (λ y. Told (hold_native old d y)) e t;
-  }
+  carried-unwrap d s x e r h t = grind arith
 
 -- and tells nothing
 
@@ -181,11 +117,7 @@ module _ (old new : Heap) (reply : Reply) (t : Telling) where
   pub carried-copy_script : (d s : ℕ) (x : Option Name) → x ≡ register old (S s) → exposed old x ≡ old → reply ≡ named_or_nothing x →
       new ≡ hold_script old d x → IsCarriedOut (CopyScript d s) old new reply t t
   unfolding effects reply_if_taken
-  carried-copy_script d s x e same r h = record {
-    reply_is = r ∙ ap named_or_nothing e;
-    heap = h ∙ (ap (λ g. set_register g (S d) x) same ∙ ap (set_register old (S d)) e);
-    told = Tells-nil t;
-  }
+  carried-copy_script d s x e same r h = search (Tells-nil)
 
   pub carried-drop_script : (r : ℕ) → reply ≡ Done → new ≡ hold_script old r None → IsCarriedOut (Drop (S r)) old new reply t t
   unfolding effects reply_if_taken exposed
@@ -241,11 +173,7 @@ exposed-none h = refl
 
 -- what is not at least is less
 pub room-left : (a b : ℕ) → ¬ (a ≤ b) → b < a
-room-left a b h = go (nat_le a b) refl
-  where
-    go : (t : Bool) → nat_le a b ≡ t → b < a
-    go true e = absurd (h (leb-true a b e))
-    go false e = leb-false a b e
+room-left a b h = grind (arith, leb-true, leb-false)
 
 -- What the checks give
 

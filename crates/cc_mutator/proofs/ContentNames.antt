@@ -1,18 +1,16 @@
 -- CONTENTS BY NAMES: of one kind, and by kind.
-use Rattle.std.proofs.Common.{◌≡◌, ℕ, true, false, List, Option, Some, None, is_some, option_map, IsTrue, IsSome, refl, sym, ◌∙◌, ap}
+use Rattle.std.proofs.Common.{◌≡◌, ℕ, true, List, Option, Some, None, is_some, option_map, IsTrue, refl, sym, ◌∙◌, ap, arith}
 use Rattle.std.proofs.lemmas.Bool.{false≢true}
 use Rattle.cc_names.specs.declared.name.Name.{Name}
-use Rattle.cc_names.specs.declared.name.Name.TheVariants as name
 use Rattle.cc_names.specs.declared.number.NKey.{NKey}
 use Rattle.cc_names.specs.declared.number.SKey.{SKey}
-use Rattle.cc_names.specs.Names.{native, is_script}
+use Rattle.cc_names.specs.Names.{is_script}
 use Rattle.cc_model.specs.Checks.{is_native_there, is_script_there}
 use Rattle.cc_laws_heap.proofs.Face.{script-named}
 use Rattle.cc_counted.specs.declared.held.Held.{Held}
-use Rattle.cc_counted.specs.declared.held.Held.TheVariants as held
 use Rattle.cc_counted.specs.Counts.{held_of_native}
 use Rattle.cc_script.specs.Objects.{Object, object_at, is_there, name_at}
-use Rattle.cc_heaps.specs.Keyed.{Keyed, IsInOrder, number_at, named_object}
+use Rattle.cc_heaps.specs.Keyed.{Keyed, IsInOrder, named_object}
 use Rattle.cc_heaps.specs.Changes.{IsThere, held_name, native_name, script_name}
 use Rattle.cc_heaps.proofs.Content.{held_of_native-name}
 use Rattle.cc_heaps.proofs.ContentNames.{object-there}
@@ -20,8 +18,7 @@ use Rattle.cc_mutator.specs.Commands.{held_of_script, is_native_held, is_script_
 
 -- a script object that is held has its name
 held-script_name : (v : Keyed) (x : Option SKey) → held_name v (held_of_script x) ≡ script_name v x
-held-script_name v None = refl
-held-script_name v (Some key) = refl
+held-script_name v x = grind arith
 
 -- the name of what is taken for a content of one kind
 pub as_native-named : (v : Keyed) (key : Option NKey) (x : Option Held) (y : Option Name) → held_of_native key ≡ x → held_name v x ≡ y → native_name v key ≡ y
@@ -47,28 +44,11 @@ module _ (owned : List ℕ) (v : Keyed) (order : IsInOrder owned v) where
 
   -- a native is held where what is held is a native
   native-held : (x : Option Held) → IsThere v x → is_native_there (held_name v x) ≡ is_native_held x
-  native-held None there = refl
-  native-held (Some (held.Native key)) there = go (number_at v key.0) there
-    where
-      go : (o : Option ℕ) → IsSome o → is_native_there (option_map native o) ≡ true
-      go None t = absurd (false≢true t)
-      go (Some k) t = refl
-  native-held (Some (held.Script key)) there = let y = script-is key.0 there in ap is_native_there y.1 ∙ other y.0 y.2
-    where
-      other : (y : Name) → is_script y ≡ true → is_native_there (Some y) ≡ false
-      other (name.Native k) e = absurd (false≢true e)
-      other (name.Script k) e = refl
-      other (name.Reflector k) e = refl
+  native-held x there = grind (arith, false≢true, script-is)
 
   -- and a script object where it is a script object
   script-held_there : (x : Option Held) → IsThere v x → is_script_there (held_name v x) ≡ is_script_held x
-  script-held_there None there = refl
-  script-held_there (Some (held.Native key)) there = go (number_at v key.0) there
-    where
-      go : (o : Option ℕ) → IsSome o → is_script_there (option_map native o) ≡ false
-      go None t = absurd (false≢true t)
-      go (Some k) t = refl
-  script-held_there (Some (held.Script key)) there = let y = script-is key.0 there in ap is_script_there y.1 ∙ y.2
+  script-held_there x there = grind (arith, false≢true, script-is)
 
   -- by the name of what is held
   pub is_native_held-named : (x : Option Held) (y : Option Name) → held_name v x ≡ y → IsThere v x → is_native_held x ≡ is_native_there y

@@ -1,14 +1,13 @@
 -- WHAT FOLLOWS WHERE A COMMAND IS ANSWERED, by the laws: the reply is the graph's, the heaps go on standing for the graph,
 -- snapshots stay fresh, colours keep their invariant, and counts stay small.
-use Rattle.std.proofs.Common.{◌≡◌, ◌≢◌, ℕ, Bool, true, false, not, List, ◌++◌, Option, Some, None, IsTrue, refl, sym, ◌∙◌, ap, subst, inl, inr, ◌⊎◌, ⊎_elim}
+use Rattle.std.proofs.Common.{◌≡◌, ◌≢◌, ℕ, Bool, true, false, List, ◌++◌, Option, Some, None, IsTrue, refl, sym, ◌∙◌, ap, subst, inl, inr, ◌⊎◌, ⊎_elim, arith}
 use Rattle.std.specs.Option.{is_none}
 use Rattle.std.specs.List.{filter}
 use Rattle.std.proofs.lemmas.Bool.{false≢true, not-true}
 use Rattle.cc_lists.specs.Members.{Among, has}
 use Rattle.cc_lists.proofs.Members.{Among-append, Among-filter, Among-map_cases, Among-right, has-among}
 use Rattle.cc_names.specs.declared.name.Name.{Name}
-use Rattle.cc_names.specs.declared.name.Name.TheVariants as name
-use Rattle.cc_names.specs.declared.register.Reg.TheVariants.{N, S}
+use Rattle.cc_names.specs.declared.register.Reg.TheVariants.{S}
 use Rattle.cc_names.specs.Names.{native, reflector, same_name, is_native, is_script}
 use Rattle.cc_names.proofs.NameTests.{same_name-exact}
 use Rattle.cc_model.specs.declared.command.Command.{Command}
@@ -20,14 +19,14 @@ use Rattle.cc_model.specs.declared.item.Reply.TheVariants.{Refused}
 use Rattle.cc_model.specs.Telling.{Telling}
 use Rattle.cc_model.specs.Mutating.{is_applied}
 use Rattle.cc_model.specs.Ranges.{in_range}
-use Rattle.cc_model.specs.Checks.{refusal_of, reflector_of, refused_or, reply_if_taken}
+use Rattle.cc_model.specs.Checks.{refusal_of, refused_or, reply_if_taken}
 use Rattle.cc_model.specs.Colours.{HasColourInvariant}
-use Rattle.cc_model.specs.Effects.{effects, lacks_reflector, takes_memory}
+use Rattle.cc_model.specs.Effects.{effects, takes_memory}
 use Rattle.cc_model.specs.Fresh.{IsFresh}
 use Rattle.cc_model.specs.Graph.{step, reply_to, unless_refused, changed}
 use Rattle.cc_model.specs.Graph as graph
-use Rattle.cc_model.specs.Heap.{Heap, HeapNative, has_reflector, objects_of, register}
-use Rattle.cc_model.specs.Lawful.{State, RepliesWith, graph_after, is_listed, is_without_memory, may_want_memory}
+use Rattle.cc_model.specs.Heap.{Heap, HeapNative, has_reflector, objects_of}
+use Rattle.cc_model.specs.Lawful.{State, RepliesWith, graph_after, is_without_memory, may_want_memory}
 use Rattle.cc_model.specs.Listed.{census_order}
 use Rattle.cc_model.specs.Run.{census_names}
 use Rattle.cc_model.specs.Snapshot.{Snapshot}
@@ -78,14 +77,7 @@ takes-may_want h s (Set d i r) stands listed applied takes = absurd (false≢tru
 takes-may_want h s (Get r n i) stands listed applied takes = absurd (false≢true takes)
 takes-may_want h s (Put d i r) stands listed applied takes = absurd (false≢true takes)
 takes-may_want h s (Take d r i) stands listed applied takes = absurd (false≢true takes)
-takes-may_want h s (Wrap d n) stands listed applied takes =
-    subst (λ x. not (is_listed s.listed (reflector_of x)) ≡ true) ((objects-stand h s.graph stands).register (N n)) (go (register h (N n)) takes)
-  where
-    go : (x : Option Name) → lacks_reflector h x ≡ true → not (is_listed s.listed (reflector_of x)) ≡ true
-    go None e = absurd (false≢true e)
-    go (Some (name.Native k)) e = ap not (reflector-unlisted h s.listed k.0 listed (not-true (has_reflector h k.0) e))
-    go (Some (name.Script k)) e = absurd (false≢true e)
-    go (Some (name.Reflector k)) e = absurd (false≢true e)
+takes-may_want h s (Wrap d n) stands listed applied takes = grind (arith, objects-stand, false≢true, reflector-unlisted, not-true)
 takes-may_want h s (Unwrap d r) stands listed applied takes = absurd (false≢true takes)
 takes-may_want h s (Preserve r) stands listed applied takes = absurd (false≢true takes)
 takes-may_want h s (SetEntry m k (Some v)) stands listed applied takes = ap is_none (sym ((objects-stand h s.graph stands).value (S m) (S k))) ∙ takes
@@ -97,13 +89,7 @@ takes-may_want h s _ stands listed applied takes = absurd (false≢true applied)
 module _ (c : Command) (old new : Keyed) (reply : Reply) (before after : Telling) (a : IsApplied c old new reply before after) where
   -- WHAT HAPPENED: nothing, or the effects of the command, where it is not refused
   pub happened : (new.heap ≡ old.heap) ⊎ ((refusal_of (objects_of old.heap) c ≡ None) × (new.heap ≡ (effects old.heap c).heap))
-  happened = go (refusal_of (objects_of old.heap) c) refl (is_without_memory reply) refl
-    where
-      go : (o : Option Refusal) → refusal_of (objects_of old.heap) c ≡ o → (b : Bool) → is_without_memory reply ≡ b →
-          (new.heap ≡ old.heap) ⊎ ((refusal_of (objects_of old.heap) c ≡ None) × (new.heap ≡ (effects old.heap c).heap))
-      go (Some r) e b f = inl (ap (λ (v : Keyed). v.heap) (a.refused r e).1)
-      go None e true f = inl (ap (λ (v : Keyed). v.heap) (a.memory (is_without_memory-true reply f)).2)
-      go None e false f = inr (e, (a.done e (with-memory reply f)).heap)
+  happened = grind (arith, is_without_memory-true, with-memory, a.refused, a.memory, a.done)
 
   -- THE REPLY IS THE GRAPH'S, for each graph that the heaps stand for, or want of memory
   pub applied-replies : IsTrue (is_applied c) → (s : State) → StandsFor old.heap s.graph → AreListedFor c old.heap s.listed → RepliesWith s c reply

@@ -1,5 +1,5 @@
 -- THE NATIVE THAT A REGISTER HOLDS, by its key: its slots, and what they hold.
-use Rattle.std.proofs.Common.{◌≡◌, ℕ, ◌==◌, ◌≤◌, List, map, length, get_or, Option, Some, None, option_map, option_and_then, IsTrue, IsSome, refl, sym, ◌∙◌, ap, subst, inl}
+use Rattle.std.proofs.Common.{◌≡◌, ℕ, ◌==◌, ◌≤◌, List, map, length, get_or, Option, Some, None, option_map, option_and_then, IsTrue, IsSome, refl, sym, ◌∙◌, ap, subst, inl, arith}
 use Rattle.std.specs.Option.{option_to_list}
 use Rattle.std.proofs.Math.ListN.{get_or-map}
 use Rattle.std.proofs.lemmas.Bool.{false≢true}
@@ -10,8 +10,8 @@ use Rattle.cc_names.specs.declared.number.NKey.{NKey}
 use Rattle.cc_names.specs.declared.register.Reg.TheVariants.{N}
 use Rattle.cc_names.specs.Names.{native}
 use Rattle.cc_model.specs.Slots.{Slots}
-use Rattle.cc_model.specs.Checks.{slots_or_none, slot_at, slots_at}
-use Rattle.cc_model.specs.Heap.{HeapNative, native_at, objects_of, register, slots_in}
+use Rattle.cc_model.specs.Checks.{slot_at, slots_at}
+use Rattle.cc_model.specs.Heap.{HeapNative, native_at, objects_of, register}
 use Rattle.cc_laws_heap.proofs.Face.{named-found, native_at-there, native_register-there, slot_at-there}
 use Rattle.cc_counted.specs.declared.held.Held.{Held}
 use Rattle.cc_counted.specs.Counts.{heap_of, is_live, name_of, number_or_none, slots_of}
@@ -46,9 +46,7 @@ module _ (owned : List ℕ) (v : Keyed) (order : IsInOrder owned v) (r : ℕ) (k
 
   -- its slots by names,
   pub slots-named : slots_at (objects_of v.heap) (N r) ≡ native-at.native.slots
-  slots-named =
-      ap (λ o. slots_or_none (option_and_then (slots_in v.heap) o)) native-at.held
-      ∙ ap (λ o. slots_or_none (option_map (λ (n : HeapNative). n.slots) o)) native-at.found
+  slots-named = grind arith
 
   -- and as the counted heap shows them
   pub slots-keyed : slots_of (counts_of v) key.0 ≡ keyed_slots v native-at.native.slots
@@ -63,8 +61,7 @@ module _ (owned : List ℕ) (v : Keyed) (order : IsInOrder owned v) (r : ℕ) (k
 
   -- and few
   pub slots-few : length (slots_at (objects_of v.heap) (N r)) ≤ 64
-  slots-few = subst (λ ss. length ss ≤ 64) (sym slots-named)
-      (order.sound.well_formed.native_slots native-at.native (native_at-there v.heap native-at.number native-at.native native-at.found))
+  slots-few = grind (arith, slots-named, native_at-there, order.sound.well_formed.native_slots)
 
   -- WHAT A SLOT HOLDS, as the counted heap answers it, by name
   pub slot-named : (i : ℕ) (x : Option Held) → name_of (counts_of v) x ≡ get_or (slots_of (counts_of v) key.0) i None → IsTrue (is_live (counts_of v) x) →

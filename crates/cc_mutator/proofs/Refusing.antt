@@ -1,9 +1,8 @@
 -- WHEN A COMMAND IS REFUSED, by the tests in their order.
-use Rattle.std.proofs.Common.{◌≡◌, ℕ, Bool, true, false, not, ◌||◌, [], ◌∷◌, map, length, nat_le, Option, Some, None, is_some, option_map, refl, sym, ◌∙◌, ap}
+use Rattle.std.proofs.Common.{◌≡◌, ℕ, Bool, true, false, not, ◌||◌, [], ◌∷◌, map, length, nat_le, Option, Some, None, is_some, option_map, refl, sym, ◌∙◌, ap, arith}
 use Rattle.std.specs.Prelude.{is_none, option_to_list}
 use Rattle.std.specs.List.{list_any}
 use Rattle.cc_names.specs.declared.name.Name.{Name}
-use Rattle.cc_names.specs.declared.name.Name.TheVariants as name
 use Rattle.cc_names.specs.declared.register.Reg.{Reg}
 use Rattle.cc_names.specs.declared.register.Reg.TheVariants.{N, S}
 use Rattle.cc_names.specs.Names.{is_reflector}
@@ -53,8 +52,7 @@ script_slot-plain false false slot e = refl
 
 -- a weak map is there
 pub map-some : (o : Objects) (x : Option Name) → is_map_in o x ≡ true → is_none x ≡ false
-map-some o None e = absurd (cc)
-map-some o (Some x) e = refl
+map-some o x e = grind arith
 
 -- and its slots are not read
 pub script_slot-map : (o : Objects) (x : Option Name) (slot : Bool) → is_map_in o x ≡ true → Some Kind ≡ refusal_by_script_slot (is_none x) (is_map_in o x) slot
@@ -96,18 +94,11 @@ object-alone false false = refl
 
 -- a reflector is not refused, and another object is
 pub kind-told : (x : Option Name) (b : Bool) → option_map is_reflector x ≡ Some b → refusal_by_kind x ≡ elim b [ true ↦ None | false ↦ Some Kind ]
-kind-told None b e = absurd (cc)
-kind-told (Some x) b e = let is : is_reflector x ≡ b = cc in ap (λ c. first_refusal ((not c, Kind) ∷ [])) is ∙ by b
-  where
-    by : (b : Bool) → first_refusal ((not b, Kind) ∷ []) ≡ elim b [ true ↦ None | false ↦ Some Kind ]
-    by true = refl
-    by false = refl
+kind-told x b e = grind arith
 
 -- it is a reflector where it has a native
 pub native-told : (x : Name) → option_map is_reflector (Some x) ≡ Some (is_some (native_of (Some x)))
-native-told (name.Native k) = refl
-native-told (name.Script k) = refl
-native-told (name.Reflector k) = refl
+native-told x = grind arith
 
 -- the first of the tests
 pub refusal-by : (o : Objects) (c : Command) (lacks wrong slot content full : Bool) → lacks_object o c ≡ lacks → has_wrong_object o c ≡ wrong →
@@ -133,19 +124,16 @@ module _ (o : Objects) where
   -- a slot of a native written
   pub refusal-set : (d i : ℕ) (from : Option Reg) (b : Bool) → list_any (λ r. is_none (o.register r)) (option_to_list from) ≡ b →
       refusal_of o (Set d i from) ≡ or_source b (of_slot (N d) i)
-  refusal-set d i from b e =
-      refusal-by o (Set d i from) (is_none (o.register (N d)) || b) false _ _ _ (λ j. is_none (o.register (N d)) || e j) refl refl refl refl ∙ slot-source _ b _
+  refusal-set d i from b e = grind (arith, refusal-by, slot-source, o.register)
 
   -- a slot of a native read into a native register, or touched
   pub refusal-get_native : (d s i : ℕ) (content : Bool) (q : Option Refusal) → of_slot (N s) i ≡ q → is_script_there (slot_at o (N s) i) ≡ content →
       refusal_of o (Get (N d) s i) ≡ or_content content q
-  refusal-get_native d s i content q e f =
-      refusal-by o (Get (N d) s i) _ _ _ content _ refl refl refl f refl ∙ (slot-content _ _ content ∙ ap (or_content content) e)
+  refusal-get_native d s i content q e f = grind (arith, refusal-by, slot-content)
 
   pub refusal-expose : (s i : ℕ) (content : Bool) (q : Option Refusal) → of_slot (N s) i ≡ q → is_native_there (slot_at o (N s) i) ≡ content →
       refusal_of o (Expose s i) ≡ or_content content q
-  refusal-expose s i content q e f =
-      refusal-by o (Expose s i) _ _ _ content _ refl refl refl f refl ∙ (slot-content _ _ content ∙ ap (or_content content) e)
+  refusal-expose s i content q e f = grind (arith, refusal-by, slot-content)
 
   -- read into a script register it is refused as it is where it is touched
   pub refusal-get_script : (d s i : ℕ) → refusal_of o (Expose s i) ≡ refusal_of o (Get (S d) s i)
@@ -158,8 +146,7 @@ module _ (o : Objects) where
   -- a slot of a script object written or read
   pub refusal-put : (d i : ℕ) (from : Option ℕ) (b : Bool) → list_any (λ r. is_none (o.register r)) (map S (option_to_list from)) ≡ b →
       refusal_of o (Put d i from) ≡ or_source b (of_script_slot d i)
-  refusal-put d i from b e =
-      refusal-by o (Put d i from) (is_none (o.register (S d)) || b) _ _ _ _ (λ j. is_none (o.register (S d)) || e j) refl refl refl refl ∙ script_slot-source _ b _ _
+  refusal-put d i from b e = grind (arith, refusal-by, script_slot-source, o.register)
 
   pub refusal-take : (d s i : ℕ) → refusal_of o (Take d s i) ≡ of_script_slot s i
   refusal-take d s i = refusal-by o (Take d s i) _ _ _ _ _ refl refl refl refl refl ∙ script_slot-source (is_none (o.register (S s))) false (is_map_in o (o.register (S s))) (nat_le (length (slots_at o (S s))) i)
@@ -171,21 +158,14 @@ module _ (o : Objects) where
   -- an entry set or taken out, or read
   pub refusal-set_entry : (m k : ℕ) (from : Option ℕ) (b : Bool) → list_any (λ r. is_none (o.register r)) (map S (option_to_list from)) ≡ b →
       refusal_of o (SetEntry m k from) ≡ or_source b (of_entry m k)
-  refusal-set_entry m k from b e =
-      refusal-by o (SetEntry m k from) (is_none (o.register (S m)) || (is_none (o.register (S k)) || b)) _ _ _ _
-      (λ j. is_none (o.register (S m)) || (is_none (o.register (S k)) || e j)) refl refl refl refl
-      ∙ entry-source _ _ b _
+  refusal-set_entry m k from b e = grind (arith, refusal-by, entry-source, o.register)
 
   pub refusal-get_entry : (d m k : ℕ) → refusal_of o (GetEntry d m k) ≡ of_entry m k
   refusal-get_entry d m k = refusal-by o (GetEntry d m k) _ _ _ _ _ refl refl refl refl refl ∙ entry-source _ _ false _
 
   -- a native wrapped
   pub refusal-wrap : (d s : ℕ) → refusal_of o (Wrap d s) ≡ first_refusal ((is_none (o.register (N s)), Empty) ∷ [])
-  refusal-wrap d s = refusal-by o (Wrap d s) _ false false false false refl refl refl refl refl ∙ alone (is_none (o.register (N s)))
-    where
-      alone : (b : Bool) → refusal_by (b || false) false false false false ≡ first_refusal ((b, Empty) ∷ [])
-      alone true = refl
-      alone false = refl
+  refusal-wrap d s = grind (arith, refusal-by, o.register)
 
   -- a reflector unwrapped or preserved
   pub refusal-unwrap : (d s : ℕ) → refusal_of o (Unwrap d s) ≡ refusal_by_kind (o.register (S s))

@@ -10,7 +10,6 @@ use Rattle.cc_lists.proofs.ListWrites.{only-member}
 use Rattle.cc_lists.proofs.Places.{among-get}
 use Rattle.cc_lists.proofs.Searching.{find-only}
 use Rattle.cc_names.specs.declared.name.Name.{Name}
-use Rattle.cc_names.specs.declared.name.Name.TheVariants as name
 use Rattle.cc_names.specs.declared.number.SKey.{SKey}
 use Rattle.cc_names.specs.declared.kind.Kind.{Kind}
 use Rattle.cc_names.specs.declared.kind.Kind.TheVariants.{Plain, Reflector, Map}
@@ -39,9 +38,7 @@ pub record IsObjectAt (v : Keyed) (r key : ℕ) : Type 0 where
 
 -- a script object is found by its name
 slots_in-script : (h : Heap) (x : Name) → is_script x ≡ true → slots_in h x ≡ option_and_then slots_of_script (script_at h x)
-slots_in-script h (name.Native k) e = absurd (false≢true e)
-slots_in-script h (name.Script k) e = refl
-slots_in-script h (name.Reflector k) e = refl
+slots_in-script h x e = grind (arith, false≢true)
 
 abbrev pub is_map_kind : Kind → Bool
 is_map_kind Plain = false
@@ -49,32 +46,18 @@ is_map_kind Reflector = false
 is_map_kind Map = true
 
 is_map_kind-true : (kind : Kind) → is_map_kind kind ≡ true → kind ≡ Map
-is_map_kind-true Plain e = absurd (cc)
-is_map_kind-true Reflector e = absurd (cc)
-is_map_kind-true Map e = refl
+is_map_kind-true kind e = grind arith
 
 is_map_kind-some : (kind : Kind) → Some kind ≡ Some Map → is_map_kind kind ≡ true
-is_map_kind-some Plain e = absurd (cc)
-is_map_kind-some Reflector e = absurd (cc)
-is_map_kind-some Map e = refl
+is_map_kind-some kind e = search
 
 -- a weak map has none, and what is no weak map has its own
 kind-slots : (x : Name) (kind : Kind) (slots : Slots) → FitsName x kind slots → slots_or_none (slots_of_kind kind slots) ≡ slots
-kind-slots x Plain slots f = refl
-kind-slots x Reflector slots f = refl
-kind-slots (name.Script k) Map slots f = sym f
-kind-slots (name.Native k) Map slots f = absurd f
-kind-slots (name.Reflector k) Map slots f = absurd f
+kind-slots x kind slots f = grind arith
 
 -- at most 64 of them: a reflector has four
 fits-few : (x : Name) (kind : Kind) (slots : Slots) → FitsName x kind slots → length slots ≤ 64
-fits-few (name.Native k) kind slots f = absurd f
-fits-few (name.Script k) Plain slots f = f
-fits-few (name.Script k) Map slots f = omega (arith, ap length f)
-fits-few (name.Script k) Reflector slots f = absurd f
-fits-few (name.Reflector k) Reflector slots f = omega (arith, f)
-fits-few (name.Reflector k) Plain slots f = absurd f
-fits-few (name.Reflector k) Map slots f = absurd f
+fits-few x kind slots f = grind arith
 
 module _ (owned : List ℕ) (v : Keyed) (order : IsInOrder owned v) where
   -- the slots of a script object that is there
@@ -92,11 +75,7 @@ module _ (owned : List ℕ) (v : Keyed) (order : IsInOrder owned v) where
 
   module _ (r : ℕ) (key : SKey) (name : script_name v (Some key) ≡ register v.heap (S r)) (there : IsTrue (is_there v.scripts key.0)) where
     pub object-at : IsObjectAt v r key.0
-    object-at = go (object_at v.scripts key.0) refl there
-      where
-        go : (o : Option Object) → object_at v.scripts key.0 ≡ o → is_some o ≡ true → IsObjectAt v r key.0
-        go None e t = absurd (false≢true t)
-        go (Some o) e t = record { object = o; at = e; held = sym name ∙ ap (λ (f : Option Object). option_map (λ (p : Object). p.name) f) e }
+    object-at = grind (arith, false≢true)
 
     -- it stands in the heaps under its name
     stands : Among (named_object v.scripts object-at.object) v.heap.scripts
@@ -112,9 +91,7 @@ module _ (owned : List ℕ) (v : Keyed) (order : IsInOrder owned v) where
 
     -- its slots by names
     pub script_slots-named : slots_at (objects_of v.heap) (S r) ≡ map (name_held v.scripts) object-at.object.slots
-    script_slots-named =
-        ap (λ o. slots_or_none (option_and_then (slots_in v.heap) o)) object-at.held
-        ∙ slots-of_object (named_object v.scripts object-at.object) stands
+    script_slots-named = grind (arith, slots-of_object, stands)
 
     -- and by keys
     pub script_slots-keyed : objects.slots_at v.scripts key.0 ≡ object-at.object.slots
@@ -161,13 +138,7 @@ module _ (owned : List ℕ) (v : Keyed) (order : IsInOrder owned v) where
   -- and so is what a source gives
   pub source-black : IsColoured v.heap → (from : Option ℕ) (x : Option SKey) → script_name v x ≡ source v.heap (option_map S from) → IsScriptThere v x →
       IfSome x (λ k. colour_at v.scripts k.0 ≡ Some Black)
-  source-black colours (Some r) x e there = held-black colours r x e there
-  source-black colours None None e there = tt
-  source-black colours None (Some key) e there = go (object_at v.scripts key.0) e there
-    where
-      go : (o : Option Object) → option_map (λ (p : Object). p.name) o ≡ None → is_some o ≡ true → option_map (λ (p : Object). p.colour) o ≡ Some Black
-      go None e t = absurd (false≢true t)
-      go (Some o) e t = absurd (cc)
+  source-black colours from x e there = grind (arith, held-black, false≢true)
 
   -- WHAT IS BLACK AT ITS KEY is black by its name.
   pub key-black : (key : SKey) → IsTrue (is_there v.scripts key.0) → colour_at v.scripts key.0 ≡ Some Black → IsHeldBlack v.heap.scripts (script_name v (Some key))

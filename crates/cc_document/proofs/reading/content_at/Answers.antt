@@ -1,4 +1,4 @@
-use Rattle.std.proofs.Common.{◌≡◌, ◌<◌, [], length, get_or, None, IsTrue, sym, subst}
+use Rattle.std.proofs.Common.{◌≡◌, [], get_or, None, IsTrue, subst, arith}
 use Rattle.cc_counted.specs.Counts.{Counts, name_of, is_live, slots_of}
 use Rattle.cc_mutator.proofs.NativesRead.{slot-named}
 use Rattle.cc_heaps.proofs.ContentNames.{IsHeldAs}
@@ -9,11 +9,7 @@ use Rattle.cc_document.proofs.Reached.{slots-of_key}
 use Rattle.cc_document.proofs.reading.content_at.Goals as goal
 
 pub slot-requires-clause-within : goal.slot-requires-clause-within
-slot-requires-clause-within c =
-    let s = c.requires.shown in
-    let n = c.in_ok-native_reg in
-    let many = slots-of_key c.args.heaps.now c.args.collector.now s.0 s.1 c.args.of.0 n.field-0 n.ensures.name n.ensures.there in
-    subst (λ (d : Counts). c.args.i < length (slots_of d n.field-0.0)) (sym c.counted.ensures) (subst (λ m. c.args.i < m) (sym many) c.requires.within)
+slot-requires-clause-within c = grind (arith, slots-of_key)
 
 -- what the slot holds, by name
 held : (c : goal.After-slot) → IsHeldAs c.args.heaps.now c.slot.result (slot_at (objects_of c.args.heaps.now.heap) (N c.args.of.0) c.args.i)

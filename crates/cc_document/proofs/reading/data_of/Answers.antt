@@ -1,4 +1,4 @@
-use Rattle.std.proofs.Common.{◌≡◌, [], List, Some, None, option_map, sym, ◌∙◌, ap, subst}
+use Rattle.std.proofs.Common.{◌≡◌, [], List, Some, None, option_map, ◌∙◌, ap, subst, arith}
 use Rattle.cc_names.specs.declared.number.NativeNo.{NativeNo}
 use Rattle.cc_names.specs.declared.register.Reg.TheVariants.{N, S}
 use Rattle.cc_model.specs.Checks.{reflector_of, value_at}
@@ -12,12 +12,7 @@ use Rattle.cc_document.proofs.ClosureKeys.{wrapper-named, wrapper-there, data-un
 use Rattle.cc_document.proofs.reading.data_of.Goals as goal
 
 pub returns-in_err-reflector : goal.returns-in_err-reflector
-returns-in_err-reflector c =
-    let v = c.args.heaps.now in
-    let n = c.in_ok-native_reg in
-    let none = subst (λ (d : Counts). None ≡ reflector_at d n.field-0.0) c.counted.ensures c.in_err-reflector.ensures in
-    ap (option_map (λ (m : NativeNo). m.0)) c.from_residual-in_err-reflector.ensures
-    ∙ sym (data-unwrapped v c.requires.1.runs.order c.args.of.0 n.field-0 n.ensures.name n.ensures.there none)
+returns-in_err-reflector c = grind (arith, data-unwrapped)
 
 pub returns-in_err-data : goal.returns-in_err-data
 returns-in_err-data c =

@@ -1,11 +1,6 @@
-use Rattle.std.proofs.Common.{◌∙◌, ap}
-use Rattle.cc_heaps.specs.Changes.{native_name}
-use Rattle.cc_document.specs.Words.{element_of, elements}
+use Rattle.std.proofs.Common.{arith}
 use Rattle.cc_document.proofs.ElementNames.{held-element}
 use Rattle.cc_document.proofs.reading.key_at.Goals as goal
 
 pub returns-clause-name : goal.returns-clause-name
-returns-clause-name c =
-    let v = c.args.heaps.now in
-    ap (native_name v) c.native_held.ensures
-    ∙ (held-element v c.requires.shown.1.runs.order c.content_at.result ∙ ap (λ x. elements (element_of x)) c.content_at.ensures.name)
+returns-clause-name c = grind (arith, held-element)

@@ -1,4 +1,4 @@
-use Rattle.std.proofs.Common.{◌≡◌, ◌<◌, [], Some, sym, ◌∙◌, ap, subst, arith}
+use Rattle.std.proofs.Common.{◌≡◌, [], Some, sym, ◌∙◌, ap, subst, arith}
 use Rattle.cc_names.specs.Names.{object}
 use Rattle.cc_names.specs.declared.register.Reg.TheVariants.{S}
 use Rattle.cc_model.specs.Graph.{set_slot}
@@ -20,10 +20,7 @@ pub store_script-requires-clause-order : goal.store_script-requires-clause-order
 store_script-requires-clause-order c = ([], c.requires.shown.1.runs.order)
 
 pub store_script-requires-clause-within : goal.store_script-requires-clause-within
-store_script-requires-clause-within c =
-    let s = c.requires.shown in
-    let n = c.in-Some in
-    subst (λ m. 0 < m) (sym (closure-slots c.args.heaps.now c.args.collector.now s.0 s.1 s.2 n.closure n.ensures.name n.ensures.there)) (omega arith)
+store_script-requires-clause-within c = grind (arith, closure-slots)
 
 pub store_script-requires-clause-black : goal.store_script-requires-clause-black
 store_script-requires-clause-black c =

@@ -1,10 +1,10 @@
-use Rattle.std.proofs.Common.{◌≡◌, Err, refl, sym, ◌∙◌, ap, subst, inr}
+use Rattle.std.proofs.Common.{◌≡◌, Err, refl, sym, ◌∙◌, ap, subst, inr, arith}
 use Rattle.cc_names.specs.declared.register.Reg.TheVariants.{N}
 use Rattle.cc_model.specs.Graph as graph
 use Rattle.cc_model.specs.Heap as heap
 use Rattle.cc_heaps.specs.Keyed.{Keyed}
 use Rattle.cc_document.specs.Words.{element_of}
-use Rattle.cc_document.specs.Shown.{Shows, IsShown, parts, wrapping, without, making_closure, closing}
+use Rattle.cc_document.specs.Shown.{Shows, parts, wrapping, without, making_closure, closing}
 use Rattle.cc_document.proofs.Calls.{stops-wrapping}
 use Rattle.cc_document.proofs.Closures.{closure-closed, made-before, new_closure-wrapped}
 use Rattle.cc_document.proofs.Growing.{grows-then}
@@ -17,10 +17,7 @@ use Rattle.cc_document.proofs.Reached.{alike}
 use Rattle.cc_document.proofs.writing.close_over.Goals as goal
 
 pub empty-requires-clause-shown : goal.empty-requires-clause-shown
-empty-requires-clause-shown c =
-    let known = c.requires.shown in
-    subst (λ (w : Keyed). IsShown (parts w c.args.collector.now)) (sym c.in-Err.ensures.same)
-    (making_closure known.0, c.in_ok-make_closure.ensures.made known.0 known.1)
+empty-requires-clause-shown c = grind (arith, c.in_ok-make_closure.ensures.made)
 
 pub returns-in-Err-clause-stops : goal.returns-in-Err-clause-stops
 returns-in-Err-clause-stops c =
@@ -78,10 +75,7 @@ empty-requires-2-clause-shown c =
     (closing h, c.close.ensures.shows h (c.in_default.ensures.wrapped m.0 m.1))
 
 pub returns-clause-closed : goal.returns-clause-closed
-returns-clause-closed c = λ g s.
-    let m = making_closure g in
-    let h = wrapping c.args.about.0 m in
-    c.empty-2.ensures.shows (closing h) (c.close.ensures.shows h (c.in_default.ensures.wrapped m (c.in_ok-make_closure.ensures.made g s)))
+returns-clause-closed c = search (c.empty-2.ensures.shows, c.close.ensures.shows, c.in_default.ensures.wrapped, c.in_ok-make_closure.ensures.made)
 
 pub returns-clause-has : goal.returns-clause-has
 returns-clause-has c =

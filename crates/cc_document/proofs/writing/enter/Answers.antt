@@ -1,7 +1,5 @@
-use Rattle.std.proofs.Common.{sym, subst, ⊎_elim}
-use Rattle.cc_model.specs.Heap as heap
+use Rattle.std.proofs.Common.{sym, subst, ⊎_elim, arith}
 use Rattle.cc_heaps.specs.Keyed.{Keyed}
-use Rattle.cc_document.specs.Stops.{StopsWrapping, out_of_memory}
 use Rattle.cc_document.specs.Shown.{Shows, IsShown, parts, wrapping, without, entering}
 use Rattle.cc_document.proofs.Growing.{grows-then}
 use Rattle.cc_document.proofs.Closures.{unwrapped-reads}
@@ -21,8 +19,7 @@ empty-requires-clause-shown c =
     (either-of c.put_entry-entered.result _ _ e.entered e.same)
 
 pub returns-in_err-entered-clause-stops : goal.returns-in_err-entered-clause-stops
-returns-in_err-entered-clause-stops c =
-    stopped-by (StopsWrapping (heap.objects_of c.args.heaps.now.heap) c.args.of.0) c.from_residual-in_err-entered.result out_of_memory c.from_residual-in_err-entered.ensures.1 tt
+returns-in_err-entered-clause-stops c = grind (arith, stopped-by)
 
 pub returns-in_err-entered-clause-same : goal.returns-in_err-entered-clause-same
 returns-in_err-entered-clause-same c = err-of c.from_residual-in_err-entered.result (λ g s.
@@ -33,9 +30,7 @@ returns-in_err-entered-clause-same c = err-of c.from_residual-in_err-entered.res
     (without 2 h, u, record { before = unwrapped-reads g c.args.of.0 s.well.registers.1; scripts = unwrapped-left g c.args.of.0 s.well.registers.1 }))
 
 pub returns-clause-entered : goal.returns-clause-entered
-returns-clause-entered c = λ g s.
-    let h = wrapping c.args.of.0 g in
-    c.empty.ensures.shows (entering h) (c.in_ok-entered.ensures.entered h (c.in_ok-wrap_into_register.ensures.wrapped g s))
+returns-clause-entered c = search (c.empty.ensures.shows, c.in_ok-entered.ensures.entered, c.in_ok-wrap_into_register.ensures.wrapped)
 
 pub returns-in_err-entered-clause-grows : goal.returns-in_err-entered-clause-grows
 returns-in_err-entered-clause-grows c =

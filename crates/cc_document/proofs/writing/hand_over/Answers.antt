@@ -1,4 +1,4 @@
-use Rattle.std.proofs.Common.{◌<◌, [], Some, sym, subst, arith}
+use Rattle.std.proofs.Common.{[], Some, arith}
 use Rattle.cc_names.specs.declared.register.Reg.TheVariants.{S}
 use Rattle.cc_counted.specs.declared.held.Held.TheVariants as held
 use Rattle.cc_heaps.proofs.FewCounts.{none-owned}
@@ -15,10 +15,7 @@ pub store_native-requires-clause-order : goal.store_native-requires-clause-order
 store_native-requires-clause-order g c = none-owned c.args.heaps.now c.requires.shown.1.runs.order
 
 pub store_native-requires-clause-within : goal.store_native-requires-clause-within
-store_native-requires-clause-within g c =
-    let s = c.requires.shown in
-    let n = c.in-Some-Some in
-    subst (λ m. 1 < m) (sym (slots-of_key c.args.heaps.now c.args.collector.now s.0 s.1 c.args.to.0 n.element n.ensures.name n.ensures.there)) (omega arith)
+store_native-requires-clause-within g c = grind (arith, slots-of_key)
 
 pub returns-in-Some-Some-clause-shows : goal.returns-in-Some-Some-clause-shows
 returns-in-Some-Some-clause-shows g c = λ k s.

@@ -1,6 +1,5 @@
-use Rattle.std.proofs.Common.{[], ◌≤◌, sym, subst}
+use Rattle.std.proofs.Common.{[], sym, subst, arith}
 use Rattle.cc_laws_heap.proofs.Face.{objects-stand}
-use Rattle.cc_model.specs.Graph as graph
 use Rattle.cc_document.specs.Shown.{making_closure}
 use Rattle.cc_document.proofs.Closures.{new_closure-made}
 use Rattle.cc_document.specs.Told.{Grows}
@@ -20,15 +19,7 @@ returns-clause-made c = λ g s.
     (record { kept = e.kept; stands = e.stands }) g s (making_closure-document g s.document)
 
 pub returns-clause-has : goal.returns-clause-has
-returns-clause-has c =
-    let v = c.args.heaps.now in
-    let s = c.requires.shown in
-    let a = objects-stand v.heap s.0 s.1.stands in
-    let room : ¬ ((graph.objects_of s.0).limits.scripts ≤ (graph.objects_of s.0).scripts_made) = λ h.
-    let full = c.new_plain.ensures.full_always (rw (a.limits, a.scripts_made) h) in
-    let made = c.in_ok-new_plain.was in
-    cc in
-    (making_closure s.0, returns-clause-made c s.0 s.1, new_closure-made s.0 s.1.well.registers.1 (room-for_script (graph.objects_of s.0) room))
+returns-clause-has c = grind (arith, objects-stand, returns-clause-made, new_closure-made, room-for_script, c.new_plain.ensures.full_always)
 
 pub returns-clause-grows : goal.returns-clause-grows
 returns-clause-grows c =

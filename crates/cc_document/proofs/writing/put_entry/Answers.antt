@@ -1,4 +1,4 @@
-use Rattle.std.proofs.Common.{◌≡◌, [], true, Some, sym, ◌∙◌, ap, subst}
+use Rattle.std.proofs.Common.{◌≡◌, [], true, Some, sym, ◌∙◌, ap, subst, arith}
 use Rattle.std.specs.Option.{is_none, option_and_then}
 use Rattle.cc_names.specs.declared.register.Reg.TheVariants.{S}
 use Rattle.cc_model.specs.Checks.{is_map_in}
@@ -10,7 +10,6 @@ use Rattle.cc_heaps.specs.Standing.{IsReached}
 use Rattle.cc_heaps.proofs.Kept.{KeepsAll-black}
 use Rattle.cc_heaps.proofs.EntryNames.{is_map-named}
 use Rattle.cc_document.specs.Shown.{Shows, parts, entering}
-use Rattle.cc_document.specs.Told.{Grows}
 use Rattle.cc_document.proofs.Growing.{grows-entry}
 use Rattle.cc_document.proofs.Documents.{set_entry-document}
 use Rattle.cc_document.proofs.Holding.{script-black}
@@ -59,8 +58,4 @@ returns-in_ok-set_entry-clause-entered c = λ g s.
     g s (set_entry-document g s.document m k x))
 
 pub returns-in_ok-set_entry-clause-grows : goal.returns-in_ok-set_entry-clause-grows
-returns-in_ok-set_entry-clause-grows c =
-    let v = c.args.heaps.now in
-    let n = c.in-Some-Some-Some in
-    subst (Grows 0 v.heap) (sym c.in_ok-set_entry.ensures.heap)
-    (grows-entry v.heap (name_at v.scripts n.the_map.0) (name_at v.scripts n.reflector.0) (name_at v.scripts n.closure.0))
+returns-in_ok-set_entry-clause-grows c = grind (arith, grows-entry)

@@ -1,4 +1,4 @@
-use Rattle.std.proofs.Common.{rules, ◌<◌, [], ◌∙◌, sym, ap, subst}
+use Rattle.std.proofs.Common.{◌∙◌, sym, ap, subst}
 use Rattle.cc_names.specs.declared.register.Reg.TheVariants.{N}
 use Rattle.cc_model.specs.Checks.{slot_at}
 use Rattle.cc_model.specs.Graph.{set_register}
@@ -39,9 +39,4 @@ pub returns-clause-tells : goal.returns-clause-tells
 returns-clause-tells g c = c.set_native_reg.ensures.tells
 
 pub returns-clause-made : goal.returns-clause-made
-returns-clause-made g c =
-    let v = c.args.heaps.now in
-    let order = c.requires.shown.1.runs.order in
-    let within : c.args.into.0 < 256 = search rules in
-    hold_native-made v c.set_native_reg.new.self c.args.into.0 (native_name v c.key_at-element.result)
-    within (native-in [] v c.key_at-element.result order) order c.set_native_reg.ensures.heap
+returns-clause-made g c = search (hold_native-made, native-in)

@@ -1,10 +1,10 @@
-use Rattle.std.proofs.Common.{◌≡◌, [], Some, sym, ◌∙◌, ap, subst, inr}
+use Rattle.std.proofs.Common.{◌≡◌, [], Some, sym, ◌∙◌, ap, subst, inr, arith}
 use Rattle.cc_names.specs.Names.{native, reflector}
 use Rattle.cc_names.specs.declared.register.Reg.TheVariants.{N, S}
 use Rattle.cc_model.specs.Checks.{reflector_of}
 use Rattle.cc_model.specs.Graph as graph
 use Rattle.cc_model.specs.Graph.{set_register, wrapped}
-use Rattle.cc_model.specs.Heap.{objects_of, register}
+use Rattle.cc_model.specs.Heap.{register}
 use Rattle.cc_counted.specs.Counts.{number_or_none}
 use Rattle.cc_script.specs.Objects.{name_at}
 use Rattle.cc_heaps.proofs.FewCounts.{none-owned}
@@ -12,7 +12,6 @@ use Rattle.cc_heaps.specs.Keyed.{the_number}
 use Rattle.cc_heaps.specs.Standing.{IsReached, IsReachedOrReflects}
 use Rattle.cc_heaps.proofs.Kept.{KeepsAll-reached}
 use Rattle.cc_mutator.proofs.NativesRead.{native-at}
-use Rattle.cc_document.specs.Stops.{StopsWrapping, out_of_memory}
 use Rattle.cc_document.specs.Shown.{Shows, parts, wrapping}
 use Rattle.cc_document.specs.Told.{Grows}
 use Rattle.cc_document.proofs.Growing.{grows-held, grows-then, grows-wrapped}
@@ -23,8 +22,7 @@ use Rattle.cc_document.proofs.Steps.{Shows-step}
 use Rattle.cc_document.proofs.writing.wrap_into_register.Goals as goal
 
 pub returns-in_err-reflector-clause-stops : goal.returns-in_err-reflector-clause-stops
-returns-in_err-reflector-clause-stops c =
-    stopped-by (StopsWrapping (objects_of c.args.heaps.now.heap) c.args.element.0) c.from_residual.result out_of_memory c.from_residual.ensures.1 tt
+returns-in_err-reflector-clause-stops c = grind (arith, stopped-by)
 
 pub wrap-requires-clause-order : goal.wrap-requires-clause-order
 wrap-requires-clause-order c = none-owned c.args.heaps.now c.requires.shown.1.runs.order

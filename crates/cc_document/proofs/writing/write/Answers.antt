@@ -1,4 +1,4 @@
-use Rattle.std.proofs.Common.{◌≡◌, ◌<◌, [], sym, ◌∙◌, ap, subst}
+use Rattle.std.proofs.Common.{◌≡◌, [], sym, ◌∙◌, ap, subst, arith}
 use Rattle.cc_counted.specs.Counts.{held_of_native}
 use Rattle.cc_heaps.proofs.FewCounts.{none-owned}
 use Rattle.cc_heaps.specs.Changes.{IsBlackHeld, held_name}
@@ -14,9 +14,7 @@ pub store_native-requires-clause-order : goal.store_native-requires-clause-order
 store_native-requires-clause-order g c = none-owned c.args.heaps.now c.requires.shown.1.runs.order
 
 pub store_native-requires-clause-within : goal.store_native-requires-clause-within
-store_native-requires-clause-within g c =
-    let s = c.requires.shown in
-    subst (λ n. c.args.i < n) (sym (slots-of_key c.args.heaps.now c.args.collector.now s.0 s.1 c.args.of.0 c.in-Some.element c.in-Some.ensures.name c.in-Some.ensures.there)) c.requires.within
+store_native-requires-clause-within g c = grind (arith, slots-of_key)
 
 pub returns-in-Some-clause-shows : goal.returns-in-Some-clause-shows
 returns-in-Some-clause-shows g c = λ k s.

@@ -2,7 +2,6 @@ use Rattle.std.proofs.Common.{◌<◌, length, List, sym, subst, ap, arith}
 use Rattle.cc_script.specs.Objects.{Object}
 use Rattle.cc_script.specs.Objects as objects
 use Rattle.cc_heaps.specs.Keyed.{Keyed}
-use Rattle.cc_heaps.specs.Changes.{KeepsKeys}
 use Rattle.cc_mutator.proofs.ScriptsRead.{script_slots-as_many, script_slots-few}
 use Rattle.cc_mutator.proofs.applying.store_script.Goals as goal
 
@@ -24,6 +23,4 @@ pub returns-clause-order : goal.returns-clause-order
 returns-clause-order c owned o = c.store_script.ensures.kept.order owned (c.preserve-is_reflector.ensures.kept.order owned o)
 
 pub returns-clause-keys : goal.returns-clause-keys
-returns-clause-keys c =
-    let k = subst (λ (u : Keyed). KeepsKeys u c.store_script.new.self) c.preserve-is_reflector.ensures.heap c.store_script.ensures.kept.keys in
-    record { natives = k.natives; scripts = k.scripts }
+returns-clause-keys c = grind arith

@@ -1,13 +1,9 @@
-use Rattle.std.proofs.Common.{sym, ◌∙◌, ap}
-use Rattle.cc_model.specs.Exposure.{exposed}
-use Rattle.cc_heaps.specs.Changes.{script_name}
+use Rattle.std.proofs.Common.{arith}
 use Rattle.cc_mutator.proofs.Carrying.{exposed-none}
 use Rattle.cc_mutator.proofs.applying.touch.Goals as goal
 
 pub returns-in_default-clause-heap : goal.returns-in_default-clause-heap
-returns-in_default-clause-heap c =
-    let v = c.args.heaps.now in
-    sym (ap (λ x. exposed v.heap (script_name v x)) c.in_default.is ∙ exposed-none v.heap)
+returns-in_default-clause-heap c = grind (arith, exposed-none)
 
 pub returns-in-Some-clause-keys : goal.returns-in-Some-clause-keys
 returns-in-Some-clause-keys c = c.expose.ensures.kept.keys

@@ -1,4 +1,4 @@
-use Rattle.std.proofs.Common.{◌≡◌, [], ◌∷◌, not, Option, Some, None, List, refl, sym, ◌∙◌, ap}
+use Rattle.std.proofs.Common.{◌≡◌, [], ◌∷◌, Option, Some, List, sym, ◌∙◌, ap, arith}
 use Rattle.std.specs.Prelude.{is_none}
 use Rattle.cc_names.specs.declared.name.Name.{Name}
 use Rattle.cc_names.specs.declared.register.Reg.TheVariants.{N, S}
@@ -7,7 +7,6 @@ use Rattle.cc_model.specs.declared.item.Refusal.{Refusal}
 use Rattle.cc_model.specs.declared.item.Refusal.TheVariants.{Empty}
 use Rattle.cc_model.specs.declared.item.Reply.TheVariants.{Named}
 use Rattle.cc_model.specs.Checks.{first_refusal}
-use Rattle.cc_model.specs.Effects.{lacks_reflector}
 use Rattle.cc_model.specs.Exposure.{exposed}
 use Rattle.cc_model.specs.Heap.{Heap, objects_of, register, set_register}
 use Rattle.cc_model.specs.WellFormed.{native_names, script_names}
@@ -15,7 +14,6 @@ use Rattle.cc_laws_heap.proofs.Face.{AreColoured-from_view}
 use Rattle.cc_counted.specs.Counts.{number_or_none}
 use Rattle.cc_script.specs.Objects.{Object, name_at}
 use Rattle.cc_heaps.specs.Keyed.{the_number}
-use Rattle.cc_heaps.specs.Changes.{native_name}
 use Rattle.cc_mutator.proofs.Carrying.{applied-refused, applied-denied, applied-done, carried-wrap}
 use Rattle.cc_mutator.proofs.Exposing.{exposed-same}
 use Rattle.cc_mutator.proofs.NativesRead.{native-at}
@@ -29,10 +27,7 @@ abbrev by_content : Option Name → Option Refusal
 by_content x = first_refusal ((is_none x, Empty) ∷ [])
 
 pub returns-in_default : goal.returns-in_default
-returns-in_default c = λ t.
-    let v = c.args.heaps.now in
-    let none : register v.heap (N c.args.s) ≡ None = sym c.native_reg.ensures.name ∙ ap (native_name v) c.in_default.is in
-    applied-refused _ _ _ _ _ _ (refusal-wrap (objects_of v.heap) c.args.d c.args.s ∙ ap by_content none) refl refl
+returns-in_default c = grind (arith, applied-refused, refusal-wrap)
 
 pub set_script_reg-requires-clause-order : goal.set_script_reg-requires-clause-order
 set_script_reg-requires-clause-order c = let f = c.requires.order in (f.0, c.wrap.ensures.kept.order f.0 f.1)
@@ -58,10 +53,4 @@ returns-in-Ok c = λ t.
     (KeepsKeys-then v w c.set_script_reg.new.self e.kept.keys c.set_script_reg.ensures.kept.keys (ap native_names left) (ap script_names left)) (λ owned o. c.set_script_reg.ensures.kept.order owned (c.wrap.ensures.kept.order owned o))
 
 pub returns-in-Err : goal.returns-in-Err
-returns-in-Err c = λ t.
-    let v = c.args.heaps.now in
-    let e = c.in-Err.ensures in
-    let n = native-at c.requires.order.0 v c.requires.order.1 c.args.s c.in-Some.key c.in-Some.ensures.name c.in-Some.ensures.there in
-    let k = the_number v c.in-Some.key.0 in
-    let held : register v.heap (N c.args.s) ≡ Some (native k) = n.held ∙ sym (ap (λ o. Some (native (number_or_none o))) n.at) in
-    applied-denied _ _ _ _ _ (refusal-wrap (objects_of v.heap) c.args.d c.args.s ∙ ap by_content held) (ap (lacks_reflector v.heap) held ∙ ap not e.lacks) e.same refl
+returns-in-Err c = grind (arith, native-at, applied-denied, refusal-wrap)

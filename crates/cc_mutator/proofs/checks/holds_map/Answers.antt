@@ -1,16 +1,14 @@
-use Rattle.std.proofs.Common.{◌≡◌, List, Some, refl, sym, ◌∙◌, ap}
+use Rattle.std.proofs.Common.{◌≡◌, List, Some, sym, ◌∙◌, ap, arith}
 use denote.Enum.Bare.{sameb}
 use Rattle.cc_names.specs.contracts.kind.Kind.{the_type}
 use Rattle.cc_names.specs.declared.kind.Kind.{Kind}
-use Rattle.cc_names.specs.declared.kind.Kind.TheVariants.{Plain, Reflector, Map}
+use Rattle.cc_names.specs.declared.kind.Kind.TheVariants.{Map}
 use Rattle.cc_script.specs.Objects.{Object, kind_at}
 use Rattle.cc_mutator.proofs.ScriptsRead.{is_map_kind, map-told}
 use Rattle.cc_mutator.proofs.checks.holds_map.Goals as goal
 
 map-same : (kind : Kind) → sameb the_type kind Map ≡ is_map_kind kind
-map-same Plain = refl
-map-same Reflector = refl
-map-same Map = refl
+map-same kind = grind arith
 
 pub returns-in-Some : goal.returns-in-Some
 returns-in-Some c =

@@ -1,4 +1,4 @@
-use Rattle.std.proofs.Common.{true, false, None, refl, sym, ◌∙◌}
+use Rattle.std.proofs.Common.{refl, sym, ◌∙◌, arith}
 use Rattle.std.proofs.lemmas.Bool.{leb-false}
 use Rattle.cc_model.specs.Heap.{objects_of}
 use Rattle.cc_mutator.proofs.Refusing.{slot-there, refusal-expose}
@@ -11,9 +11,7 @@ pub holds_native-requires-clause-slot : goal.holds_native-requires-clause-slot
 holds_native-requires-clause-slot c = leb-false _ c.args.i (slot-there _ _ (sym c.refusal_of_slot.ensures ∙ c.in_default.is))
 
 pub returns-then-holds_native : goal.returns-then-holds_native
-returns-then-holds_native c =
-    sym (refusal-expose (objects_of c.args.heaps.now.heap) c.args.s c.args.i true None (sym c.refusal_of_slot.ensures ∙ c.in_default.is) (sym c.holds_native.ensures ∙ c.if-holds_native.true))
+returns-then-holds_native c = grind (arith, refusal-expose)
 
 pub returns : goal.returns
-returns c =
-    sym (refusal-expose (objects_of c.args.heaps.now.heap) c.args.s c.args.i false None (sym c.refusal_of_slot.ensures ∙ c.in_default.is) (sym c.holds_native.ensures ∙ c.if-holds_native.false))
+returns c = grind (arith, refusal-expose)

@@ -1,4 +1,4 @@
-use Rattle.std.proofs.Common.{true, false, None, refl, sym, ◌∙◌}
+use Rattle.std.proofs.Common.{refl, sym, ◌∙◌, arith}
 use Rattle.std.proofs.lemmas.Bool.{leb-false}
 use Rattle.cc_model.specs.Heap.{objects_of}
 use Rattle.cc_mutator.proofs.Refusing.{slot-there, refusal-get_native}
@@ -11,9 +11,7 @@ pub holds_script-requires-clause-slot : goal.holds_script-requires-clause-slot
 holds_script-requires-clause-slot c = leb-false _ c.args.i (slot-there _ _ (sym c.refusal_of_slot.ensures ∙ c.in_default.is))
 
 pub returns-then-holds_script : goal.returns-then-holds_script
-returns-then-holds_script c =
-    sym (refusal-get_native (objects_of c.args.heaps.now.heap) c.args.d c.args.s c.args.i true None (sym c.refusal_of_slot.ensures ∙ c.in_default.is) (sym c.holds_script.ensures ∙ c.if-holds_script.true))
+returns-then-holds_script c = grind (arith, refusal-get_native)
 
 pub returns : goal.returns
-returns c =
-    sym (refusal-get_native (objects_of c.args.heaps.now.heap) c.args.d c.args.s c.args.i false None (sym c.refusal_of_slot.ensures ∙ c.in_default.is) (sym c.holds_script.ensures ∙ c.if-holds_script.false))
+returns c = grind (arith, refusal-get_native)

@@ -1,11 +1,11 @@
 use Rattle.std.specs.Prelude.{OnOk, OnErr}
-use Rattle.std.proofs.Common.{Result, Ok, Err, Option, None, sym, subst}
+use Rattle.std.proofs.Common.{Result, Option, None, sym, subst, arith}
 use Rattle.cc_lists.proofs.KnownBytes.{on_err_of}
-use Rattle.cc_model.specs.End.{at_end, refused}
+use Rattle.cc_model.specs.End.{refused}
 use Rattle.cc_builder.specs.Building.{Built}
 use Rattle.cc_collector.specs.Kept.{machine_of}
 use Rattle.cc_collector.specs.Collected.{IsCollected}
-use Rattle.cc_collector.specs.Units.{Keeps, HasDoneAll}
+use Rattle.cc_collector.specs.Units.{Keeps}
 use Rattle.cc_collector.proofs.GivingUp.{collected-given_up}
 use Rattle.cc_collector.proofs.Keeping.{Keeps-then}
 use Rattle.cc_collector.proofs.UnitsSpare.{collected-keeps, collected-tells}
@@ -15,31 +15,21 @@ use Rattle.cc_collector.proofs.collector.Collector.whole.Goals as goal
 
 -- what follows on a result that is none or is an error
 on_ok-then : {T E P Q : Type 0} (r : Result T E) → (P → Q) → OnOk r P → OnOk r Q
-on_ok-then (Ok x) f p = f p
-on_ok-then (Err e) f p = tt
+on_ok-then r f p = grind arith
 
 on_err-then : {T E P Q : Type 0} (r : Result T E) → (P → Q) → OnErr r P → OnErr r Q
-on_err-then (Ok x) f p = tt
-on_err-then (Err e) f p = f p
+on_err-then r f p = grind arith
 
 -- what holds of each result holds
 on_both : {T E P : Type 0} (r : Result T E) → OnOk r P → OnErr r P → P
-on_both (Ok x) p q = p
-on_both (Err e) p q = q
+on_both r p q = grind arith
 
 -- The end of the running collection is refused
 
 -- what this comes to
 first-refused : (g : given.Over) (c : goal.After-from_residual g) → let telling = g.N.Notices.telling in let f = c.finish_running in
     IsCollected (machine_of c.args.heaps.now.heap c.args.self.now) (machine_of f.new.heaps.heap f.new.self) refused (telling c.args.out.now) (telling f.new.out)
-first-refused g c =
-    let telling = g.N.Notices.telling in
-    let v = c.args.heaps.now in
-    let w = c.finish_running.new.heaps in
-    let t = telling c.args.out.now in
-    let t₁ = telling c.finish_running.new.out in
-    subst (λ (d : Option Built). IsCollected (machine_of v.heap c.args.self.now) (machine_of w.heap d) refused t t₁) (sym c.finish_running.ensures.over)
-    (collected-refused v c.args.self.now c.requires.runs w t t₁ c.in_err-finish_running.ensures.ran c.in_err-finish_running.ensures.refused)
+first-refused g c = grind (arith, collected-refused)
 
 pub returns-in_err-finish_running-clause-refused : goal.returns-in_err-finish_running-clause-refused
 returns-in_err-finish_running-clause-refused g c = on_err_of c.from_residual.result (first-refused g c)
@@ -63,34 +53,10 @@ returns-in_err-finish_running-clause-kept g c = c.in_err-finish_running.ensures.
 -- A collection after it
 
 pub returns-clause-done : goal.returns-clause-done
-returns-clause-done g c =
-    let telling = g.N.Notices.telling in
-    let v = c.args.heaps.now in
-    let m = c.finish_running.new.heaps in
-    let w = c.go_to_end.new.heaps in
-    let t = telling c.args.out.now in
-    let t₁ = telling c.finish_running.new.out in
-    let t₂ = telling c.go_to_end.new.out in
-    on_ok-then c.go_to_end.result
-    (λ a. subst (λ (d : Option Built). IsCollected (machine_of v.heap c.args.self.now) (machine_of w.heap d) at_end t t₂) (sym c.go_to_end.ensures.over)
-    (collected v c.args.self.now c.requires.runs m w at_end t t₁ t₂ c.in_ok-finish_running.ensures.done
-    (subst (λ (d : Option Built). HasDoneAll m d w at_end t₁ t₂) c.finish_running.ensures.over a)))
-    c.go_to_end.ensures.done
+returns-clause-done g c = grind (arith, on_ok-then, collected)
 
 pub returns-clause-refused : goal.returns-clause-refused
-returns-clause-refused g c =
-    let telling = g.N.Notices.telling in
-    let v = c.args.heaps.now in
-    let m = c.finish_running.new.heaps in
-    let w = c.go_to_end.new.heaps in
-    let t = telling c.args.out.now in
-    let t₁ = telling c.finish_running.new.out in
-    let t₂ = telling c.go_to_end.new.out in
-    on_err-then c.go_to_end.result
-    (λ a. subst (λ (d : Option Built). IsCollected (machine_of v.heap c.args.self.now) (machine_of w.heap d) refused t t₂) (sym c.go_to_end.ensures.over)
-    (collected v c.args.self.now c.requires.runs m w refused t t₁ t₂ c.in_ok-finish_running.ensures.done
-    (subst (λ (d : Option Built). HasDoneAll m d w refused t₁ t₂) c.finish_running.ensures.over a)))
-    c.go_to_end.ensures.refused
+returns-clause-refused g c = grind (arith, on_err-then, collected)
 
 pub returns-clause-given_up : goal.returns-clause-given_up
 returns-clause-given_up g c = on_err-then c.go_to_end.result (λ a. collected-given_up _ _ _ _ a) (returns-clause-refused g c)

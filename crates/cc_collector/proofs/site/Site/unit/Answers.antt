@@ -1,5 +1,5 @@
-use Rattle.std.proofs.Common.{◌≡◌, ◌≢◌, ◌∙◌, Option, None, Some, sym, ap, subst, ⊎_elim, rules}
-use Rattle.cc_model.specs.End.{went_on, refused}
+use Rattle.std.proofs.Common.{◌≡◌, ◌≢◌, ◌∙◌, Option, None, Some, sym, ap, subst, rules, arith}
+use Rattle.cc_model.specs.End.{refused}
 use Rattle.cc_graph.specs.Held.{AreHeld}
 use Rattle.cc_heaps.specs.HasKey.{HasKey}
 use Rattle.cc_builder.specs.declared.build.Step.{Step}
@@ -41,15 +41,4 @@ returns-in_default-clause-done g c =
     c.abandon.ensures.unseen.stands c.abandon.ensures.suspected c.tell.ensures))
 
 pub returns-in-Traversed-clause-done : goal.returns-in-Traversed-clause-done
-returns-in-Traversed-clause-done g c =
-    let v = c.args.heaps.now in
-    let b = c.in-Some.build in
-    let s = c.in-Ok.step in
-    let t = g.N.Notices.telling c.args.out.now in
-    let runs : c.args.self.now.running ≡ Some b = sym (ap (λ (p : Place). p.running) c.self.view_is) ∙ c.in-Some.is in
-    let from_b : RunsIn v (Some b) = subst (RunsIn v) runs c.requires.runs in
-    let goes : s ≢ Complete = ⊎_elim (traversed-goes_on s) (gone-goes_on s) c.in-Traversed.is in
-    let e = c.in-Ok.ensures in
-    subst (λ (d : Option Built). HasDoneUnit v d v (Some c.step-stepped.new.self) went_on t t) (sym runs)
-    (node-done v b c.step-stepped.new.self t from_b (e.unit goes)
-    (record { built = e.built; held = e.held; fresh = e.fresh from_b.goes_on.fresh }) e.candidates (e.progress goes))
+returns-in-Traversed-clause-done g c = grind (arith, traversed-goes_on, gone-goes_on, node-done, g.N.Notices.telling)

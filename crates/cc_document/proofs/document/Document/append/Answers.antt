@@ -1,11 +1,11 @@
-use Rattle.std.proofs.Common.{◌≡◌, ◌≢◌, true, Err, Some, None, is_some, refl, sym, subst}
+use Rattle.std.proofs.Common.{◌≡◌, ◌≢◌, true, Err, Some, None, is_some, refl, sym, subst, arith}
 use Rattle.cc_names.specs.declared.register.Reg.TheVariants.{N}
 use Rattle.cc_model.specs.Graph.{objects_of, register}
 use Rattle.cc_document.specs.Words.{element_of, parent_of, child_of}
 use Rattle.cc_document.specs.Changes.{IsAppended}
 use Rattle.cc_document.specs.Stops.{StopsAppending}
-use Rattle.cc_document.specs.declared.error.DocumentError.TheVariants.{HasParent, NoPlace}
-use Rattle.cc_document.specs.Shown.{Makes, Parts, Shows, parts, written, appended}
+use Rattle.cc_document.specs.declared.error.DocumentError.TheVariants.{NoPlace}
+use Rattle.cc_document.specs.Shown.{Parts, Shows, written, appended}
 use Rattle.cc_document.proofs.Appending.{appended-reads}
 use Rattle.cc_document.proofs.Calls.{both-there, read-is_some, read-none, read-some, between-from}
 use Rattle.cc_heaps.specs.Leaving.{TellsWhatIsFreed}
@@ -38,14 +38,7 @@ returns-clause-appended g c = λ k s.
     )
 
 pub invariant_of-self : goal.invariant_of-self
-invariant_of-self g c =
-    let s = c.self.invariant.0 in
-    let v = c.args.parent.0 in
-    let w = c.args.child.0 in
-    let b = c.self.inside.collector in
-    let k = appended v c.in-Some.place w s.0 in
-    let t = c.write-2.ensures.shows (written w 0 (Some (N v)) s.0) (c.write.ensures.shows s.0 s.1) in
-    ((k, t), idle-after c.self.inside.heaps c.write-2.new.heaps b b s.0 k s.1 t (appended-left s.0 v c.in-Some.place w) c.self.invariant.1)
+invariant_of-self g c = search (idle-after, appended-left, c.write-2.ensures.shows, c.write.ensures.shows)
 
 pub returns-clause-tells : goal.returns-clause-tells
 returns-clause-tells g c =
@@ -58,22 +51,11 @@ returns-clause-tells g c =
     (g.N.Notices.telling c.args.out.now) (g.N.Notices.telling c.write.new.out) (g.N.Notices.telling c.write-2.new.out) c.write.ensures.tells c.write-2.ensures.tells)
 
 pub returns-clause-makes : goal.returns-clause-makes
-returns-clause-makes g c =
-    let v = c.self.inside.heaps in
-    let w = c.write-2.new.heaps in
-    subst (λ (p : Parts). Makes 0 0 p (parts w c.self.inside.collector)) c.self.view_is
-    (record { running = refl; made = made-then 0 0 0 0 v.heap c.write.new.heaps.heap w.heap c.write.ensures.made c.write-2.ensures.made })
+returns-clause-makes g c = grind (arith, made-then)
 
 pub returns-then-is_some-clause-stops : goal.returns-then-is_some-clause-stops
-returns-then-is_some-clause-stops g c = λ e is k s.
-    let o = objects_of k in
-    let x = element_of (register k (N c.args.parent.0)) in
-    let y = element_of (register k (N c.args.child.0)) in
-    let here = read-some c.element.result x c.is_none.result (c.element.ensures k s) c.is_none.ensures c.if-is_none.false in
-    let there = read-some c.element-else-is_none.result y c.is_none-else-is_none.result (c.element-else-is_none.ensures k s) c.is_none-else-is_none.ensures c.if-is_none-2.false in
-    let has : parent_of o (register k (N c.args.child.0)) ≢ None =
-    read-is_some c.parent.result (parent_of o (register k (N c.args.child.0))) c.is_some.result (c.parent.ensures k s) c.is_some.ensures c.if-is_some.true in
-    stopped-alike (StopsAppending o c.args.parent.0 c.args.child.0) (Err HasParent) HasParent refl (both-there x y here there, has) e is
+returns-then-is_some-clause-stops g c =
+    grind (arith, read-some, read-is_some, stopped-alike, both-there, c.element.ensures, c.element-else-is_none.ensures, c.parent.ensures)
 
 pub returns-in_default-clause-stops : goal.returns-in_default-clause-stops
 returns-in_default-clause-stops g c = λ e is k s.

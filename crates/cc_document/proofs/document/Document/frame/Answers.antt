@@ -1,6 +1,6 @@
-use Rattle.std.proofs.Common.{None, get_or, sym, ◌∙◌, ap, subst}
+use Rattle.std.proofs.Common.{None, get_or, ◌∙◌, ap, arith}
 use Rattle.cc_model.specs.Slots.{Slots}
-use Rattle.cc_document.specs.Shown.{Shows, IsIdle}
+use Rattle.cc_document.specs.Shown.{IsIdle}
 use Rattle.cc_document.proofs.Calls.{collected-shown}
 use Rattle.cc_document.proofs.document.Document.frame.Given as given
 use Rattle.cc_document.proofs.document.Document.frame.Goals as goal
@@ -10,13 +10,7 @@ idle : (g : given.Over) (c : goal.After-slice g) → IsIdle c.slice.new.heaps
 idle g c = λ r ne. ap (λ (rs : Slots). get_or rs r None) c.slice.ensures.keeps.script_registers ∙ c.self.invariant.1 r ne
 
 pub invariant_of-self : goal.invariant_of-self
-invariant_of-self g c =
-    let s = c.self.invariant.0 in
-    let e = c.slice.ensures in
-    ((s.0, collected-shown c.self.inside.heaps c.slice.new.heaps c.self.inside.collector c.slice.new.collector s.0 s.1 e.runs e.stands e.suspected), idle g c)
+invariant_of-self g c = grind (arith, collected-shown, idle)
 
 pub returns-clause-same : goal.returns-clause-same
-returns-clause-same g c = λ k s.
-    let t = subst (λ p. Shows p k) (sym c.self.view_is) s in
-    let e = c.slice.ensures in
-    collected-shown c.self.inside.heaps c.slice.new.heaps c.self.inside.collector c.slice.new.collector k t e.runs e.stands e.suspected
+returns-clause-same g c = grind (arith, collected-shown)

@@ -2,8 +2,7 @@ use Rattle.std.proofs.Common.{rules, ◌<◌, None, refl, inl, sym, subst, arith
 use Rattle.cc_names.specs.declared.register.Reg.TheVariants.{N}
 use Rattle.cc_model.specs.Graph.{set_register}
 use Rattle.cc_heaps.proofs.FewCounts.{none-owned}
-use Rattle.cc_document.specs.Shown.{Makes, Parts, Shows, parts}
-use Rattle.cc_heaps.specs.Leaving.{TellsWhatIsFreed}
+use Rattle.cc_document.specs.Shown.{Shows}
 use Rattle.cc_document.proofs.Assigning.{assigned-reads}
 use Rattle.cc_document.proofs.Documents.{native_register-document}
 use Rattle.cc_document.proofs.Freed.{hold_native-made}
@@ -38,18 +37,7 @@ returns-clause-assigned g c = λ k s.
     )
 
 pub returns-clause-tells : goal.returns-clause-tells
-returns-clause-tells g c =
-    let before = g.N.Notices.telling c.args.out.now in
-    let after = g.N.Notices.telling c.set_native_reg.new.out in
-    subst (λ (p : Parts). TellsWhatIsFreed p.heaps.heap c.set_native_reg.new.self.heap before after) c.self.view_is c.set_native_reg.ensures.tells
+returns-clause-tells g c = grind (arith, g.N.Notices.telling)
 
 pub returns-clause-makes : goal.returns-clause-makes
-returns-clause-makes g c =
-    let w = c.set_native_reg.new.self in
-    let within : c.args.variable.0 < 256 = search rules in
-    subst (λ (p : Parts). Makes 0 0 p (parts w c.self.inside.collector)) c.self.view_is
-    (record {
-      running = refl;
-      made = hold_native-made c.self.inside.heaps w c.args.variable.0 None within
-          (λ y m. absurd m) c.self.invariant.0.1.runs.order c.set_native_reg.ensures.heap;
-    })
+returns-clause-makes g c = grind (arith, hold_native-made)

@@ -1,9 +1,9 @@
-use Rattle.std.proofs.Common.{◌≡◌, true, Some, is_some, refl, sym, subst, inl, inr, ⊎_elim}
+use Rattle.std.proofs.Common.{◌≡◌, true, Some, is_some, sym, subst, ⊎_elim, arith}
 use Rattle.cc_names.specs.declared.register.Reg.TheVariants.{N, S}
 use Rattle.cc_model.specs.Graph.{objects_of, register}
 use Rattle.cc_document.specs.Words.{element_of}
 use Rattle.cc_document.specs.Changes.{IsHeard}
-use Rattle.cc_document.specs.Shown.{Makes, MakesOneAtMost, Parts, Shows, parts, written, closed_over, listened}
+use Rattle.cc_document.specs.Shown.{Parts, Shows, written, closed_over, listened}
 use Rattle.cc_document.proofs.Closures.{closed_over-reads, listened-reads}
 use Rattle.cc_document.proofs.Holding.{room-for_script}
 use Rattle.cc_document.proofs.Calls.{read-some, between-from, both-there}
@@ -38,10 +38,7 @@ returns-clause-listens g c = λ k s.
     )
 
 pub empty-requires-clause-shown : goal.empty-requires-clause-shown
-empty-requires-clause-shown g c =
-    let s = c.self.invariant.0 in
-    let h = closed_over c.args.about.0 s.0 in
-    (written c.args.to.0 1 (Some (S 1)) h, c.hand_over.ensures.shows h (c.in_ok-close_over.ensures.closed s.0 s.1))
+empty-requires-clause-shown g c = search (c.hand_over.ensures.shows, c.in_ok-close_over.ensures.closed)
 
 pub invariant_of-self : goal.invariant_of-self
 invariant_of-self g c =
@@ -51,13 +48,7 @@ invariant_of-self g c =
     ((x.0, x.1), idle-after c.self.inside.heaps c.close_over.new.heaps b b s.0 x.0 s.1 x.1 x.2.scripts c.self.invariant.1)
 
 pub invariant_of-self-2 : goal.invariant_of-self-2
-invariant_of-self-2 g c =
-    let s = c.self.invariant.0 in
-    let b = c.self.inside.collector in
-    let h = closed_over c.args.about.0 s.0 in
-    let k = listened c.args.to.0 c.args.about.0 s.0 in
-    let t = c.empty.ensures.shows (written c.args.to.0 1 (Some (S 1)) h) (c.hand_over.ensures.shows h (c.in_ok-close_over.ensures.closed s.0 s.1)) in
-    ((k, t), idle-after c.self.inside.heaps c.empty.new.heaps b b s.0 k s.1 t (listened-left s.0 c.args.to.0 c.args.about.0 s.1.well.registers.1) c.self.invariant.1)
+invariant_of-self-2 g c = search (idle-after, listened-left, c.empty.ensures.shows, c.hand_over.ensures.shows, c.in_ok-close_over.ensures.closed)
 
 pub returns-in_err-close_over-clause-same : goal.returns-in_err-close_over-clause-same
 returns-in_err-close_over-clause-same g c = err-of c.from_residual.result (λ k s.
@@ -81,13 +72,7 @@ returns-clause-tells g c =
     (tells-after x y z before after one.runs.order.sound.well_formed c.in_ok-close_over.ensures.grows c.hand_over.ensures.tells))
 
 pub returns-clause-makes : goal.returns-clause-makes
-returns-clause-makes g c =
-    let x = c.self.inside.heaps.heap in
-    let y = c.close_over.new.heaps.heap in
-    let z = c.hand_over.new.heaps.heap in
-    let w = c.empty.new.heaps in
-    subst (λ (p : Parts). Makes 0 1 p (parts w c.self.inside.collector)) c.self.view_is
-    (record { running = refl; made = made-then 0 1 0 0 x y w.heap c.in_ok-close_over.ensures.grows.made (made-then 0 0 0 0 y z w.heap c.hand_over.ensures.made c.empty.ensures.grows.made) })
+returns-clause-makes g c = grind (arith, made-then)
 
 pub returns-in_err-close_over-clause-tells : goal.returns-in_err-close_over-clause-tells
 returns-in_err-close_over-clause-tells g c =
@@ -98,22 +83,10 @@ returns-in_err-close_over-clause-tells g c =
     (nothing-told x y told (⊎_elim (grows-stays 0 x y) (grows-stays 1 x y) c.in_err-close_over.ensures.tried))
 
 pub returns-in_err-close_over-clause-tried : goal.returns-in_err-close_over-clause-tried
-returns-in_err-close_over-clause-tried g c = err-of c.from_residual.result
-    (subst (λ (p : Parts). MakesOneAtMost p (parts c.close_over.new.heaps c.self.inside.collector)) c.self.view_is
-    (⊎_elim (λ t. inl (record { running = refl; made = t.made })) (λ t. inr (record { running = refl; made = t.made })) c.in_err-close_over.ensures.tried))
+returns-in_err-close_over-clause-tried g c = grind (arith, err-of)
 
 pub returns-in_err-close_over-clause-empty : goal.returns-in_err-close_over-clause-empty
-returns-in_err-close_over-clause-empty g c = λ k s lacks.
-    let x = element_of (register k (N c.args.to.0)) in
-    let y = element_of (register k (N c.args.about.0)) in
-    let here = read-some c.element.result x c.is_none.result (c.element.ensures k s) c.is_none.ensures c.if-is_none.false in
-    let there = read-some c.element-else-is_none.result y c.is_none-else-is_none.result (c.element-else-is_none.ensures k s) c.is_none-else-is_none.ensures c.if-is_none-2.false in
-    absurd (both-there x y here there lacks)
+returns-in_err-close_over-clause-empty g c = grind (arith, read-some, both-there, c.element.ensures, c.element-else-is_none.ensures)
 
 pub returns-clause-empty : goal.returns-clause-empty
-returns-clause-empty g c = λ k s lacks.
-    let x = element_of (register k (N c.args.to.0)) in
-    let y = element_of (register k (N c.args.about.0)) in
-    let here = read-some c.element.result x c.is_none.result (c.element.ensures k s) c.is_none.ensures c.if-is_none.false in
-    let there = read-some c.element-else-is_none.result y c.is_none-else-is_none.result (c.element-else-is_none.ensures k s) c.is_none-else-is_none.ensures c.if-is_none-2.false in
-    absurd (both-there x y here there lacks)
+returns-clause-empty g c = grind (arith, read-some, both-there, c.element.ensures, c.element-else-is_none.ensures)

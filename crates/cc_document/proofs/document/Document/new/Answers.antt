@@ -1,4 +1,4 @@
-use Rattle.std.proofs.Common.{[], ◌≤◌, sym, subst}
+use Rattle.std.proofs.Common.{[], ◌≤◌, sym, subst, arith}
 use Rattle.cc_model.specs.Heap.{Heap}
 use Rattle.cc_document.specs.Shown.{Shows, parts, empty_document}
 use Rattle.cc_document.proofs.Beginning.{Shows-empty, empty-idle}
@@ -9,10 +9,7 @@ new_map-requires c = record { order = ([], c.in_ok-heaps.ensures.order) }
 
 -- an object could be made
 room : (c : goal.After-new-2) → ¬ (c.args.limits.scripts ≤ 0)
-room c = λ few.
-    let full = c.new_map.ensures.full_always (subst (λ (k : Heap). k.limits.scripts ≤ k.scripts_made) (sym c.in_ok-heaps.ensures.empty) few) in
-    let made = c.in_ok-new_map.was in
-    cc
+room c = grind (arith, c.new_map.ensures.full_always)
 
 shown : (c : goal.After-new-2) → Shows (parts c.new_map.new.self c.new-2.result) (empty_document c.args.limits)
 shown c =

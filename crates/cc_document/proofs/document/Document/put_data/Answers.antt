@@ -1,11 +1,11 @@
-use Rattle.std.proofs.Common.{◌≡◌, true, Err, is_some, refl, sym, ◌∙◌, ap, subst, inl, inr, ⊎_elim}
+use Rattle.std.proofs.Common.{◌≡◌, true, Err, is_some, refl, sym, ◌∙◌, ap, subst, ⊎_elim, arith}
 use Rattle.cc_names.specs.declared.register.Reg.TheVariants.{N}
 use Rattle.cc_model.specs.Graph.{objects_of, register}
 use Rattle.cc_model.specs.Heap as heap
 use Rattle.cc_document.specs.Words.{element_of}
 use Rattle.cc_document.specs.Changes.{HasData}
 use Rattle.cc_document.specs.Stops.{StopsListening}
-use Rattle.cc_document.specs.Shown.{Makes, MakesOneAtMost, Parts, Shows, parts, without, closed_over, entered, with_data}
+use Rattle.cc_document.specs.Shown.{Parts, Shows, without, closed_over, entered, with_data}
 use Rattle.cc_document.proofs.Assigning.{as_before-then}
 use Rattle.cc_document.proofs.Closures.{closed_over-reads, closed_over-before, with_data-reads, without-before}
 use Rattle.cc_document.proofs.Growing.{grows-stays, grows-then}
@@ -46,11 +46,7 @@ empty-requires-clause-shown c =
     (x.0, x.1)
 
 pub invariant_of-self : goal.invariant_of-self
-invariant_of-self c =
-    let s = c.self.invariant.0 in
-    let b = c.self.inside.collector in
-    let x = c.in_err-close_over.ensures.same s.0 s.1 in
-    ((x.0, x.1), idle-after c.self.inside.heaps c.close_over.new.heaps b b s.0 x.0 s.1 x.1 x.2.scripts c.self.invariant.1)
+invariant_of-self c = grind (arith, idle-after, c.in_err-close_over.ensures.same)
 
 pub returns-in_err-close_over-clause-same : goal.returns-in_err-close_over-clause-same
 returns-in_err-close_over-clause-same c = err-of c.from_residual.result (λ k s.
@@ -103,10 +99,7 @@ returns-in-Err-clause-same c = λ k s.
     )
 
 pub empty-requires-2-clause-shown : goal.empty-requires-2-clause-shown
-empty-requires-2-clause-shown c =
-    let s = c.self.invariant.0 in
-    let h = closed_over c.args.about.0 s.0 in
-    (entered c.args.of.0 h, c.in_default.ensures.entered h (c.in_ok-close_over.ensures.closed s.0 s.1))
+empty-requires-2-clause-shown c = search (c.in_default.ensures.entered, c.in_ok-close_over.ensures.closed)
 
 pub invariant_of-self-2 : goal.invariant_of-self-2
 invariant_of-self-2 c =
@@ -119,28 +112,13 @@ invariant_of-self-2 c =
     ((k, t), idle-after c.self.inside.heaps c.empty-2.new.heaps b b s.0 k s.1 t (with_data-left s.0 c.args.of.0 c.args.about.0 s.1.well.registers.1 one.well.registers.1) c.self.invariant.1)
 
 pub returns-in_err-close_over-clause-empty : goal.returns-in_err-close_over-clause-empty
-returns-in_err-close_over-clause-empty c = λ k s lacks.
-    let x = element_of (register k (N c.args.of.0)) in
-    let y = element_of (register k (N c.args.about.0)) in
-    let here = read-some c.element.result x c.is_none.result (c.element.ensures k s) c.is_none.ensures c.if-is_none.false in
-    let there = read-some c.element-else-is_none.result y c.is_none-else-is_none.result (c.element-else-is_none.ensures k s) c.is_none-else-is_none.ensures c.if-is_none-2.false in
-    absurd (both-there x y here there lacks)
+returns-in_err-close_over-clause-empty c = grind (arith, read-some, both-there, c.element.ensures, c.element-else-is_none.ensures)
 
 pub returns-in-Err-clause-empty : goal.returns-in-Err-clause-empty
-returns-in-Err-clause-empty c = λ k s lacks.
-    let x = element_of (register k (N c.args.of.0)) in
-    let y = element_of (register k (N c.args.about.0)) in
-    let here = read-some c.element.result x c.is_none.result (c.element.ensures k s) c.is_none.ensures c.if-is_none.false in
-    let there = read-some c.element-else-is_none.result y c.is_none-else-is_none.result (c.element-else-is_none.ensures k s) c.is_none-else-is_none.ensures c.if-is_none-2.false in
-    absurd (both-there x y here there lacks)
+returns-in-Err-clause-empty c = grind (arith, read-some, both-there, c.element.ensures, c.element-else-is_none.ensures)
 
 pub returns-clause-empty : goal.returns-clause-empty
-returns-clause-empty c = λ k s lacks.
-    let x = element_of (register k (N c.args.of.0)) in
-    let y = element_of (register k (N c.args.about.0)) in
-    let here = read-some c.element.result x c.is_none.result (c.element.ensures k s) c.is_none.ensures c.if-is_none.false in
-    let there = read-some c.element-else-is_none.result y c.is_none-else-is_none.result (c.element-else-is_none.ensures k s) c.is_none-else-is_none.ensures c.if-is_none-2.false in
-    absurd (both-there x y here there lacks)
+returns-clause-empty c = grind (arith, read-some, both-there, c.element.ensures, c.element-else-is_none.ensures)
 
 pub returns-in_err-close_over-clause-stays : goal.returns-in_err-close_over-clause-stays
 returns-in_err-close_over-clause-stays c =
@@ -149,9 +127,7 @@ returns-in_err-close_over-clause-stays c =
     subst (λ (p : Parts). NothingLeft p.heaps.heap y) c.self.view_is (⊎_elim (grows-stays 0 x y) (grows-stays 1 x y) c.in_err-close_over.ensures.tried)
 
 pub returns-in_err-close_over-clause-tried : goal.returns-in_err-close_over-clause-tried
-returns-in_err-close_over-clause-tried c = err-of c.from_residual.result
-    (subst (λ (p : Parts). MakesOneAtMost p (parts c.close_over.new.heaps c.self.inside.collector)) c.self.view_is
-    (⊎_elim (λ t. inl (record { running = refl; made = t.made })) (λ t. inr (record { running = refl; made = t.made })) c.in_err-close_over.ensures.tried))
+returns-in_err-close_over-clause-tried c = grind (arith, err-of)
 
 -- what was made and entered, or not
 grown-in-Err : (c : goal.After-empty) → Grows 1 c.self.inside.heaps.heap c.empty.new.heaps.heap
@@ -167,8 +143,7 @@ returns-in-Err-clause-stays c =
     subst (λ (p : Parts). NothingLeft p.heaps.heap c.empty.new.heaps.heap) c.self.view_is (grows-stays 1 c.self.inside.heaps.heap c.empty.new.heaps.heap (grown-in-Err c))
 
 pub returns-in-Err-clause-tried : goal.returns-in-Err-clause-tried
-returns-in-Err-clause-tried c =
-    subst (λ (p : Parts). MakesOneAtMost p (parts c.empty.new.heaps c.self.inside.collector)) c.self.view_is (inr (record { running = refl; made = (grown-in-Err c).made }))
+returns-in-Err-clause-tried c = grind (arith, grown-in-Err)
 
 grown : (c : goal.After-empty-2) → Grows 1 c.self.inside.heaps.heap c.empty-2.new.heaps.heap
 grown c =
@@ -183,5 +158,4 @@ returns-clause-stays c =
     subst (λ (p : Parts). NothingLeft p.heaps.heap c.empty-2.new.heaps.heap) c.self.view_is (grows-stays 1 c.self.inside.heaps.heap c.empty-2.new.heaps.heap (grown c))
 
 pub returns-clause-makes : goal.returns-clause-makes
-returns-clause-makes c =
-    subst (λ (p : Parts). Makes 0 1 p (parts c.empty-2.new.heaps c.self.inside.collector)) c.self.view_is (record { running = refl; made = (grown c).made })
+returns-clause-makes c = grind (arith, grown)

@@ -1,10 +1,10 @@
-use Rattle.std.proofs.Common.{◌≡◌, ◌≢◌, true, Err, None, option_map, refl, is_some, sym, ◌∙◌, ap, subst}
+use Rattle.std.proofs.Common.{◌≡◌, ◌≢◌, true, Err, None, option_map, refl, is_some, sym, ◌∙◌, ap, subst, arith}
 use Rattle.cc_names.specs.declared.number.NativeNo.{NativeNo}
 use Rattle.cc_names.specs.declared.register.Reg.TheVariants.{N}
 use Rattle.cc_model.specs.Graph.{objects_of, register}
 use Rattle.cc_document.specs.Words.{element_of, child_of}
 use Rattle.cc_document.specs.Changes.{IsRemoved}
-use Rattle.cc_document.specs.Shown.{Makes, Parts, Shows, parts, written, removed}
+use Rattle.cc_document.specs.Shown.{Parts, Shows, written, removed}
 use Rattle.cc_document.proofs.Appending.{removed-reads}
 use Rattle.cc_document.proofs.Calls.{both-there, read-some, between-from}
 use Rattle.cc_document.specs.declared.error.DocumentError.TheVariants.{NoChild}
@@ -49,14 +49,7 @@ returns-in_default-clause-stops g c = λ e is k s.
     (both-there x y here there, λ place within t. c.place.ensures.none c.in_default.is k s place within (t ∙ sym (c.element-removed.ensures k s))) e is
 
 pub invariant_of-self : goal.invariant_of-self
-invariant_of-self g c =
-    let s = c.self.invariant.0 in
-    let v = c.args.parent.0 in
-    let w = c.args.child.0 in
-    let b = c.self.inside.collector in
-    let k = removed v c.in-Some.place w s.0 in
-    let t = c.write-2.ensures.shows (written w 0 None s.0) (c.write.ensures.shows s.0 s.1) in
-    ((k, t), idle-after c.self.inside.heaps c.write-2.new.heaps b b s.0 k s.1 t (removed-left s.0 v c.in-Some.place w) c.self.invariant.1)
+invariant_of-self g c = search (idle-after, removed-left, c.write-2.ensures.shows, c.write.ensures.shows)
 
 pub returns-clause-tells : goal.returns-clause-tells
 returns-clause-tells g c =
@@ -69,8 +62,4 @@ returns-clause-tells g c =
     (g.N.Notices.telling c.args.out.now) (g.N.Notices.telling c.write.new.out) (g.N.Notices.telling c.write-2.new.out) c.write.ensures.tells c.write-2.ensures.tells)
 
 pub returns-clause-makes : goal.returns-clause-makes
-returns-clause-makes g c =
-    let v = c.self.inside.heaps in
-    let w = c.write-2.new.heaps in
-    subst (λ (p : Parts). Makes 0 0 p (parts w c.self.inside.collector)) c.self.view_is
-    (record { running = refl; made = made-then 0 0 0 0 v.heap c.write.new.heaps.heap w.heap c.write.ensures.made c.write-2.ensures.made })
+returns-clause-makes g c = grind (arith, made-then)

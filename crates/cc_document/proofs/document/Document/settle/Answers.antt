@@ -1,6 +1,6 @@
-use Rattle.std.proofs.Common.{None, get_or, sym, ◌∙◌, ap, subst}
+use Rattle.std.proofs.Common.{None, get_or, ◌∙◌, ap, arith}
 use Rattle.cc_model.specs.Slots.{Slots}
-use Rattle.cc_document.specs.Shown.{Shows, IsIdle}
+use Rattle.cc_document.specs.Shown.{IsIdle}
 use Rattle.cc_document.proofs.Calls.{collected-shown}
 use Rattle.cc_document.proofs.document.Document.settle.Given as given
 use Rattle.cc_document.proofs.document.Document.settle.Goals as goal
@@ -16,10 +16,7 @@ invariant_of-self g c =
     ((s.0, collected-shown c.self.inside.heaps c.settle.new.heaps c.self.inside.collector c.settle.new.self s.0 s.1 e.runs e.stands e.suspected), idle g c)
 
 pub returns-clause-same : goal.returns-clause-same
-returns-clause-same g c = λ k s.
-    let t = subst (λ p. Shows p k) (sym c.self.view_is) s in
-    let e = c.settle.ensures in
-    collected-shown c.self.inside.heaps c.settle.new.heaps c.self.inside.collector c.settle.new.self k t e.runs e.stands e.suspected
+returns-clause-same g c = grind (arith, collected-shown)
 
 pub returns-clause-idle : goal.returns-clause-idle
 returns-clause-idle g c = idle g c

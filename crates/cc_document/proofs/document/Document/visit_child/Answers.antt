@@ -1,19 +1,9 @@
-use Rattle.std.proofs.Common.{◌+◌, refl, subst, inl}
-use Rattle.cc_model.specs.Graph.{objects_of}
-use Rattle.cc_document.specs.Words.{in_variable, slot_of, element_of}
-use Rattle.cc_document.specs.Shown.{Makes, Parts, parts, gone_to}
+use Rattle.std.proofs.Common.{arith}
 use Rattle.cc_document.proofs.Idle.{idle-after}
 use Rattle.cc_document.proofs.document.Document.visit_child.Goals as goal
 
 pub invariant_of-self : goal.invariant_of-self
-invariant_of-self g c =
-    let s = c.self.invariant.0 in
-    let o = objects_of s.0 in
-    let b = c.self.inside.collector in
-    let k = gone_to c.args.into.0 (element_of (slot_of o (in_variable o c.args.of.0) (c.args.place + 2))) s.0 in
-    let t = c.visit.ensures.shows s.0 s.1 in
-    ((k, t), idle-after c.self.inside.heaps c.visit.new.heaps b b s.0 k s.1 t (λ r. inl refl) c.self.invariant.1)
+invariant_of-self g c = grind (arith, idle-after, c.visit.ensures.shows)
 
 pub returns-clause-makes : goal.returns-clause-makes
-returns-clause-makes g c =
-    subst (λ (p : Parts). Makes 0 0 p (parts c.visit.new.heaps c.self.inside.collector)) c.self.view_is (record { running = refl; made = c.visit.ensures.made })
+returns-clause-makes g c = grind arith
