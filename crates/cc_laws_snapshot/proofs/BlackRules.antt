@@ -1,21 +1,21 @@
 -- BLACK IN A SNAPSHOT IS THE LEAST SET OF ITS RULES, and white is what is left.
 use Rattle.std.specs.Prelude.{◌↔◌}
-use Rattle.std.proofs.Common.{arith, ◌≡◌, ℕ, ◌<◌, true, List, ◌++◌, map, Option, Some, None, refl, ap, subst, inl, ⊎_elim}
+use Rattle.std.proofs.Common.{arith, ◌≡◌, ℕ, ◌<◌, Bool, true, not, List, ◌++◌, map, Option, Some, None, refl, sym, ◌∙◌, ap, subst, inl, ⊎_elim, nat_lt}
 use Rattle.std.specs.List.{filter}
 use Rattle.std.specs.Option.{option_to_list}
-use Rattle.std.proofs.lemmas.Bool.{or_left, or_right, or_cases, lt-ltb, ltb-true, not-true}
+use Rattle.std.proofs.lemmas.Bool.{and_parts, and_from, or_left, or_right, or_cases, true≢false, lt-ltb, ltb-true, not-true, not_from_false, false_from_ne_true}
 use Rattle.cc_lists.specs.Members.{Among, has}
 use Rattle.cc_lists.proofs.Members.{Among-map, Among-map_cases, Among-left, Among-right, Among-append, Among-filter, Among-filtered, Among-passes, has-there, has-among}
 use Rattle.cc_lists.proofs.Least.{derive-root, derive-along, derive-jointly, derived-within}
 use Rattle.cc_lists.proofs.Closure.{closure-decides}
 use Rattle.cc_names.specs.declared.name.Name.{Name}
 use Rattle.cc_names.specs.declared.name.Name.TheVariants as name
-use Rattle.cc_names.specs.Names.{native, same_name, is_script}
+use Rattle.cc_names.specs.Names.{native, object, reflector, same_name, is_script, number_of}
 use Rattle.cc_names.proofs.NameTests.{same_name-exact}
-use Rattle.cc_model.specs.Heap.{Heap}
-use Rattle.cc_model.specs.View.{View, view, is_there}
+use Rattle.cc_model.specs.Heap.{Heap, HeapNative}
+use Rattle.cc_model.specs.View.{View, view, counted, is_there, scripts_there}
 use Rattle.cc_model.specs.WellFormed.{native_names}
-use Rattle.cc_model.specs.Snapshot.{NodeState, traversed, Node, Mapping, Snapshot, mapping_joint, noted_to, is_above, is_seed, seeds, BlackIn, black_in, IsWhite, white_natives}
+use Rattle.cc_model.specs.Snapshot.{NodeState, untraversed, gone, traversed, Node, Mapping, Snapshot, mapping_joint, noted_to, is_above, is_seed, seeds, black_in_rules, BlackIn, black_in, is_white, node_names, white_names, IsWhite, white_natives}
 use Rattle.cc_model.specs.Fresh.{node, IsNode}
 use Rattle.cc_laws_snapshot.specs.Black.{IsBlackByRules, touched, held_from_elsewhere, black_now, by_reference, by_mapping}
 use Rattle.cc_laws_snapshot.proofs.States.{state-of}
@@ -69,7 +69,8 @@ module _ (v : View) (s : Snapshot) where
 
   -- a node that the test finds is black
   seed-black : (x : Name) (state : NodeState) → Among (node x state) s.nodes → is_seed v s (node x state) ≡ true → BlackIn v s x
-  seed-black x state i e = grind (arith, derive-root, Among-map, Among-filter)
+  seed-black x state i e = derive-root (seeds v s) s.references mapped x
+      (Among-map (λ (n : Node). n.name) (node x state) (filter (is_seed v s) s.nodes) (Among-filter (is_seed v s) (node x state) s.nodes i e))
 
   -- the test of a script node
   script-seed : (x : Name) (state : NodeState) → is_script x ≡ true → Among x v.black → is_seed v s (node x state) ≡ true
@@ -80,7 +81,8 @@ module _ (v : View) (s : Snapshot) where
   by_rules-black _ (touched k n b) =
       let f = state-of s (native k) n in
       seed-black (native k) f.0 f.1 (or_left (has same_name v.buffer (native k)) (is_above s (native k) f.0) (has-there same_name same_name-exact v.buffer (native k) b))
-  by_rules-black _ (held_from_elsewhere k sampled i more) = search (seed-black, or_right, lt-ltb)
+  by_rules-black _ (held_from_elsewhere k sampled i more) = seed-black (native k) (traversed (Some sampled)) i
+      (or_right (has same_name v.buffer (native k)) (nat_lt (noted_to s (native k)) sampled) (lt-ltb (noted_to s (native k)) sampled more))
   by_rules-black _ (black_now x n e b) = let f = state-of s x n in seed-black x f.0 f.1 (script-seed x f.0 e b)
   by_rules-black _ (by_reference x y i b) = derive-along (seeds v s) s.references mapped x y i (by_rules-black x b)
   by_rules-black _ (by_mapping m i of_map of_key) = derive-jointly (seeds v s) s.references mapped

@@ -1,25 +1,30 @@
 -- NAMES THAT ARE CLOSED OFF ARE WHITE at the end of a collection: only such names hold or noted them, and no register, no place in the
 -- buffer and no black mark has one of them.
-use Rattle.std.proofs.Common.{◌≡◌, ℕ, ◌≤◌, true, List, [], ◌++◌, map, Some, refl, sym, ap, subst, arith, ⊎_elim, count_by}
+use Rattle.std.proofs.Common.{◌≡◌, ℕ, ◌<◌, ◌≤◌, true, not, List, [], ◌++◌, map, Some, None, refl, sym, ap, subst, arith, ⊎_elim, count_by}
 use Rattle.std.specs.List.{filter}
 use Rattle.std.proofs.lemmas.Bool.{cases_Bool, cases_lt, and_from, or_cases, or_left, false≢true, ltb-true}
 use Rattle.cc_lists.specs.Members.{Among, has}
-use Rattle.cc_lists.proofs.Members.{Among-map, Among-map_cases, Among-filter, Among-filtered, Among-passes, has-there, has-among}
-use Rattle.cc_lists.proofs.Counting.{counted_is, count_by-below}
-use Rattle.cc_lists.proofs.Least.{derived-within}
+use Rattle.cc_lists.proofs.Members.{Among-map, Among-map_cases, Among-right, Among-filter, Among-filtered, Among-passes, has-there, has-among}
+use Rattle.cc_lists.proofs.Counting.{count_by-some, counted_is, count_by-below}
+use Rattle.cc_lists.proofs.Least.{derive-root, derive-along, derived-within}
 use Rattle.cc_lists.proofs.Closure.{closure-decides}
 use Rattle.cc_names.specs.declared.name.Name.{Name}
 use Rattle.cc_names.specs.declared.name.Name.TheVariants as name
-use Rattle.cc_names.specs.Names.{native, same_name, is_script, number_of}
+use Rattle.cc_names.specs.Names.{native, object, reflector, same_name, is_script, number_of}
 use Rattle.cc_names.proofs.NameTests.{same_name-true, same_name-exact}
+use Rattle.cc_model.specs.Entries.{joints}
 use Rattle.cc_model.specs.Heap.{Heap, HeapNative}
-use Rattle.cc_model.specs.View.{View, view, to, between}
-use Rattle.cc_model.specs.Snapshot.{NodeState, traversed, Node, Snapshot, mapping_joint, is_above, is_seed, seeds, BlackIn, white_names, IsWhite, white_natives, Mapping}
-use Rattle.cc_model.specs.Fresh.{node, IsNode, IsFresh, IsTraversed, IsLiving}
+use Rattle.cc_model.specs.View.{View, view, view_rules, ReachedIn, reached_in, scripts_there, to, between}
+use Rattle.cc_model.specs.Snapshot.{NodeState, untraversed, gone, traversed, Node, Snapshot, mapping_joint, is_above, is_seed, seeds, black_in_rules, BlackIn, black_in, is_white, node_names, white_names, IsWhite, white_natives, Mapping}
+use Rattle.cc_model.specs.WellFormed.{native_names}
+use Rattle.cc_model.specs.Fresh.{node, IsNode, IsScriptThere, IsFresh, IsTraversed, IsLiving}
+use Rattle.cc_model.specs.Suspected.{is_unreached, unreached_scripts, IsCovered, IsFromCandidate, IsSuspected}
 use Rattle.cc_laws_heap.specs.Sound.{IsSound}
-use Rattle.cc_laws_snapshot.proofs.NamePairs.{between-true}
-use Rattle.cc_laws_snapshot.proofs.SoundView.{IsSoundView, IsSound-view, living-native}
+use Rattle.cc_laws_snapshot.proofs.NamePairs.{native-no_script, between-true, between-refl}
+use Rattle.cc_laws_snapshot.proofs.Edges.{edge-of}
+use Rattle.cc_laws_snapshot.proofs.SoundView.{IsSoundView, IsSound-view, living-native, there-script}
 use Rattle.cc_laws_snapshot.proofs.Unreached.{holder-traversed}
+use Rattle.cc_laws_snapshot.proofs.States.{from-traversed}
 use Rattle.cc_laws_snapshot.proofs.Unreached.{holder-traversed}
 use Rattle.std.specs.Option.{option_to_list}
 
@@ -92,7 +97,16 @@ module _ (made : ℕ) (v : View) (s : Snapshot) (sound : IsSoundView made v) (fr
   -- A native of them is white.
   closed_off-white : (i : ℕ) → B (native i) → IsWhite v s (native i)
   closed_off-white i b =
-      grind (arith, has-there, same_name-exact, Among-map, Among-filter, and_from, or_left, black-other, closure-decides, cases_Bool, c.living, c.node)
+      let u : Name = native i in
+      let l = c.living i b in
+      let there : has same_name (map (λ (n : Name × ℕ). n.0) v.natives) u ≡ true =
+      has-there same_name same_name-exact (map (λ (n : Name × ℕ). n.0) v.natives) u (Among-map (λ (n : Name × ℕ). n.0) (u, l.0) v.natives l.1) in
+      Among-filter (is_white v (black_in v s)) u (node_names s) (c.node u b)
+      (and_from _ _ (or_left (has same_name (map (λ (n : Name × ℕ). n.0) v.natives) u) (has same_name (scripts_there v) u) there)
+      (⊎_elim
+      (λ e. absurd (black-other u ((closure-decides same_name same_name-exact (black_in_rules v s) u).0 e) b))
+      (λ e. ap not e)
+      (cases_Bool (has same_name (black_in v s) u))))
 
 -- A NATIVE OF THEM IS AMONG THE WHITE ONES where no node is left to traverse.
 pub closed_off-white_native : (h : Heap) (s : Snapshot) → IsSound [] h → IsFresh h.natives_made (view h) s → IsTraversed s →

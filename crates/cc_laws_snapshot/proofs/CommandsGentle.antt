@@ -1,14 +1,14 @@
 -- EACH COMMAND THAT IS NOT REFUSED IS GENTLE, so it keeps every snapshot fresh.
-use Rattle.std.proofs.Common.{ℕ, List, Option, Some, None, option_map, arith}
+use Rattle.std.proofs.Common.{ℕ, List, length, Option, Some, None, option_map}
 use Rattle.std.specs.Prelude.{IsTrue}
 use Rattle.std.proofs.lemmas.Bool.{ltb-true, leb-false}
 use Rattle.cc_names.specs.declared.register.Reg.{Reg}
 use Rattle.cc_names.specs.declared.register.Reg.TheVariants.{N, S}
 use Rattle.cc_names.specs.declared.kind.Kind.TheVariants.{Plain, Map}
 use Rattle.cc_model.specs.declared.command.Command.{Command}
-use Rattle.cc_model.specs.declared.command.Command.TheVariants.{Native, Script, WeakMap, CopyNative, CopyScript, Drop, Set, Get, Put, Take, Wrap, Unwrap, Preserve, SetEntry, GetEntry, Expose}
-use Rattle.cc_model.specs.Ranges.{in_range, is_register}
-use Rattle.cc_model.specs.Checks.{slot_at, value_at}
+use Rattle.cc_model.specs.declared.command.Command.TheVariants.{Nothing, Native, Script, WeakMap, CopyNative, CopyScript, Drop, Set, Get, Put, Take, Wrap, Unwrap, Preserve, SetEntry, GetEntry, Expose, Slice, Collect, Gc, Census}
+use Rattle.cc_model.specs.Ranges.{in_range, is_register, is_slots}
+use Rattle.cc_model.specs.Checks.{slot_at, slots_at, value_at, native_of}
 use Rattle.cc_model.specs.Heap.{Heap, register, source, objects_of}
 use Rattle.cc_model.specs.View.{view}
 use Rattle.cc_model.specs.Snapshot.{Snapshot}
@@ -36,7 +36,8 @@ use Rattle.cc_laws_snapshot.proofs.NativesHeld.{put_in_register-gentle, hold_nat
 
 -- no script object has a native's name
 no_script-held : (h : Heap) (d : ℕ) → IsWellFormed h → IsHeldBlack h.scripts (register h (N d))
-no_script-held h d w o m i = grind (arith, native-no_script, native-name_of, native_register-there, script-named)
+no_script-held h d w o m i =
+    absurd (native-no_script o.name (native-name_of h o.name (native_register-there h d w o.name i)) (script-named h w o m))
 
 -- script registers hold black ones
 script_register-pale : (h : Heap) (d : ℕ) → IsColoured h → IsNotGray h (register h (S d))
@@ -56,23 +57,28 @@ script_source-pale h (Some d) c = script_register-pale h d c
 -- A command that is not refused is gentle.
 effects-gentle : {owned : List ℕ} (h : Heap) (c : Command) → IsSound owned h → IsColoured h → IsTrue (in_range c) → IsTaken (objects_of h) c → AreGentle h (effects h c).heap
 unfolding effects
-effects-gentle {owned} h (Native d n) s c r t = search (make_native-gentle, below-first, few-slots, leb-false)
+effects-gentle {owned} h (Native d n) s c r t = make_native-gentle owned h d n (below-first d (is_slots n) r) (few-slots n (is_register d) r)
+    (leb-false h.limits.natives h.natives_made t.room) s
 effects-gentle {owned} h (Script d n) s c r t = make_object-gentle h d Plain n s.well_formed
 effects-gentle {owned} h (WeakMap d) s c r t = make_object-gentle h d Map 0 s.well_formed
 effects-gentle {owned} h (CopyNative d q) s c r t = hold_native-gentle owned h d (register h (N q)) (below-first d (is_register q) r) (native_register-there h q s.well_formed) s
 effects-gentle {owned} h (CopyScript d q) s c r t = register-gentle h (S d) (register h (S q))
 effects-gentle {owned} h (Drop (N d)) s c r t = put_in_register-gentle owned h d None (ltb-true d 256 r) (λ y m. absurd m) s
 effects-gentle {owned} h (Drop (S d)) s c r t = register-gentle h (S d) None
-effects-gentle {owned} h (Set d i q) s c r t = search (store_native-gentle, source-there, source-pale, leb-false)
-effects-gentle {owned} h (Get (N d) q i) s c r t = search (hold_native-gentle, below-first, IsIn-no_script, slot_at-there)
+effects-gentle {owned} h (Set d i q) s c r t = store_native-gentle owned h d i (source h q) (source-there h q s.well_formed) (source-pale h q s.well_formed c)
+    (leb-false (length (slots_at (objects_of h) (N d))) i t.slot) s
+effects-gentle {owned} h (Get (N d) q i) s c r t = hold_native-gentle owned h d (slot_at (objects_of h) (N q) i) (below-first d (is_register q) r)
+    (IsIn-no_script h (slot_at (objects_of h) (N q) i) s.well_formed (slot_at-there h (N q) i s.well_formed) t.content) s
 effects-gentle {owned} h (Get (S d) q i) s c r t = hold_script-gentle h d (slot_at (objects_of h) (N q) i) s.well_formed
 effects-gentle {owned} h (Put d i q) s c r t = put_in_script-gentle owned h (register h (S d)) i (source h (option_map S q)) (script_register-there h d s.well_formed)
     (script_source-there h q s.well_formed) (script_register-pale h d c) (script_source-pale h q c) s
 effects-gentle {owned} h (Take d q i) s c r t = hold_script-gentle h d (slot_at (objects_of h) (S q) i) s.well_formed
 effects-gentle {owned} h (Wrap d q) s c r t = wrapped-gentle owned h d (register h (N q)) (native_register-there h q s.well_formed) s
-effects-gentle {owned} h (Unwrap d q) s c r t = search (hold_native-gentle, below-first, native_of-there, script_register-there)
+effects-gentle {owned} h (Unwrap d q) s c r t = hold_native-gentle owned h d (native_of (register h (S q))) (below-first d (is_register q) r)
+    (native_of-there h (register h (S q)) s.well_formed (script_register-there h q s.well_formed)) s
 effects-gentle {owned} h (Preserve q) s c r t = preserve-gentle h (register h (S q)) (script_register-pale h q c)
-effects-gentle {owned} h (SetEntry m k v) s c r t = search (set_entry-gentle, script_register-pale, script_source-pale)
+effects-gentle {owned} h (SetEntry m k v) s c r t = set_entry-gentle h (register h (S m)) (register h (S k)) (source h (option_map S v))
+    (script_register-pale h k c) (script_source-pale h v c)
 effects-gentle {owned} h (GetEntry d m k) s c r t = hold_script-gentle h d (value_at (objects_of h) (register h (S m)) (register h (S k))) s.well_formed
 effects-gentle {owned} h (Expose q i) s c r t = exposed-gentle h (slot_at (objects_of h) (N q) i) s.well_formed
 effects-gentle {owned} h _ s c r t = AreGentle-refl h

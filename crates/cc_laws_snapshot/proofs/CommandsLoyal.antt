@@ -9,15 +9,15 @@ use Rattle.cc_names.specs.declared.register.Reg.TheVariants.{N, S}
 use Rattle.cc_names.specs.declared.kind.Kind.TheVariants.{Plain, Map}
 use Rattle.cc_names.specs.Names.{native}
 use Rattle.cc_model.specs.declared.command.Command.{Command}
-use Rattle.cc_model.specs.declared.command.Command.TheVariants.{Native, Script, WeakMap, CopyNative, CopyScript, Drop, Set, Get, Put, Take, Wrap, Unwrap, Preserve, SetEntry, GetEntry, Expose}
+use Rattle.cc_model.specs.declared.command.Command.TheVariants.{Nothing, Native, Script, WeakMap, CopyNative, CopyScript, Drop, Set, Get, Put, Take, Wrap, Unwrap, Preserve, SetEntry, GetEntry, Expose, Slice, Collect, Gc, Census}
 use Rattle.cc_model.specs.Slots.{contents}
-use Rattle.cc_model.specs.Ranges.{in_range, is_register}
-use Rattle.cc_model.specs.Checks.{slot_at, slots_at, reflector_of}
+use Rattle.cc_model.specs.Ranges.{in_range, is_register, is_slots}
+use Rattle.cc_model.specs.Checks.{slot_at, slots_at, value_at, native_of, reflector_of}
 use Rattle.cc_model.specs.Heap.{Heap, HeapNative, Outcome, native_at, register, set_register, change_native, with_native_slot, source, objects_of, preserve}
 use Rattle.cc_model.specs.View.{view, ReachedIn}
 use Rattle.cc_model.specs.Cascade.{take_up, let_go}
 use Rattle.cc_model.specs.Exposure.{exposed}
-use Rattle.cc_model.specs.Effects.{effects, put_in_register, hold_native, store_native, with_native, make_native, make_object, wrapped, put_in_script}
+use Rattle.cc_model.specs.Effects.{effects, put_in_register, hold_native, store_native, with_native, make_native, hold_script, make_object, wrapped, set_entry, put_in_script}
 use Rattle.cc_model.specs.WellFormed.{native_names, names_there}
 use Rattle.cc_laws_heap.specs.Sound.{IsSound, numbers_of}
 use Rattle.cc_laws_heap.proofs.Natives.{IsWellFormed-distinct}
@@ -97,25 +97,33 @@ still-loyal {owned} h g s t k = handed-loyal owned None h g s.well_formed t (Han
 pub effects-loyal : {owned : List ℕ} (h : Heap) (c : Command) → IsSound owned h → IsTrue (in_range c) → IsTaken (objects_of h) c → IsSound owned (effects h c).heap →
     IsLoyal (view h) (view (effects h c).heap)
 unfolding effects
-effects-loyal {owned} h (Native d n) s r t u = search (make_native-loyal, below-first, few-slots, leb-false)
+effects-loyal {owned} h (Native d n) s r t u = make_native-loyal h d n (below-first d (is_slots n) r) (few-slots n (is_register d) r)
+    (leb-false h.limits.natives h.natives_made t.room) s
 effects-loyal {owned} h (Script d n) s r t u = still-loyal h (make_object h d Plain n) s u (Still-make_object h d Plain n)
 effects-loyal {owned} h (WeakMap d) s r t u = still-loyal h (make_object h d Map 0) s u (Still-make_object h d Map 0)
 effects-loyal {owned} h (CopyNative d q) s r t u = hold_native-loyal h d (register h (N q)) (below-first d (is_register q) r) (native_register-there h q s.well_formed) s
 effects-loyal {owned} h (CopyScript d q) s r t u = still-loyal h (set_register h (S d) (register h (S q))) s u (Still-script_register h d (register h (S q)))
 effects-loyal {owned} h (Drop (N d)) s r t u = drop_native-loyal h d (ltb-true d 256 r) s
 effects-loyal {owned} h (Drop (S d)) s r t u = still-loyal h (set_register h (S d) None) s u (Still-script_register h d None)
-effects-loyal {owned} h (Set d i q) s r t u = search (store_native-loyal, source-there, leb-false)
-effects-loyal {owned} h (Get (N d) q i) s r t u = search (hold_native-loyal, below-first, IsIn-no_script, slot_at-there)
-effects-loyal {owned} h (Get (S d) q i) s r t u = search (still-loyal, Still-hold_script)
+effects-loyal {owned} h (Set d i q) s r t u = store_native-loyal h d i (source h q) (source-there h q s.well_formed)
+    (leb-false (length (slots_at (objects_of h) (N d))) i t.slot) s
+effects-loyal {owned} h (Get (N d) q i) s r t u = hold_native-loyal h d (slot_at (objects_of h) (N q) i) (below-first d (is_register q) r)
+    (IsIn-no_script h (slot_at (objects_of h) (N q) i) s.well_formed (slot_at-there h (N q) i s.well_formed) t.content) s
+effects-loyal {owned} h (Get (S d) q i) s r t u = still-loyal h (hold_script h d (slot_at (objects_of h) (N q) i)) s u
+    (Still-hold_script h d (slot_at (objects_of h) (N q) i))
 effects-loyal {owned} h (Put d i q) s r t u = still-loyal h (put_in_script h (register h (S d)) i (source h (option_map S q))) s u
     (Still-put_in_script h (register h (S d)) i (source h (option_map S q))
     (λ k m. native-no_script h k s.well_formed (script_register-there h d s.well_formed (native k) m)))
-effects-loyal {owned} h (Take d q i) s r t u = search (still-loyal, Still-hold_script)
+effects-loyal {owned} h (Take d q i) s r t u = still-loyal h (hold_script h d (slot_at (objects_of h) (S q) i)) s u
+    (Still-hold_script h d (slot_at (objects_of h) (S q) i))
 effects-loyal {owned} h (Wrap d q) s r t u = handed-loyal owned None h (set_register (wrapped h (register h (N q))) (S d) (reflector_of (register h (N q)))) s.well_formed u
     (Hands-wrapped h d (register h (N q)) (λ j m. contents-at h.native_registers q (native j) m))
-effects-loyal {owned} h (Unwrap d q) s r t u = search (hold_native-loyal, below-first, native_of-there, script_register-there)
+effects-loyal {owned} h (Unwrap d q) s r t u = hold_native-loyal h d (native_of (register h (S q))) (below-first d (is_register q) r)
+    (native_of-there h (register h (S q)) s.well_formed (script_register-there h q s.well_formed)) s
 effects-loyal {owned} h (Preserve q) s r t u = still-loyal h (preserve h (register h (S q))) s u (Still-preserve h (register h (S q)))
-effects-loyal {owned} h (SetEntry m k v) s r t u = search (still-loyal, Still-set_entry)
-effects-loyal {owned} h (GetEntry d m k) s r t u = search (still-loyal, Still-hold_script)
+effects-loyal {owned} h (SetEntry m k v) s r t u = still-loyal h (set_entry h (register h (S m)) (register h (S k)) (source h (option_map S v))) s u
+    (Still-set_entry h (register h (S m)) (register h (S k)) (source h (option_map S v)))
+effects-loyal {owned} h (GetEntry d m k) s r t u = still-loyal h (hold_script h d (value_at (objects_of h) (register h (S m)) (register h (S k)))) s u
+    (Still-hold_script h d (value_at (objects_of h) (register h (S m)) (register h (S k))))
 effects-loyal {owned} h (Expose q i) s r t u = still-loyal h (exposed h (slot_at (objects_of h) (N q) i)) s u (Still-exposed h (slot_at (objects_of h) (N q) i))
 effects-loyal {owned} h _ s r t u = still-loyal h h s u (Still-refl h)

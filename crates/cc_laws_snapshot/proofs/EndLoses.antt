@@ -1,15 +1,16 @@
 -- THE END OF A COLLECTION ONLY LOSES REFERENCES: what a slot held is in hand once it was emptied, and so is who was touched.
-use Rattle.std.proofs.Common.{◌≡◌, ◌==◌, ℕ, Bool, true, false, List, [], ◌∷◌, ◌++◌, map, get_or, Some, None, refl, sym, ◌∙◌, ap, subst, inl, inr, ◌⊎◌, ⊎_elim, arith, if◌then◌else◌}
+use Rattle.std.proofs.Common.{◌≡◌, ◌==◌, ℕ, Bool, true, false, List, [], ◌∷◌, ◌++◌, map, set, get_or, Some, None, refl, sym, ◌∙◌, ap, subst, inl, inr, ◌⊎◌, ⊎_elim, arith, if◌then◌else◌}
 use Rattle.std.specs.List.{flat_map}
 use Rattle.std.specs.Option.{option_to_list}
 use Rattle.std.proofs.lemmas.Bool.{eqb-true}
 use Rattle.cc_lists.specs.Members.{Among}
-use Rattle.cc_lists.proofs.Members.{Among-map, Among-left, Among-right, Among-append, Among-flat_map, Among-flat_map_cases}
+use Rattle.cc_lists.proofs.Members.{Among-map, Among-map_cases, Among-left, Among-right, Among-append, Among-flat_map, Among-flat_map_cases}
 use Rattle.cc_names.specs.declared.name.Name.{Name}
-use Rattle.cc_names.specs.Names.{native, is_script, number_of}
+use Rattle.cc_names.specs.Names.{native, reflector, is_script, number_of}
 use Rattle.cc_model.specs.declared.item.Event.{Event}
-use Rattle.cc_model.specs.Heap.{Heap, HeapNative, native_at, change_native, with_native_slot, set_preserved}
-use Rattle.cc_model.specs.View.{view, native_edges, script_edges}
+use Rattle.cc_model.specs.Slots.{contents, from_to}
+use Rattle.cc_model.specs.Heap.{Heap, HeapNative, native_at, change_native, with_native_slot, set_slot, set_preserved}
+use Rattle.cc_model.specs.View.{view, slot_edges, preserved_edge, native_edges, script_edges}
 use Rattle.cc_model.specs.Cascade.{add_ref}
 use Rattle.cc_model.specs.Counts.{times}
 use Rattle.cc_model.specs.Fresh.{IsLiving}
@@ -134,7 +135,8 @@ ending-loses : (ks : List ℕ) (s : Stage) (es : List Event) (t : Stage) → End
 ending-loses ks _ _ _ (reordered early late h same) = reordered-loses early late h same
 ending-loses ks _ _ _ (raised hand h k m) = raised-loses hand h k
 ending-loses ks _ _ _ (unlinked hand h k m) = LosesTo-refl (stage hand [] h)
-ending-loses ks _ _ _ (emptied hand h k i n x m d e room content) = grind (arith, LosesTo, slot-loses)
+ending-loses ks _ _ _ (emptied hand h k i n x m d e room content) =
+    subst (λ y. LosesTo (stage hand [] h) (stage (numbers_of y ++ hand) [] (set_slot h (Some (native k)) i None))) content (slot-loses hand h k i n d e)
 ending-loses ks _ _ _ (unpreserved hand h k m) = preservation-loses hand h k
 
 -- ALL THAT IS DONE at the end of a collection only loses.

@@ -15,7 +15,11 @@ module _ (made now_made : ℕ) (h k : View) (g : IsGentle made now_made h k) whe
 
   -- so a mapping stays that of the entry
   IsMappingOf-stays : (e : Entry) (m : Mapping) → IsMappingOf h e m → IsMappingOf k e m
-  IsMappingOf-stays e m i = search (MemberOf-stays)
+  IsMappingOf-stays e m i = record {
+    value = i.value;
+    the_map = MemberOf-stays m.the_map e.the_map i.the_map;
+    key = MemberOf-stays m.key e.key i.key;
+  }
 
   -- a native that was made and is no more does not come back
   still_dead : (i : ℕ) → i ≤ made → ¬ (IsLiving h (native i)) → ¬ (IsLiving k (native i))

@@ -1,5 +1,5 @@
 -- NATIVES THAT GO BACK TO THE BUFFER with the purple mark, and a buffer that is emptied: what is suspected stays suspected.
-use Rattle.std.proofs.Common.{arith, ◌≡◌, ℕ, Bool, true, false, List, [], ◌∷◌, ◌++◌, map, refl, sym, subst, inl, inr, ◌⊎◌, ⊎_elim}
+use Rattle.std.proofs.Common.{arith, ◌≡◌, ℕ, Bool, true, false, List, [], ◌∷◌, ◌++◌, map, Option, Some, None, refl, sym, ◌∙◌, ap, subst, inl, inr, ◌⊎◌, ⊎_elim}
 use Rattle.std.specs.List.{filter}
 use Rattle.std.specs.Option.{is_some}
 use Rattle.cc_lists.specs.Members.{Among}
@@ -110,7 +110,8 @@ IsNameIn bs x = Among x (map buffered bs)
 
 -- a native that is suspected is purple
 suspected-purple : (k : ℕ) (bs : List Buffered) → IsPurpleName (with_mark true k bs) (native k)
-suspected-purple k bs = grind (arith, purple-name, with_mark-place)
+suspected-purple k bs =
+    purple-name (with_mark true k bs) (record { number = k; purple = true }) (with_mark-place true k bs) refl
 
 -- a purple name stays purple, or it is that of the native that is marked
 pub purple-stays : (m : Bool) (k : ℕ) (bs : List Buffered) (x : Name) → IsPurpleName bs x → (x ≡ native k) ⊎ IsPurpleName (with_mark m k bs) x
@@ -134,13 +135,24 @@ given_back (k ∷ ks) h bs = elim (is_some (native_at h k)) [ true ↦ given_bac
 -- Natives that go back change the buffer alone.
 pub give_back-buffer : (ks : List ℕ) (h : Heap) (bs : List Buffered) → give_back ks (with_buffer h bs) ≡ with_buffer h (given_back ks h bs)
 give_back-buffer [] h bs = refl
-give_back-buffer (k ∷ ks) h bs = grind (arith, with_buffer, give_back-buffer ks h)
+give_back-buffer (k ∷ ks) h bs = go (give_back-buffer ks h) (is_some (native_at h k))
+  where
+    go : ((cs : List Buffered) → give_back ks (with_buffer h cs) ≡ with_buffer h (given_back ks h cs)) → (b : Bool) →
+        elim b [ true ↦ give_back ks (with_buffer h (with_mark true k bs)) | false ↦ give_back ks (with_buffer h bs) ]
+        ≡ with_buffer h (elim b [ true ↦ given_back ks h (with_mark true k bs) | false ↦ given_back ks h bs ])
+    go ih true = ih (with_mark true k bs)
+    go ih false = ih bs
 
 -- what a mark set on a native that is there keeps, natives that go back keep
 given_back-keep : (P : List Buffered → Type 0) (h : Heap) → ((k : ℕ) (bs : List Buffered) → Among (native k) (native_names h) → P bs → P (with_mark true k bs)) →
     (ks : List ℕ) (bs : List Buffered) → P bs → P (given_back ks h bs)
 given_back-keep P h step [] bs p = p
-given_back-keep P h step (k ∷ ks) bs p = grind (arith, native_at-named, given_back-keep P h step ks)
+given_back-keep P h step (k ∷ ks) bs p = go (given_back-keep P h step ks) (native_at h k) refl
+  where
+    go : ((cs : List Buffered) → P cs → P (given_back ks h cs)) → (o : Option HeapNative) → native_at h k ≡ o →
+        P (elim (is_some o) [ true ↦ given_back ks h (with_mark true k bs) | false ↦ given_back ks h bs ])
+    go ih None e = ih bs p
+    go ih (Some n) e = ih (with_mark true k bs) (step k bs (native_at-named h k n e) p)
 
 -- who was purple stays purple
 pub given_back-purple : (h : Heap) (x : Name) (ks : List ℕ) (bs : List Buffered) → IsPurpleName bs x → IsPurpleName (given_back ks h bs) x

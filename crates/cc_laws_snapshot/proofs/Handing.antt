@@ -1,20 +1,22 @@
 -- A REFERENCE HANDED OVER IS A LOYAL CHANGE: first heaps change so that only what is then given up loses a reference,
 -- and a register holds or reaches who was touched or made; then what was held before is given up.
-use Rattle.std.proofs.Common.{◌≡◌, ℕ, true, List, ◌++◌, Option, Some, None, refl, sym, ◌∙◌, ap, subst, inl, inr, ◌⊎◌, ⊎_elim, []}
+use Rattle.std.proofs.Common.{◌≡◌, ℕ, true, List, ◌++◌, map, Option, Some, None, refl, sym, ◌∙◌, ap, subst, inl, inr, ◌⊎◌, ⊎_elim, []}
+use Rattle.std.specs.List.{flat_map}
 use Rattle.cc_lists.specs.Members.{Among}
-use Rattle.cc_lists.proofs.Members.{Among-map, Among-map_cases, Among-left, Among-append}
+use Rattle.cc_lists.proofs.Members.{Among-map, Among-map_cases, Among-left, Among-right, Among-append, Among-flat_map}
 use Rattle.cc_lists.proofs.Least.{derive-root}
 use Rattle.cc_names.specs.declared.name.Name.{Name}
 use Rattle.cc_names.specs.declared.name.Name.TheVariants as name
-use Rattle.cc_names.specs.Names.{native, reflector, number_of, is_script}
-use Rattle.cc_model.specs.Slots.{contents}
+use Rattle.cc_names.specs.Names.{native, reflector, number_of, is_script, behind}
+use Rattle.cc_model.specs.Slots.{contents, from_to}
 use Rattle.cc_model.specs.Entries.{joints}
 use Rattle.cc_model.specs.Heap.{Heap, HeapNative, HeapScript}
-use Rattle.cc_model.specs.View.{view, ReachedIn}
+use Rattle.cc_model.specs.View.{view, ReachedIn, slot_edges, preserved_edge, native_edges, script_slot_edges, script_edges}
 use Rattle.cc_model.specs.Cascade.{let_go}
 use Rattle.cc_model.specs.WellFormed.{IsWellFormed, native_names, script_names}
 use Rattle.cc_model.specs.Fresh.{IsLiving}
 use Rattle.cc_laws_heap.specs.Sound.{IsSound, numbers_of}
+use Rattle.cc_laws_heap.proofs.Owning.{let_go-sound}
 use Rattle.cc_laws_heap.proofs.ScriptsKept.{native-no_script as script-no_native}
 use Rattle.cc_laws_snapshot.proofs.NamePairs.{native-no_script}
 use Rattle.cc_laws_snapshot.proofs.Edges.{edge-of, script_edges-has, native_edges-has}
@@ -22,6 +24,7 @@ use Rattle.cc_laws_snapshot.specs.Losing.{PurpleOrGone, Loses, IsLoyal}
 use Rattle.cc_laws_snapshot.proofs.BufferMarks.{IsPurple, buffer-place}
 use Rattle.cc_laws_snapshot.proofs.NamesAndEdges.{named-of_living, living-number, living-of_named}
 use Rattle.cc_laws_snapshot.proofs.LoyalSuspected.{loses-same}
+use Rattle.cc_laws_snapshot.proofs.LosesTo.{HasLivingBuffer-view}
 use Rattle.cc_laws_snapshot.proofs.ReachedStays.{cascade-reached, native-edge, script-edge}
 use Rattle.cc_laws_snapshot.proofs.CascadeLoses.{cascade-loses}
 

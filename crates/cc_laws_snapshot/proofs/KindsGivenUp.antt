@@ -2,7 +2,7 @@
 -- wait count as in the buffer.
 use Rattle.std.proofs.Common.{◌≡◌, ℕ, ◌≤◌, ◌==◌, Bool, true, false, not, cond, List, [], ◌∷◌, ◌++◌, map, Some, None, refl, sym, ◌∙◌, ap, subst, inl, inr, ◌⊎◌, ⊎_elim, arith, count_by}
 use Rattle.std.specs.List.{filter, flat_map}
-use Rattle.std.proofs.lemmas.Bool.{eqb-true, eq-eqb, not-false, not-true, true≢false}
+use Rattle.std.proofs.lemmas.Bool.{cases_Bool, eqb-true, eq-eqb, not-false, not-true, true≢false}
 use Rattle.cc_lists.specs.Members.{Among}
 use Rattle.cc_lists.proofs.Members.{Among-map, Among-map_cases, Among-left, Among-right, Among-append, Among-filter, Among-filtered, Among-passes, Among-flat_map, Among-flat_map_cases}
 use Rattle.cc_lists.proofs.Counting.{count_by-append, count_by-map}
@@ -11,7 +11,7 @@ use Rattle.cc_names.specs.Names.{native, natives_in, number_of}
 use Rattle.cc_model.specs.Slots.{contents, from_to}
 use Rattle.cc_model.specs.Heap.{Heap, HeapNative, Buffered, native_at, with_mark, suspect, forget}
 use Rattle.cc_model.specs.Cascade.{Draining, lower, lowered, queued, give_up, removed, natives_of_slots, without_native}
-use Rattle.cc_model.specs.View.{View, view, between, slot_edges, preserved_edge, native_edges}
+use Rattle.cc_model.specs.View.{View, view, between, slot_edges, preserved_edge, native_edges, buffered}
 use Rattle.cc_model.specs.WellFormed.{IsRising, native_names}
 use Rattle.cc_model.specs.Snapshot.{Snapshot}
 use Rattle.cc_laws_heap.proofs.Natives.{named-found, native_at-member, IsRising-distinct}

@@ -1,29 +1,39 @@
 -- WHAT IS MADE, REFERRED TO, EXPOSED OR WRITTEN BESIDE NATIVES keeps every unreached native suspected.
-use Rattle.std.proofs.Common.{◌≡◌, ℕ, ◌+◌, ◌<◌, ◌≤◌, Bool, true, false, List, [], ◌∷◌, ◌++◌, map, Option, Some, None, refl, ◌∙◌, ap, subst, inl, ⊎_elim, arith}
+use Rattle.std.proofs.Common.{◌≡◌, ℕ, ◌+◌, ◌<◌, ◌≤◌, Bool, true, false, List, [], ◌∷◌, ◌++◌, map, length, Option, Some, None, refl, sym, ◌∙◌, ap, subst, inl, inr, ◌⊎◌, ⊎_elim, arith}
+use Rattle.std.specs.List.{filter}
 use Rattle.std.proofs.lemmas.List.{map_push}
-use Rattle.cc_lists.specs.Members.{Among}
-use Rattle.cc_lists.proofs.Members.{Among-append}
+use Rattle.cc_lists.specs.Members.{Among, has}
+use Rattle.cc_lists.proofs.Members.{Among-left, Among-append}
 use Rattle.cc_names.specs.declared.name.Name.{Name}
 use Rattle.cc_names.specs.declared.name.Name.TheVariants as name
+use Rattle.cc_names.specs.declared.register.Reg.TheVariants.{N}
 use Rattle.cc_names.specs.declared.kind.Kind.{Kind}
 use Rattle.cc_names.specs.declared.kind.Kind.TheVariants.{Reflector}
 use Rattle.cc_names.specs.Names.{native, object, reflector, same_name, is_script}
-use Rattle.cc_model.specs.Slots.{reflector_slots}
-use Rattle.cc_model.specs.Heap.{Heap, HeapScript, has_reflector, change_script, with_script_slot, set_preserved}
-use Rattle.cc_model.specs.View.{view, ReachedIn}
-use Rattle.cc_model.specs.Cascade.{add_ref}
-use Rattle.cc_model.specs.Exposure.{exposed}
-use Rattle.cc_model.specs.Effects.{make_native, make_object, with_reflector, wrapped, set_entry}
+use Rattle.cc_model.specs.Slots.{contents, reflector_slots}
+use Rattle.cc_model.specs.Heap.{Heap, HeapScript, has_reflector, register, set_register, change_script, with_script_slot, set_preserved}
+use Rattle.cc_model.specs.View.{view, buffered, ReachedIn}
+use Rattle.cc_model.specs.Cascade.{add_ref, let_go}
+use Rattle.cc_model.specs.Exposure.{exposed, exposed_names, as_black}
+use Rattle.cc_model.specs.Effects.{make_native, make_object, with_native, with_reflector, wrapped, set_entry}
 use Rattle.cc_model.specs.WellFormed.{IsWellFormed, native_names, script_names}
-use Rattle.cc_laws_heap.specs.Sound.{IsSound}
-use Rattle.cc_laws_heap.proofs.NativeCommands.{make_native-sound}
+use Rattle.cc_laws_heap.specs.Sound.{IsSound, numbers_of}
+use Rattle.cc_laws_heap.specs.Freeing.{Uncounted}
+use Rattle.cc_laws_heap.proofs.Owning.{let_go-sound}
+use Rattle.cc_laws_heap.proofs.Writes.{native_register-sound}
+use Rattle.cc_laws_heap.proofs.MadeSound.{with_native-sound}
+use Rattle.cc_laws_heap.proofs.NativeCommands.{IsIn-made, make_native-sound}
 use Rattle.cc_laws_heap.proofs.HoldsTheSame.{HoldsTheSame-add_ref, native_names-alike}
 use Rattle.cc_lists.proofs.ListWrites.{changed_where, changed_where-either, map-kept}
 use Rattle.cc_laws_heap.proofs.ScriptCommands.{blank}
+use Rattle.cc_laws_heap.proofs.ScriptsKept.{native-no_script}
+use Rattle.cc_laws_snapshot.specs.Losing.{PurpleOrGone, IsLoyal}
 use Rattle.cc_laws_snapshot.specs.KindsSuspected.{IsSuspectedIn, IsReachedNative}
+use Rattle.cc_laws_snapshot.proofs.BufferMarks.{IsPurple, buffer-place}
+use Rattle.cc_laws_snapshot.proofs.NamesAndEdges.{living-same}
 use Rattle.cc_laws_snapshot.proofs.LoyalSuspected.{loyal-suspected}
-use Rattle.cc_laws_snapshot.proofs.Handing.{hands-loyal}
-use Rattle.cc_laws_snapshot.proofs.Handed.{TakesUp, TakesUp-nothing, TakesUp-add_ref, Still}
+use Rattle.cc_laws_snapshot.proofs.Handing.{edge-to, edge-from_slot, edge-from_reflector, handed-loyal, hands-loyal}
+use Rattle.cc_laws_snapshot.proofs.Handed.{TakesUp, TakesUp-nothing, TakesUp-add_ref, TakesUp-with_native, made-living, Hands-register, Still}
 use Rattle.cc_laws_snapshot.proofs.StillNatives.{Still-refl, Still-script_last, Still-exposed, Still-change_script, Still-flag, Still-set_entry, Still-make_object, Hands-taken}
 use Rattle.cc_laws_snapshot.proofs.KindsLoyal.{HasScriptNames, HasScriptNames-well_formed, buffers-suspected}
 use Rattle.cc_laws_snapshot.proofs.CommandsLoyal.{make_native-loyal}
@@ -41,7 +51,9 @@ native_made-suspected owned h candidates d n s room few allowed = loyal-suspecte
 -- first one native may get a reference, then only what stands beside natives changes
 taken-suspected : (h i g : Heap) (candidates : List ℕ) (x : Option Name) → IsWellFormed h → HasScriptNames g → TakesUp h i x →
     native_names i ≡ native_names h → Still i g → IsReachedNative (view g) x → IsSuspectedIn h candidates → IsSuspectedIn g candidates
-taken-suspected h i g candidates x w named t names s reached = search (buffers-suspected, hands-loyal, Hands-taken)
+taken-suspected h i g candidates x w named t names s reached =
+    buffers-suspected h g candidates (view h).buffer (view h).purple (view g).buffer (view g).purple w named
+    (hands-loyal h g w (Hands-taken h i g x t names s reached))
 
 -- natives stay as they are
 still-suspected : (h g : Heap) (candidates : List ℕ) → IsWellFormed h → HasScriptNames g → Still h g → IsSuspectedIn h candidates → IsSuspectedIn g candidates
@@ -124,4 +136,5 @@ set_entry-scripts h m k v all = grind arith
 -- An entry is written.
 pub entry_written-suspected : (h : Heap) (candidates : List ℕ) (m k : Name) (v : Option Name) → IsWellFormed h →
     IsSuspectedIn h candidates → IsSuspectedIn (set_entry h (Some m) (Some k) v) candidates
-entry_written-suspected h candidates m k v w = search (still-suspected, set_entry-scripts, HasScriptNames-well_formed, Still-set_entry)
+entry_written-suspected h candidates m k v w = still-suspected h (set_entry h (Some m) (Some k) v) candidates w
+    (set_entry-scripts h m k v (HasScriptNames-well_formed h w)) (Still-set_entry h (Some m) (Some k) v)

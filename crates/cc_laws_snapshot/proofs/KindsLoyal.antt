@@ -1,16 +1,16 @@
 -- A LOYAL CHANGE OF VIEWS FORGETS NO NATIVE, whatever counts as purple in the buffer: of views whose edges start at what
 -- is there, and whose script objects and values of entries have names of script objects.
 use Rattle.std.proofs.Common.{arith, ◌≡◌, ℕ, Bool, true, false, List, [], ◌++◌, map, refl, sym, ◌∙◌, ap, subst, inl, inr, ◌⊎◌, ⊎_elim}
-use Rattle.std.proofs.lemmas.Bool.{true≢false, false≢true}
+use Rattle.std.proofs.lemmas.Bool.{true≢false, false≢true, not_from_false}
 use Rattle.cc_lists.specs.Members.{Among, has}
 use Rattle.cc_lists.proofs.Members.{Among-map, Among-map_cases, Among-left, Among-right, Among-append, Among-filter, Among-filtered, Among_or_not}
 use Rattle.cc_lists.proofs.Least.{derive-root, derive-along, derived-within}
 use Rattle.cc_lists.proofs.Closure.{closure-decides}
 use Rattle.cc_names.specs.declared.name.Name.{Name}
 use Rattle.cc_names.specs.declared.name.Name.TheVariants as name
-use Rattle.cc_names.specs.Names.{native, same_name, is_native, is_script}
+use Rattle.cc_names.specs.Names.{native, object, reflector, same_name, is_native, is_script}
 use Rattle.cc_names.proofs.NameTests.{same_name-exact}
-use Rattle.cc_model.specs.Entries.{Entry, joints}
+use Rattle.cc_model.specs.Entries.{Entry, joint, joints}
 use Rattle.cc_model.specs.Heap.{Heap}
 use Rattle.cc_model.specs.View.{View, view, counted, ReachedIn, reached_in, view_rules, scripts_there}
 use Rattle.cc_model.specs.WellFormed.{IsWellFormed, script_names}
@@ -197,7 +197,9 @@ pub alive-suspected : (h g : Heap) (candidates : List ℕ) (early early_purple l
     IsLoyalAlive (with_buffer early early_purple (view h)) (with_buffer late late_purple (view g)) →
     IsSuspected (with_buffer early early_purple (view h)) candidates → IsSuspected (with_buffer late late_purple (view g)) candidates
 alive-suspected h g candidates early early_purple late late_purple w s loyal =
-    search (views-suspected, IsNamed-buffers, HasScriptNames-well_formed, HasScriptValues-well_formed)
+    views-suspected (with_buffer early early_purple (view h)) (with_buffer late late_purple (view g)) candidates
+    (IsNamed-buffers h early early_purple (HasScriptNames-well_formed h w)) (HasScriptValues-well_formed h w)
+    (IsNamed-buffers g late late_purple s) loyal
 
 -- So does one that is loyal.
 pub buffers-suspected : (h g : Heap) (candidates : List ℕ) (early early_purple late late_purple : List Name) → IsWellFormed h → HasScriptNames g →

@@ -1,5 +1,5 @@
 -- THE NAMES IN THE BUFFER after a mark was set.
-use Rattle.std.proofs.Common.{arith, ◌≡◌, ℕ, Bool, true, List, [], ◌∷◌, map, refl, inl, ◌⊎◌}
+use Rattle.std.proofs.Common.{arith, ◌≡◌, ℕ, Bool, true, false, List, [], ◌∷◌, map, refl, sym, ◌∙◌, ap, subst, inl, inr, ◌⊎◌, ⊎_elim, ◌==◌}
 use Rattle.std.specs.List.{filter}
 use Rattle.std.proofs.lemmas.Bool.{eqb-true}
 use Rattle.cc_lists.specs.Members.{Among}
@@ -23,12 +23,19 @@ purple-name bs b m e = Among-map buffered b (filter (λ b. b.purple) bs) (Among-
 
 -- a purple name has a place with the mark
 pub purple-place : (bs : List Buffered) (x : Name) → IsPurpleName bs x → (b : Buffered) × Among b bs × (b.purple ≡ true) × (native b.number ≡ x)
-purple-place bs x m = grind (arith, Among-map_cases, Among-filtered, Among-passes)
+purple-place bs x m =
+    let f = Among-map_cases buffered (filter (λ b. b.purple) bs) x m in
+    (f.0, Among-filtered (λ (b : Buffered). b.purple) f.0 bs f.1, Among-passes (λ (b : Buffered). b.purple) f.0 bs f.1, f.2)
 
 -- a mark set has a place
 pub with_mark-place : (m : Bool) (k : ℕ) (bs : List Buffered) → Among (record { number = k; purple = m }) (with_mark m k bs)
 with_mark-place m k [] = inl refl
-with_mark-place m k (b ∷ bs) = grind (arith, eqb-true, with_mark-place m k bs)
+with_mark-place m k (b ∷ bs) = go (with_mark-place m k bs) (b.number == k) refl
+  where
+    go : Among (record { number = k; purple = m }) (with_mark m k bs) → (t : Bool) → (b.number == k) ≡ t →
+        Among (record { number = k; purple = m }) (elim t [ true ↦ record b { purple = m } ∷ bs | false ↦ b ∷ with_mark m k bs ])
+    go ih true e = inl (ap (λ (n : ℕ). record { number = n; purple = m }) (eqb-true b.number k e))
+    go ih false e = inr ih
 
 -- so the native that was marked is there
 pub with_mark-there : (m : Bool) (k : ℕ) (bs : List Buffered) → Among (native k) (names_in (with_mark m k bs))
@@ -37,7 +44,12 @@ with_mark-there m k bs = Among-map buffered (record { number = k; purple = m }) 
 -- a place of the buffer stays, or it is that of the native that is marked
 pub with_mark-stays : (m : Bool) (k : ℕ) (bs : List Buffered) (b : Buffered) → Among b bs → (b.number ≡ k) ⊎ Among b (with_mark m k bs)
 with_mark-stays m k [] b i = absurd i
-with_mark-stays m k (c ∷ bs) b i = grind (arith, eqb-true, with_mark-stays m k bs b)
+with_mark-stays m k (c ∷ bs) b i = go (with_mark-stays m k bs b) (c.number == k) refl
+  where
+    go : (Among b bs → (b.number ≡ k) ⊎ Among b (with_mark m k bs)) → (t : Bool) → (c.number == k) ≡ t →
+        (b.number ≡ k) ⊎ Among b (elim t [ true ↦ record c { purple = m } ∷ bs | false ↦ c ∷ with_mark m k bs ])
+    go ih true e = ⊎_elim (λ s. inl (ap (λ (d : Buffered). d.number) (sym s) ∙ eqb-true c.number k e)) (λ t. inr (inr t)) i
+    go ih false e = ⊎_elim (λ s. inr (inl s)) (λ t. ⊎_elim (λ l. inl l) (λ r. inr (inr r)) (ih t)) i
 
 -- who was there stays there
 pub with_mark-keeps : (m : Bool) (k : ℕ) (bs : List Buffered) (x : Name) → Among x (names_in bs) → Among x (names_in (with_mark m k bs))

@@ -6,10 +6,10 @@ use Rattle.cc_lists.specs.Members.{Among}
 use Rattle.cc_lists.proofs.Members.{Among-map_cases, Among-filter, Among-filtered, Among-passes}
 use Rattle.cc_names.specs.declared.name.Name.{Name}
 use Rattle.cc_names.specs.declared.name.Name.TheVariants as name
-use Rattle.cc_names.specs.Names.{native, same_name, is_native, is_script, number_of}
+use Rattle.cc_names.specs.Names.{native, object, reflector, same_name, is_native, is_script, number_of}
 use Rattle.cc_names.proofs.NameTests.{same_name-true, same_name-exact}
 use Rattle.cc_model.specs.Heap.{Heap, HeapScript, native_at, script_at, is_gray_in}
-use Rattle.cc_model.specs.View.{view, native_edges}
+use Rattle.cc_model.specs.View.{view, native_edges, script_edges}
 use Rattle.cc_model.specs.WellFormed.{IsWellFormed, script_names}
 use Rattle.cc_model.specs.Snapshot.{Snapshot, untraversed}
 use Rattle.cc_model.specs.Units.{first_untraversed, targets, edges_in, is_noted, to_note, sample, after_node}

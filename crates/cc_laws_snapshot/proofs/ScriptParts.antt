@@ -1,6 +1,6 @@
 -- PARTS OF COMMANDS THAT CHANGE SCRIPT OBJECTS AND ENTRIES, each gentle: an exposure, a slot written, a script object
 -- made, a native wrapped, an entry set or taken out.
-use Rattle.std.proofs.Common.{◌≡◌, ℕ, ◌+◌, Bool, true, false, List, [], ◌∷◌, ◌++◌, Option, Some, None, refl, sym, ◌∙◌, ap, subst, inl, ⊎_elim, arith}
+use Rattle.std.proofs.Common.{◌≡◌, ℕ, ◌+◌, Bool, true, false, not, List, [], ◌∷◌, ◌++◌, Option, Some, None, refl, sym, ◌∙◌, ap, subst, inl, ⊎_elim, arith}
 use Rattle.std.specs.Option.{option_to_list}
 use Rattle.std.proofs.lemmas.Bool.{false≢true}
 use Rattle.cc_lists.specs.Members.{Among}
@@ -12,7 +12,7 @@ use Rattle.cc_names.specs.declared.kind.Kind.{Kind}
 use Rattle.cc_names.specs.declared.kind.Kind.TheVariants.{Reflector}
 use Rattle.cc_names.specs.Names.{native, object, reflector}
 use Rattle.cc_model.specs.Slots.{contents, reflector_slots}
-use Rattle.cc_model.specs.Entries.{Entry, with_entry}
+use Rattle.cc_model.specs.Entries.{Entry, is_entry_of, with_entry, without_entry}
 use Rattle.cc_model.specs.Checks.{reflector_of}
 use Rattle.cc_model.specs.Heap.{Heap, HeapScript, is_gray_colour, set_register, change_script, with_script_slot, set_preserved, preserve, has_reflector}
 use Rattle.cc_model.specs.View.{view}
@@ -144,7 +144,8 @@ entries-gentle h es was = record {
 pub set_entry-gentle : (h : Heap) (m k v : Option Name) → IsNotGray h k → IsNotGray h v → AreGentle h (set_entry h m k v)
 set_entry-gentle h None k v pale_k pale_v = AreGentle-refl h
 set_entry-gentle h (Some m) None v pale_k pale_v = AreGentle-refl h
-set_entry-gentle h (Some m) (Some k) None pale_k pale_v = search (entries-gentle, Among-filtered)
+set_entry-gentle h (Some m) (Some k) None pale_k pale_v =
+    entries-gentle h (without_entry h.entries m k) (λ e i g. Among-filtered (λ (f : Entry). not (is_entry_of m k f)) e h.entries i)
 set_entry-gentle h (Some m) (Some k) (Some v) pale_k pale_v = go k pale_k
   where
     set_first : AreGentle h (with_entries h (with_entry h.entries m k v))

@@ -1,21 +1,22 @@
 -- WHAT NOTHING SUSPECTED COVERS IS WHITE: at the end of a collection, each native that is unreached and not covered.
-use Rattle.std.proofs.Common.{◌≡◌, ℕ, ◌<◌, true, not, [], ◌++◌, map, refl, sym, ap, subst, arith, ⊎_elim, count_by}
-use Rattle.std.proofs.lemmas.Bool.{cases_Bool}
+use Rattle.std.proofs.Common.{◌≡◌, ℕ, ◌<◌, ◌≤◌, true, not, List, [], ◌++◌, map, Some, None, refl, sym, ap, subst, arith, ⊎_elim, count_by}
+use Rattle.std.specs.List.{filter}
+use Rattle.std.proofs.lemmas.Bool.{cases_Bool, cases_lt, and_from, or_cases, or_left, false≢true, ltb-true}
 use Rattle.cc_lists.specs.Members.{Among, has}
-use Rattle.cc_lists.proofs.Members.{Among-map, Among-map_cases, Among-right, Among-filter, Among-filtered}
-use Rattle.cc_lists.proofs.Counting.{count_by-some, counted_is}
+use Rattle.cc_lists.proofs.Members.{Among-map, Among-map_cases, Among-right, Among-filter, Among-filtered, Among-passes, has-there, has-among}
+use Rattle.cc_lists.proofs.Counting.{count_by-some, counted_is, count_by-below}
 use Rattle.cc_lists.proofs.Least.{derive-root, derive-along, derived-within}
 use Rattle.cc_lists.proofs.Closure.{closure-decides}
 use Rattle.cc_names.specs.declared.name.Name.{Name}
 use Rattle.cc_names.specs.declared.name.Name.TheVariants as name
-use Rattle.cc_names.specs.Names.{native, same_name, is_script}
-use Rattle.cc_names.proofs.NameTests.{same_name-exact}
+use Rattle.cc_names.specs.Names.{native, object, reflector, same_name, is_script}
+use Rattle.cc_names.proofs.NameTests.{same_name-true, same_name-exact}
 use Rattle.cc_model.specs.Entries.{joints}
-use Rattle.cc_model.specs.Heap.{Heap}
-use Rattle.cc_model.specs.View.{View, view, view_rules, ReachedIn, reached_in, scripts_there, between}
-use Rattle.cc_model.specs.Snapshot.{Snapshot, white_natives}
+use Rattle.cc_model.specs.Heap.{Heap, HeapNative}
+use Rattle.cc_model.specs.View.{View, view, view_rules, ReachedIn, reached_in, scripts_there, to, between}
+use Rattle.cc_model.specs.Snapshot.{NodeState, untraversed, gone, traversed, Node, Snapshot, mapping_joint, is_above, is_seed, seeds, black_in_rules, BlackIn, black_in, is_white, node_names, white_names, IsWhite, white_natives}
 use Rattle.cc_model.specs.WellFormed.{native_names}
-use Rattle.cc_model.specs.Fresh.{IsNode, IsScriptThere, IsFresh, IsTraversed}
+use Rattle.cc_model.specs.Fresh.{node, IsNode, IsScriptThere, IsFresh, IsTraversed}
 use Rattle.cc_model.specs.Suspected.{is_unreached, unreached_scripts, IsCovered, IsFromCandidate, IsSuspected}
 use Rattle.cc_laws_heap.specs.Sound.{IsSound}
 use Rattle.cc_laws_snapshot.proofs.NamePairs.{native-no_script, between-true, between-refl}

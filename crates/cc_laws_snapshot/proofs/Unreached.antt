@@ -1,8 +1,8 @@
 -- WHITE IS UNREACHED: what the registers reach, and is a native and a node, is black in the snapshot.
-use Rattle.std.proofs.Common.{◌≡◌, ℕ, ◌<◌, ◌≤◌, true, List, map, Option, Some, refl, sym, ap, subst, inl, inr, ◌⊎◌, ⊎_elim, arith, count_by}
+use Rattle.std.proofs.Common.{◌≡◌, ℕ, ◌<◌, ◌≤◌, Bool, true, false, not, List, map, Option, Some, None, refl, sym, ◌∙◌, ap, subst, inl, inr, ◌⊎◌, ⊎_elim, arith, count_by}
 use Rattle.std.specs.List.{filter}
 use Rattle.std.specs.Option.{option_to_list}
-use Rattle.std.proofs.lemmas.Bool.{not-true, or_left, or_right, lt-ltb, cases_lt}
+use Rattle.std.proofs.lemmas.Bool.{not-true, and_parts, or_left, or_right, true≢false, false≢true, lt-ltb, cases_lt}
 use Rattle.cc_lists.specs.Members.{Among, has}
 use Rattle.cc_lists.proofs.Members.{Among-map, Among-map_cases, Among-append, Among-filter, Among-filtered, Among-passes, has-there, Among_or_not}
 use Rattle.cc_lists.proofs.Counting.{count_by-some, counted_is, count_by-below, count_by-less}
@@ -10,11 +10,11 @@ use Rattle.cc_lists.proofs.Least.{derive-root, derive-along, derive-jointly, der
 use Rattle.cc_lists.proofs.Closure.{closure-decides}
 use Rattle.cc_names.specs.declared.name.Name.{Name}
 use Rattle.cc_names.specs.declared.name.Name.TheVariants as name
-use Rattle.cc_names.specs.Names.{native, same_name, is_script}
+use Rattle.cc_names.specs.Names.{native, object, reflector, same_name, is_script}
 use Rattle.cc_names.proofs.NameTests.{same_name-refl, same_name-exact}
 use Rattle.cc_model.specs.Entries.{Entry, joint, joints}
-use Rattle.cc_model.specs.View.{View, ReachedIn, to, between}
-use Rattle.cc_model.specs.Snapshot.{NodeState, gone, traversed, Node, Snapshot, mapping_joint, noted_to, is_above, is_seed, seeds, BlackIn, IsWhite}
+use Rattle.cc_model.specs.View.{View, ReachedIn, to, between, is_there}
+use Rattle.cc_model.specs.Snapshot.{NodeState, gone, traversed, Node, Snapshot, mapping_joint, noted_to, is_above, is_seed, seeds, black_in_rules, BlackIn, black_in, is_white, node_names, IsWhite}
 use Rattle.cc_model.specs.Fresh.{node, IsNode, IsTraversedNode, IsOutside, IsLiving, MemberOf, MemberIsNode, IsFresh, IsTraversed}
 use Rattle.cc_laws_snapshot.proofs.NamePairs.{between-true, between-refl}
 use Rattle.cc_laws_snapshot.proofs.SoundView.{IsSoundView, black-or_gray}
@@ -27,7 +27,8 @@ module _ (made : ℕ) (v : View) (s : Snapshot) (sound : IsSoundView made v) (fr
 
   -- a node that is black by itself is black
   seed-black : (x : Name) (state : NodeState) → Among (node x state) s.nodes → is_seed v s (node x state) ≡ true → BlackIn v s x
-  seed-black x state i e = grind (arith, derive-root, Among-map, Among-filter)
+  seed-black x state i e = derive-root (seeds v s) s.references mapped x
+      (Among-map (λ (n : Node). n.name) (node x state) (filter (is_seed v s) s.nodes) (Among-filter (is_seed v s) (node x state) s.nodes i e))
 
   -- a noted reference takes black along
   noted-black : (x y : Name) → Among (x, y) s.references → BlackIn v s x → BlackIn v s y

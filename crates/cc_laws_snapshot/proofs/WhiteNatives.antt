@@ -1,22 +1,23 @@
 -- THE NATIVES THAT ARE WHITE: they are there, by rising number, and no register reaches them.
-use Rattle.std.proofs.Common.{arith, ◌≡◌, ℕ, List, [], sym, subst, inl, ◌⊎◌, ⊎_elim, refl}
-use Rattle.cc_lists.specs.Members.{Among}
+use Rattle.std.proofs.Common.{arith, ◌≡◌, ℕ, Bool, List, [], sym, subst, inl, ◌⊎◌, ⊎_elim, refl, ◌∙◌}
+use Rattle.std.specs.List.{filter}
+use Rattle.cc_lists.specs.Members.{Among, has}
 use Rattle.cc_lists.proofs.Members.{Among-map, Among-map_cases, Among-filtered, Among-passes, Among-flat_map, has-among}
 use Rattle.cc_names.specs.declared.name.Name.{Name}
-use Rattle.cc_names.specs.Names.{native, natives_in}
+use Rattle.cc_names.specs.Names.{native, same_name, natives_in}
 use Rattle.cc_names.proofs.NameTests.{same_name-exact}
 use Rattle.cc_model.specs.declared.item.Event.TheVariants.{Freed, Unlinked}
 use Rattle.cc_model.specs.Graph.{Graph}
 use Rattle.cc_model.specs.WellMade.{IsWellMade}
 use Rattle.cc_model.specs.Reached.{Reached}
-use Rattle.cc_model.specs.Heap.{Heap}
+use Rattle.cc_model.specs.Heap.{Heap, HeapNative}
 use Rattle.cc_model.specs.View.{view, ReachedIn}
-use Rattle.cc_model.specs.WellFormed.{names_there}
+use Rattle.cc_model.specs.WellFormed.{native_names, names_there}
 use Rattle.cc_model.specs.Colours.{HasColourInvariant}
 use Rattle.cc_model.specs.End.{take_away}
 use Rattle.cc_model.specs.StandsFor.{StandsFor, shape_at}
 use Rattle.cc_model.specs.Lawful.{unlinked_in}
-use Rattle.cc_model.specs.Snapshot.{Snapshot, IsWhite, white_natives}
+use Rattle.cc_model.specs.Snapshot.{Snapshot, IsWhite, white_names, white_natives}
 use Rattle.cc_model.specs.Fresh.{IsFresh, IsTraversed}
 use Rattle.cc_laws_heap.specs.Sound.{IsSound}
 use Rattle.cc_laws_heap.specs.Ending.{AreThere, TakesAway}
@@ -69,7 +70,12 @@ module _ (h : Heap) (s : Snapshot) (sound : IsSound [] h) (fresh : IsFresh h.nat
     -- in which what is reached is there with its slots and its flag,
     pub taking_white-kept : (x : Name) → Reached g x →
         Among x (names_there (take_away (white_natives h s) h).heap) × (shape_at (take_away (white_natives h s) h).heap x ≡ shape_at h x)
-    taking_white-kept x r = grind (arith, reached-there, taking_white-stands, stands.reached)
+    taking_white-kept x r =
+        let before = stands.reached x r in
+        let left = taking_white-stands.reached x r in (
+          reached-there (take_away (white_natives h s) h).heap g x taking_white-stands r,
+          left.there ∙ (sym left.made ∙ (before.made ∙ sym before.there)),
+        )
 
     -- and tells only what is not reached.
     pub taking_white-unreached : (x : Name) → Among (Freed x) (take_away (white_natives h s) h).events ⊎ Among (Unlinked x) (take_away (white_natives h s) h).events →
