@@ -3,7 +3,6 @@ use Rattle.std.proofs.Common.{◌≡◌, ℕ, ◌+◌, count_by, Bool, true, fal
 use Rattle.std.specs.Prelude.{◌==◌, IsTrue, IfSome}
 use Rattle.std.specs.Option.{option_flatten}
 use Rattle.std.proofs.lemmas.Bool.{true≢false, eqb-true, eq-eqb, ne_eqb}
-use Rattle.std.proofs.Props.{props}
 use Rattle.std.proofs.lemmas.Bool.Decides.{eqb_tells}
 use Rattle.cc_lists.specs.Members.{Among, has, without}
 use Rattle.cc_lists.proofs.Counting.{count_by-cons}
@@ -13,7 +12,7 @@ use Rattle.cc_chain.specs.declared.link.Link.{Link}
 use Rattle.cc_chain.specs.Links.{AreBelow, Links, is_live, is_linked, link_at, is_key, with_link, with_changed, with_before, with_after, IsFree, SameLinks}
 use Rattle.cc_chain.specs.declared.chain.Chain.{Chain}
 use Rattle.cc_lists.specs.Walks.{first_of}
-use Rattle.cc_chain.specs.Chains.{AllDiffer, IsChain, IsSomeChain, last_or, behind, link_from, with_next, with_previous, walked}
+use Rattle.cc_chain.specs.Chains.{AllDiffer, IsChain, last_or, behind, link_from, with_next, with_previous, walked}
 use Rattle.cc_chain.proofs.Links.{changed_at, link_at-with_link, link_at-with_changed}
 use Rattle.cc_chain.proofs.Rows.{AllDiffer-push, AllDiffer-filter, without-first, without-leaves, last-among, link_from-absent, link_from-among, link_from-has, before-among, after-among, after-behind, link_from-push, last-push, first-push, closed_over, closed_over-none, link_from-without, first-without, last-without}
 

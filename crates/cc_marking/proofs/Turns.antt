@@ -5,7 +5,7 @@ use Rattle.cc_lists.specs.Members.{Among}
 use Rattle.cc_names.specs.declared.kind.Colour.{Colour}
 use Rattle.cc_script.specs.Objects.{AreWhole, is_there, slots_at}
 use Rattle.cc_script.specs.Marking.{Marking, raise_key, raise_each, to_do}
-use Rattle.cc_script.specs.Underway.{Underway, marks_of, started, with_first_looked_into}
+use Rattle.cc_script.specs.Underway.{Underway, marks_of, started}
 use Rattle.cc_script.proofs.Raising.{raise_key-spends, raise_each-spends}
 use Rattle.cc_weakmaps.specs.Entries.{KeyedEntry}
 use Rattle.cc_weakmaps.specs.Index.{has_object, IsPlaceOf, place_below}
