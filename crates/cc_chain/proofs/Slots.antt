@@ -1,6 +1,6 @@
 -- For those who keep chains in a slab: slots seen by one part of their values, and what a chain says of a key.
-use Rattle.std.proofs.Common.{◌≡◌, ◌≢◌, ℕ, Bool, true, false, List, [], ◌∷◌, map, length, set, Option, Some, None, option_map, is_some, refl, sym, ◌∙◌, ap, if◌then◌else◌}
-use Rattle.std.specs.Prelude.{◌==◌, IsTrue, slice_index_or}
+use Rattle.std.proofs.Common.{◌≡◌, ◌≢◌, ℕ, List, [], ◌∷◌, map, length, set, Option, Some, None, option_map, is_some, refl, sym, ◌∙◌, ap, arith}
+use Rattle.std.specs.Prelude.{IsTrue, slice_index_or}
 use Rattle.std.specs.Option.{option_flatten}
 use Rattle.std.proofs.Math.ListN.{get_or-map}
 use Rattle.std.proofs.Math.Seq.{map-set_same}
@@ -33,8 +33,7 @@ parts-kept part slots key x y e same = map-set_same (option_map part) slots key 
 
 -- a value stands there where its part does
 pub some-map : {X Y : Type 0} (part : X → Y) (o : Option X) → is_some (option_map part o) ≡ is_some o
-some-map part None = refl
-some-map part (Some x) = refl
+some-map part o = grind arith
 
 pub parts-held : {X Y : Type 0} (part : X → Y) (slots : List (Option X)) (key : ℕ) →
     is_some (slice_index_or (map (option_map part) slots) key None) ≡ is_some (slice_index_or slots key None)
@@ -85,22 +84,12 @@ module _ {R : Type 0} (links : Links) (chain : Chain R) (keys : List ℕ) (c : I
 
   -- and another one that is live is free
   pub absent-free : ¬ (Among key keys) → IsTrue (is_live links key) → IsFree links key
-  absent-free absent live = go (links key) live (c.linked key ∙ link_from-absent None keys key absent)
-    where
-      go : (o : Option (Option Link)) → is_some o ≡ true → option_flatten o ≡ None → o ≡ Some None
-      go None l e = absurd (cc)
-      go (Some o) l e = ap Some e
+  absent-free absent live = grind (arith, link_from-absent, c.linked)
 
 -- A LIST OF KEYS is walked by key as it is by what stands behind
 pub first_key-of : (keys : List ℕ) → first_key (λ k. k) keys ≡ first_of keys
-first_key-of [] = refl
-first_key-of (k ∷ ks) = refl
+first_key-of keys = search
 
 pub next_key-behind : (keys : List ℕ) (key : ℕ) → next_key (λ k. k) keys key ≡ first_of (behind key keys)
 next_key-behind [] key = refl
-next_key-behind (k ∷ ks) key = go (next_key-behind ks key) (k == key)
-  where
-    go : next_key (λ k. k) ks key ≡ first_of (behind key ks) → (b : Bool) →
-        elim b [ true ↦ first_key (λ k. k) ks | false ↦ next_key (λ k. k) ks key ] ≡ first_of (if b then ks else behind key ks)
-    go ih true = first_key-of ks
-    go ih false = ih
+next_key-behind (k ∷ ks) key = grind (arith, first_key-of, next_key-behind ks key)

@@ -1,5 +1,5 @@
 -- ONE NATIVE CHANGED AT ITS KEY: what the lists show then is one native changed by its number.
-use Rattle.std.proofs.Common.{◌≡◌, ◌≢◌, ℕ, ◌<◌, ◌≤◌, true, false, List, map, length, Option, Some, None, option_map, refl, sym, ◌∙◌, ap, subst, ⊎_elim, ◌⊎◌, inl, inr, ◌==◌}
+use Rattle.std.proofs.Common.{◌≡◌, ◌≢◌, ℕ, ◌<◌, ◌≤◌, true, false, List, map, length, Option, Some, None, option_map, refl, sym, ◌∙◌, ap, ⊎_elim, ◌⊎◌, ◌==◌, arith}
 use Rattle.std.proofs.Math.ListN.{set}
 use Rattle.std.proofs.Math.Seq.{map-set_same}
 use Rattle.std.proofs.lemmas.Bool.{eq-eqb, ne_eqb, cases_lt}
@@ -12,8 +12,7 @@ use Rattle.cc_lists.proofs.ListWrites.{map-agree}
 use Rattle.cc_laws_heap.proofs.Face.{changed_at}
 use Rattle.cc_purple.specs.Marks.{Marked}
 use Rattle.cc_counted.specs.declared.held.Held.{Held}
-use Rattle.cc_counted.specs.Counts.{no_counts, the_number, is_live}
-use Rattle.cc_model.specs.WellFormed.{IsRising}
+use Rattle.cc_counted.specs.Counts.{is_live}
 use Rattle.cc_counted.specs.Lists.{Placed, Lists, cell_at, reflector_placed, without_count, keyed, shown, shown_at, IsPlaced}
 use Rattle.cc_counted.proofs.Places.{cell_number, one_key}
 
@@ -28,10 +27,7 @@ module _ (l : Lists) (p : IsPlaced l) (key : ℕ) (c d : Placed) (at : cell_at l
 
   -- the number at each key is the same
   pub keyed-changed : keyed changed_cells ≡ keyed l.cells
-  keyed-changed = ap (λ ks. record no_counts { keys = ks }) (map-set_same cell_number l.cells key (Some d) None number)
-    where
-      number : cell_number (Some d) ≡ cell_number (cell_at l.cells key)
-      number = ap Some same ∙ sym (ap cell_number at)
+  keyed-changed = grind (arith, map-set_same, cell_number)
 
   -- the reflector at each key is the same where the native keeps its own
   pub reflectors-changed : d.reflector ≡ c.reflector → map reflector_placed changed_cells ≡ map reflector_placed l.cells
@@ -47,9 +43,7 @@ module _ (l : Lists) (p : IsPlaced l) (key : ℕ) (c d : Placed) (at : cell_at l
 
   -- but for counts the cells are the same where the native is
   pub cells-changed : without_count d ≡ without_count c → (k : ℕ) → option_map without_count (cell_at changed_cells k) ≡ option_map without_count (cell_at l.cells k)
-  cells-changed e k = ⊎_elim
-      (λ t. ap (option_map without_count) (ap (cell_at changed_cells) t.1 ∙ changed-same) ∙ (ap Some e ∙ ap (option_map without_count) (sym (ap (cell_at l.cells) t.1 ∙ at))))
-      (λ t. ap (option_map without_count) (changed-other k t.1)) (eqb_tells k key)
+  cells-changed e k = grind (arith, changed-same, changed-other, eqb_tells)
 
   -- a key that had a native has one
   pub changed-there : (k : ℕ) → (b : Placed) × (cell_at l.cells k ≡ Some b) → (b : Placed) × (cell_at changed_cells k ≡ Some b)
@@ -59,25 +53,13 @@ module _ (l : Lists) (p : IsPlaced l) (key : ℕ) (c d : Placed) (at : cell_at l
 
   -- which is the changed one, or was there
   changed-cases : (k : ℕ) (b : Placed) → cell_at changed_cells k ≡ Some b → ((k ≡ key) × (b ≡ d)) ⊎ (cell_at l.cells k ≡ Some b)
-  changed-cases k b e = ⊎_elim
-      (λ t. let both : Some d ≡ Some b = sym (ap (cell_at changed_cells) t.1 ∙ changed-same) ∙ e in inl (t.1, cc))
-      (λ t. inr (sym (changed-other k t.1) ∙ e)) (eqb_tells k key)
+  changed-cases k b e = grind (arith, changed-same, changed-other, eqb_tells)
 
   -- the lists fit together where the new slots hold what is there, and so do the queue and the buffer
   pub IsPlaced-changed : length d.slots ≤ 64 → ((x : Option Held) → Among x d.slots → is_live (keyed l.cells) x ≡ true) → (queue : List ℕ) (marks : List Marked) →
       ((k : ℕ) → Among k queue → (b : Placed) × (cell_at l.cells k ≡ Some b)) → ((m : Marked) → Among m marks → (b : Placed) × (cell_at l.cells m.key ≡ Some b)) →
       IsPlaced (record { cells = changed_cells; order = l.order; queue = queue; marks = marks })
-  IsPlaced-changed few live queue marks q ms = record {
-    in_order = λ k m. changed-there k (p.in_order k m);
-    ordered = λ k b e. ⊎_elim (λ t. p.ordered k c (ap (cell_at l.cells) t.0 ∙ at)) (λ t. p.ordered k b t) (changed-cases k b e);
-    rising = subst (λ n. IsRising (map (the_number n) l.order)) (sym keyed-changed) p.rising;
-    small = λ k b e. ⊎_elim (λ t. subst (λ a. length a.slots ≤ 64) (sym t.1) few) (λ t. p.small k b t) (changed-cases k b e);
-    held = λ k b x e m. subst (λ n. is_live n x ≡ true) (sym keyed-changed) (⊎_elim
-        (λ t. live x (subst (λ a. Among x a.slots) t.1 m))
-        (λ t. p.held k b x t m) (changed-cases k b e));
-    queued = λ k m. changed-there k (q k m);
-    marked = λ m n. changed-there m.key (ms m n);
-  }
+  IsPlaced-changed few live queue marks q ms = grind (arith, changed-there, changed-cases, keyed-changed, p.in_order)
 
   -- what is shown of the native
   pub natives-changed : (f : HeapNative → HeapNative) → f (shown (keyed l.cells) (Some c)) ≡ shown (keyed l.cells) (Some d) →
@@ -102,8 +84,4 @@ module _ (l : Lists) (p : IsPlaced l) (key : ℕ) (c d : Placed) (at : cell_at l
 
   -- nothing is shown of what changed where the native is shown as before
   pub natives-kept : shown (keyed l.cells) (Some d) ≡ shown (keyed l.cells) (Some c) → map (shown_at changed_cells) l.order ≡ map (shown_at l.cells) l.order
-  natives-kept e = map-agree (shown_at changed_cells) (shown_at l.cells) l.order
-      (λ k m. ap (λ n. shown n (cell_at changed_cells k)) keyed-changed ∙ ⊎_elim
-      (λ t. ap (shown (keyed l.cells)) (ap (cell_at changed_cells) t.1 ∙ changed-same) ∙ (e ∙ ap (shown (keyed l.cells)) (sym (ap (cell_at l.cells) t.1 ∙ at))))
-      (λ t. ap (shown (keyed l.cells)) (changed-other k t.1))
-      (eqb_tells k key))
+  natives-kept e = grind (arith, map-agree, keyed-changed, changed-same, changed-other, eqb_tells)

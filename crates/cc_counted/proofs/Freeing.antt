@@ -1,5 +1,5 @@
 -- THE FRONT OF THE QUEUE FREED: taken out at its key, and then what its slots held given up.
-use Rattle.std.proofs.Common.{◌≡◌, ℕ, true, List, [], ◌∷◌, ◌++◌, map, Option, Some, None, option_map, refl, sym, ◌∙◌, ap, subst, ⊎_elim, inl, inr, arith}
+use Rattle.std.proofs.Common.{◌≡◌, ℕ, true, List, [], ◌∷◌, ◌++◌, map, Option, Some, None, option_map, sym, ◌∙◌, ap, subst, ⊎_elim, inl, inr, arith}
 use Rattle.std.proofs.lemmas.Bool.Decides.{eqb_tells}
 use Rattle.std.proofs.lemmas.List.{length-set}
 use Rattle.cc_lists.specs.Members.{Among}
@@ -26,8 +26,7 @@ IsBalanced-events owned d es b = record { distinct = b.distinct; counts = b.coun
 
 -- where there is no native without its count, there is none
 stays-gone : (o : Option Placed) → option_map without_count o ≡ None → o ≡ None
-stays-gone None e = refl
-stays-gone (Some c) e = absurd (cc)
+stays-gone o e = grind arith
 
 module _ (l : Lists) (p : IsPlaced l) (owned : List ℕ) (b : IsBalanced owned (draining_of l [])) (key : ℕ) (ks : List ℕ) (c : Placed)
     (at : cell_at l.cells key ≡ Some c) (front : l.queue ≡ key ∷ ks) where

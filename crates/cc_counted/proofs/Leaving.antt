@@ -1,5 +1,5 @@
 -- KEYS THAT COME TO HOLD NOTHING as natives leave: those of the natives that are no more.
-use Rattle.std.proofs.Common.{◌≡◌, ℕ, zero, suc, List, [], ◌∷◌, map, length, get_or, Option, Some, None, option_map, refl, sym, ◌∙◌, ap, subst, ⊎_elim, inl, inr}
+use Rattle.std.proofs.Common.{◌≡◌, ℕ, zero, suc, List, [], ◌∷◌, map, length, get_or, Option, Some, None, option_map, refl, sym, ◌∙◌, ap, subst, ⊎_elim, inl, inr, arith}
 use Rattle.std.proofs.Math.ListN.{get_or-map}
 use Rattle.std.proofs.lemmas.List.{ext_get_or, length-map}
 use Rattle.cc_model.specs.Heap.{Heap, HeapNative, native_at}
@@ -34,14 +34,7 @@ pub LeavesCells-same : (cells : List (Option Placed)) → LeavesCells cells cell
 LeavesCells-same cells = record { as_many = refl; each = λ key. inr refl }
 
 pub LeavesCells-then : (a b c : List (Option Placed)) → LeavesCells a b → LeavesCells b c → LeavesCells a c
-LeavesCells-then a b c p q = record {
-  as_many = q.as_many ∙ p.as_many;
-  each = λ key. ⊎_elim (λ none. inl none) (λ same. ⊎_elim (λ none. inl (gone (cell_at c key) (same ∙ ap (option_map without_count) none))) (λ e. inr (same ∙ e)) (p.each key)) (q.each key);
-}
-  where
-    gone : (o : Option Placed) → option_map without_count o ≡ None → o ≡ None
-    gone None e = refl
-    gone (Some d) e = absurd (cc)
+LeavesCells-then a b c p q = grind (arith, p.each, q.each)
 
 -- natives that stay keep their numbers
 pub LeavesKeys-cells : (a b : List (Option Placed)) → LeavesCells a b → LeavesKeys a b
@@ -109,18 +102,7 @@ module _ (old new : Lists) (p : IsPlaced old) (q : IsPlaced new) (left : LeavesK
           absurd (cc)
 
   key-left : (key : ℕ) → number_at (keyed new.cells) key ≡ key_left heap (number_at (keyed old.cells) key)
-  key-left key = ⊎_elim
-      (λ none. after_none none (number_at (keyed old.cells) key) refl)
-      (λ same. after_same same (number_at (keyed new.cells) key) refl) (left.each key)
-    where
-      after_none : number_at (keyed new.cells) key ≡ None → (o : Option ℕ) → number_at (keyed old.cells) key ≡ o → number_at (keyed new.cells) key ≡ key_left heap (number_at (keyed old.cells) key)
-      after_none none None e = none ∙ sym (ap (key_left heap) e)
-      after_none none (Some k) e = none ∙ sym (ap (key_left heap) e ∙ gone key k none e)
-
-      after_same : number_at (keyed new.cells) key ≡ number_at (keyed old.cells) key → (o : Option ℕ) → number_at (keyed new.cells) key ≡ o →
-          number_at (keyed new.cells) key ≡ key_left heap (number_at (keyed old.cells) key)
-      after_same same None e = e ∙ sym (ap (key_left heap) (sym same ∙ e))
-      after_same same (Some k) e = e ∙ sym (ap (key_left heap) (sym same ∙ e) ∙ there key k e)
+  key-left key = grind (arith, gone, there, left.each)
 
   keys-left : map cell_number new.cells ≡ map (key_left heap) (map cell_number old.cells)
   keys-left =

@@ -1,5 +1,5 @@
 -- A NATIVE MADE at a key that held nothing.
-use Rattle.std.proofs.Common.{◌≡◌, ◌≢◌, ◌<◌, ◌≤◌, ℕ, zero, suc, List, [], ◌∷◌, ◌++◌, map, length, replicate, Option, Some, None, true, false, refl, sym, ◌∙◌, ap, subst, ⊎_elim, ◌⊎◌, inl, inr, arith}
+use Rattle.std.proofs.Common.{◌≡◌, ◌≢◌, ◌<◌, ◌≤◌, ℕ, zero, suc, List, [], ◌∷◌, ◌++◌, map, length, replicate, Option, Some, None, true, false, refl, sym, ◌∙◌, ap, subst, ⊎_elim, ◌⊎◌, inl, arith}
 use Rattle.std.proofs.lemmas.Bool.Decides.{eqb_tells}
 use Rattle.std.proofs.lemmas.List.{map-append, length-map, length-replicate}
 use Rattle.cc_lists.specs.Members.{Among}
@@ -71,9 +71,7 @@ module _ (l : Lists) (p : IsPlaced l) (key : ℕ) (d : Placed) (cells : List (Op
       go (suc n) w = ⊎_elim (λ e. sym e) (λ t. go n t) w
 
   cell-cases : (k : ℕ) (c : Placed) → cell_at cells k ≡ Some c → ((k ≡ key) × (c ≡ d)) ⊎ (cell_at l.cells k ≡ Some c)
-  cell-cases k c e = ⊎_elim
-      (λ t. let both : Some d ≡ Some c = sym (ap (cell_at cells) t.1 ∙ at) ∙ e in inl (t.1, cc))
-      (λ t. inr (sym (others k t.1) ∙ e)) (eqb_tells k key)
+  cell-cases k c e = grind (arith, eqb_tells)
 
   -- the lists with the native, which is not in the buffer yet
   abbrev unmarked : Lists

@@ -20,8 +20,7 @@ use Rattle.cc_holders.specs.Known.{entry_at, key_at}
 use Rattle.cc_holders.proofs.Counting.{counted, past}
 use Rattle.cc_holders.proofs.Known.{entries-kept}
 use Rattle.cc_counted.specs.declared.held.Held.{Held}
-use Rattle.cc_counted.specs.declared.held.Held.TheVariants as held
-use Rattle.cc_counted.specs.Counts.{Counts, name_of, number_at, preserved_reflector}
+use Rattle.cc_counted.specs.Counts.{Counts, name_of, preserved_reflector}
 use Rattle.cc_counted.specs.Lists.{Placed, Lists, cell_at, count_placed, keyed, shown_at, counts_of, with_slot, IsPlaced}
 use Rattle.cc_counted.specs.Stored.{Stored, with_cell}
 use Rattle.cc_counted.specs.Scripts.{AreKnown, HasNoHolder, HasNonePlaced, IsNextHolder, IsNextPlaced, is_script, is_to_script, recounted, refers_by_reflector, refers_to_script, scripts_of}
@@ -54,14 +53,6 @@ module _ (cells : List (Option Placed)) (h : Holders) (k : AreKnown cells h) whe
   -- there is room for one more
   pub known-room : (key : ℕ) (c : Placed) → cell_at cells key ≡ Some c → count_of (entry_at h c.number) < 255
   known-room key c at = let few = scripts-few c (k.few key c at) in rw (k.known key c at) (omega (arith, few))
-
-  -- a table that says the same
-  pub known-same : (j : Holders) → ((n : ℕ) → entry_at j n ≡ entry_at h n) → AreKnown cells j
-  known-same j same = record {
-    known = λ key c at. same c.number ∙ k.known key c at;
-    there = λ n count key e. k.there n count key (sym (same n) ∙ e);
-    few = k.few;
-  }
 
   -- A native is another, of the same number.
   pub known-changed : (key : ℕ) (c d : Placed) → cell_at cells key ≡ Some c → d.number ≡ c.number → length d.slots ≤ 64 → (j : Holders) →
@@ -98,8 +89,7 @@ module _ (cells : List (Option Placed)) (h : Holders) (k : AreKnown cells h) whe
 
   -- and refers to as many
   pub known-counted : (key : ℕ) (c d : Placed) → cell_at cells key ≡ Some c → d.number ≡ c.number → length d.slots ≤ 64 → scripts_of d ≡ scripts_of c → AreKnown (set cells key (Some d)) h
-  known-counted key c d at same few alike =
-      known-changed key c d at same few h (entries-kept h c.number (Known (scripts_of d) key) (k.known key c at ∙ ap (λ n. Known n key) (sym alike)))
+  known-counted key c d at same few alike = grind (arith, known-changed, entries-kept, k.known)
 
   recounted-known : (key n m : ℕ) (before after : Bool) → m + one_if before ≡ n + one_if after → recounted before after (Known n key) ≡ Known m key
   recounted-known key n m false false e = ap (λ i. Known i key) (omega (arith, e))
@@ -119,48 +109,7 @@ module _ (cells : List (Option Placed)) (h : Holders) (k : AreKnown cells h) whe
   -- A native is taken out.
   pub known-removed : (key : ℕ) (c : Placed) → cell_at cells key ≡ Some c → (j : Holders) →
       ((n : ℕ) → entry_at j n ≡ (if c.number == n then Unknown else entry_at h n)) → AreKnown (set cells key None) j
-  known-removed key c at j entries = record {
-    known = λ q e f. ⊎_elim
-        (λ t. let is : None ≡ Some e = sym (gone q t.1) ∙ f in absurd (cc))
-        (λ o. let old : cell_at cells q ≡ Some e = sym (get_or-set_other cells key q None None o.1) ∙ f in
-        entries e.number ∙ ⊎_elim
-        (λ t. absurd (o.1 (known-one q key e c old at (sym t.1))))
-        (λ s. rw s.0 (k.known q e old))
-        (eqb_tells c.number e.number))
-        (eqb_tells q key);
-    there = λ n count p e. ⊎_elim
-        (λ t. let is : Unknown ≡ Known count p = sym (entries n ∙ rw t.0 refl) ∙ e in absurd (cc))
-        (λ o. let old : entry_at h n ≡ Known count p = sym (entries n ∙ rw o.0 refl) ∙ e in
-        let f = k.there n count p old in (
-          f.0,
-          get_or-set_other cells key p None None (λ s. let is : Some f.0 ≡ Some c = sym f.1 ∙ (ap (cell_at cells) s ∙ at) in let one : f.0 ≡ c = cc in o.1 (sym (ap (λ (x : Placed). x.number) one) ∙ f.2)) ∙ f.1,
-          f.2,
-        ))
-        (eqb_tells c.number n);
-    few = λ q e f. ⊎_elim
-        (λ t. let is : None ≡ Some e = sym (gone q t.1) ∙ f in absurd (cc))
-        (λ o. k.few q e (sym (get_or-set_other cells key q None None o.1) ∙ f))
-        (eqb_tells q key);
-  }
-    where
-      gone : (q : ℕ) → q ≡ key → cell_at (set cells key None) q ≡ None
-      gone q t = ap (cell_at (set cells key None)) t ∙ get_or-set_same cells key None None (cell-inside cells key c at)
-
-  -- A number that no native has is unknown,
-  unknown-fresh : (m : ℕ) → ((key : ℕ) (c : Placed) → cell_at cells key ≡ Some c → c.number ≢ m) → entry_at h m ≡ Unknown
-  unknown-fresh m fresh = go (entry_at h m) refl
-    where
-      go : (e : Entry) → entry_at h m ≡ e → e ≡ Unknown
-      go Unknown f = refl
-      go (Known count key) f = let g = k.there m count key f in absurd (fresh key g.0 g.1 g.2)
-
-  -- so it may be known for a while, and be forgotten.
-  pub known-refused : (m : ℕ) → ((key : ℕ) (c : Placed) → cell_at cells key ≡ Some c → c.number ≢ m) → (i j : Holders) (x : Entry) →
-      ((n : ℕ) → entry_at i n ≡ (if m == n then x else entry_at h n)) → ((n : ℕ) → entry_at j n ≡ (if m == n then Unknown else entry_at i n)) → AreKnown cells j
-  known-refused m fresh i j x added removed = known-same j (λ n. removed n ∙ ⊎_elim
-      (λ t. rw t.0 (sym (ap (entry_at h) (sym t.1) ∙ unknown-fresh m fresh)))
-      (λ o. rw o.0 (added n ∙ rw o.0 refl))
-      (eqb_tells m n))
+  known-removed key c at j entries = grind (arith, get_or-set_other, known-one, eqb_tells, set, get_or-set_same, cell-inside, k.known, k.there)
 
   -- A native came to stand at a key.
   pub known-inserted : (new : List (Option Placed)) (key : ℕ) (d : Placed) → cell_at cells key ≡ None → cell_at new key ≡ Some d →
@@ -168,34 +117,7 @@ module _ (cells : List (Option Placed)) (h : Holders) (k : AreKnown cells h) whe
       scripts_of d ≡ 0 → length d.slots ≤ 64 → (i j : Holders) (x : ℕ) →
       ((n : ℕ) → entry_at i n ≡ (if d.number == n then Known 0 x else entry_at h n)) →
       ((n : ℕ) → entry_at j n ≡ (if d.number == n then with_key key (entry_at i d.number) else entry_at i n)) → AreKnown new j
-  known-inserted new key d vacant placed others fresh none few i j x added named = record {
-    known = λ q e f. ⊎_elim
-        (λ t. let is : Some d ≡ Some e = sym (ap (cell_at new) t.1 ∙ placed) ∙ f in let there : d ≡ e = cc in
-        subst (λ (y : Placed). entry_at j y.number ≡ Known (scripts_of y) q) there
-        (entries d.number ∙ (chosen d.number _ _ ∙ (ap (λ n. Known n key) (sym none) ∙ ap (λ m. Known (scripts_of d) m) (sym t.1)))))
-        (λ o. let old : cell_at cells q ≡ Some e = sym (others q o.1) ∙ f in
-        entries e.number ∙ ⊎_elim
-        (λ t. absurd (fresh q e old (sym t.1)))
-        (λ s. rw s.0 (k.known q e old))
-        (eqb_tells d.number e.number))
-        (eqb_tells q key);
-    there = λ n count p e. ⊎_elim
-        (λ t. let is : Known 0 key ≡ Known count p = sym (entries n ∙ rw t.0 refl) ∙ e in let at_key : key ≡ p = cc in (d, ap (cell_at new) (sym at_key) ∙ placed, t.1))
-        (λ o. let old : entry_at h n ≡ Known count p = sym (entries n ∙ rw o.0 refl) ∙ e in
-        let f = k.there n count p old in
-        (f.0, others p (λ s. let is : None ≡ Some f.0 = sym (ap (cell_at cells) s ∙ vacant) ∙ f.1 in absurd (cc)) ∙ f.1, f.2))
-        (eqb_tells d.number n);
-    few = λ q e f. ⊎_elim
-        (λ t. let is : Some d ≡ Some e = sym (ap (cell_at new) t.1 ∙ placed) ∙ f in let there : d ≡ e = cc in subst (λ (y : Placed). length y.slots ≤ 64) there few)
-        (λ o. k.few q e (sym (others q o.1) ∙ f))
-        (eqb_tells q key);
-  }
-    where
-      entries : (n : ℕ) → entry_at j n ≡ (if d.number == n then Known 0 key else entry_at h n)
-      entries n = named n ∙ ⊎_elim
-          (λ t. rw t.0 (ap (with_key key) (added d.number ∙ chosen d.number _ _)))
-          (λ o. rw o.0 (added n ∙ rw o.0 refl))
-          (eqb_tells d.number n)
+  known-inserted new key d vacant placed others fresh none few i j x added named = grind (arith, chosen, eqb_tells, k.known, k.there)
 
   -- THE NEXT that refers to a script object is the first that is marked.
   key-known : (q : ℕ) (c : Placed) → cell_at cells q ≡ Some c → key_at h c.number ≡ (if nat_lt 0 (scripts_of c) then Some q else None)
@@ -263,36 +185,28 @@ module _ (s t : Stored) (h : Holders) (k : AreKnown s.lists.cells h) (key : ℕ)
   live-then = ap (λ (o : Option Placed). is_some o) there-then
 
   pub room-then : (d : Placed) → cell_at t.lists.cells key ≡ Some d → count_of (entry_at h d.number) < 255
-  room-then d g = let is : Some (f c) ≡ Some d = sym there-then ∙ g in let one : f c ≡ d = cc in
-      subst (λ m. count_of (entry_at h m) < 255) (sym same ∙ ap (λ (x : Placed). x.number) one) (known-room s.lists.cells h k key c at)
+  room-then d g = grind (arith, there-then, known-room)
 
   pub counted-then : length (f c).slots ≤ 64 → scripts_of (f c) ≡ scripts_of c → AreKnown t.lists.cells h
   counted-then few alike = subst (λ cs. AreKnown cs h) (sym cells-then) (known-counted s.lists.cells h k key c (f c) at same few alike)
 
   pub recounted-then : length (f c).slots ≤ 64 → (before after : Bool) → scripts_of (f c) + one_if before ≡ scripts_of c + one_if after → (j : Holders) →
       ((d : Placed) → cell_at t.lists.cells key ≡ Some d → (n : ℕ) → entry_at j n ≡ (if d.number == n then recounted before after (entry_at h d.number) else entry_at h n)) → AreKnown t.lists.cells j
-  recounted-then few before after counts j entries =
-      subst (λ cs. AreKnown cs j) (sym cells-then) (known-recounted s.lists.cells h k key c (f c) at same few before after counts j (entries (f c) there-then))
+  recounted-then few before after counts j entries = search (cells-then, known-recounted, there-then)
 
   -- what is said of the native there is said of this one
   pub said-then : (P : Placed → Type 0) → ((d : Placed) → cell_at t.lists.cells key ≡ Some d → P d) → P (f c)
   said-then P says = says (f c) there-then
 
 pub placed-there : (o : Option Placed) → is_some o ≡ true → (c : Placed) × (o ≡ Some c)
-placed-there None live = absurd (cc)
-placed-there (Some c) live = (c, refl)
+placed-there o live = grind arith
 
 pub placed-counted : (o : Option Placed) → 1 ≤ count_placed o → (c : Placed) × (o ≡ Some c)
-placed-counted None live = absurd (omega (arith, live))
-placed-counted (Some c) live = (c, refl)
+placed-counted o live = grind arith
 
 -- no natives are known by a table that knows nothing
 pub known-none : (h : Holders) → ((n : ℕ) → entry_at h n ≡ Unknown) → AreKnown [] h
-known-none h unknown = record {
-  known = λ key c at. absurd (cc);
-  there = λ n count key e. let is : Unknown ≡ Known count key = sym (unknown n) ∙ e in absurd (cc);
-  few = λ key c at. absurd (cc);
-}
+known-none h unknown = grind arith
 
 -- empty slots hold none
 pub scripts-empty : (slots : ℕ) → count_by is_script (replicate slots None) ≡ 0
@@ -312,20 +226,10 @@ scripts-reflected c d same = let e = ap (count_by is_script) same in omega (arit
 
 module _ (k : Counts) where
   name-script : (x : Option Held) → is_to_script (name_of k x) ≡ is_script x
-  name-script None = refl
-  name-script (Some (held.Native key)) = go (number_at k key.0)
-    where
-      go : (o : Option ℕ) → is_to_script (option_map Rattle.cc_names.specs.Names.native o) ≡ false
-      go None = refl
-      go (Some n) = refl
-  name-script (Some (held.Script key)) = refl
+  name-script x = grind arith
 
   any-script : (xs : List (Option Held)) (o : Option Name) → list_any is_to_script (map (name_of k) xs ++ o ∷ []) ≡ nat_lt 0 (count_by is_script xs + one_if (is_to_script o))
-  any-script [] o = go (is_to_script o)
-    where
-      go : (b : Bool) → (b || false) ≡ nat_lt 0 (0 + one_if b)
-      go true = refl
-      go false = refl
+  any-script [] o = grind arith
   any-script (x ∷ xs) o = rw (name-script x, sum_by-cons (λ y. if is_script y then 1 else 0) x xs) (go (is_script x) (any-script xs o))
     where
       go : (b : Bool) → list_any is_to_script (map (name_of k) xs ++ o ∷ []) ≡ nat_lt 0 (count_by is_script xs + one_if (is_to_script o)) →
@@ -363,12 +267,10 @@ module _ (l : Lists) (p : IsPlaced l) where
       refers-cell q f.0 f.1 ∙ ap (nat_lt 0) (none q f.0 f.1 (ap (is_above after) f.2 ∙ above))
 
   pub next-shown-key : (o : Option NKey) (after above : Option ℕ) → after ≡ above → IfSome o (λ k. IsNextPlaced l.cells after k.0) → IfSome o (λ k. IsNextHolder (counts_of l) above k.0)
-  next-shown-key None after above same h = tt
-  next-shown-key (Some k) after above same h = subst (λ a. IsNextHolder (counts_of l) a k.0) same (next-shown after k.0 h)
+  next-shown-key o after above same h = grind (arith, next-shown)
 
   pub none-shown-key : (o : Option NKey) (after above : Option ℕ) → after ≡ above → IfNone o (HasNonePlaced l.cells after) → IfNone o (HasNoHolder (counts_of l) above)
-  none-shown-key None after above same h = subst (λ a. HasNoHolder (counts_of l) a) same (none-shown after h)
-  none-shown-key (Some k) after above same h = tt
+  none-shown-key o after above same h = grind (arith, none-shown)
 
 -- a native that is made has a number above all
 pub fresh-above : (l : Lists) → IsPlaced l → (m : ℕ) → ((n : HeapNative) → Among n (counts_of l).natives → n.number < m) → (key : ℕ) (c : Placed) → cell_at l.cells key ≡ Some c → c.number ≢ m

@@ -8,8 +8,7 @@ use Rattle.cc_names.specs.Names.{native, number_of}
 use Rattle.cc_model.specs.Heap.{Heap, Buffered, with_mark, suspect, forget}
 use Rattle.cc_model.specs.View.{view, buffered}
 use Rattle.cc_lists.proofs.Numbers.{at-each}
-use Rattle.cc_laws_snapshot.proofs.Marked.{purple-name, purple-place, with_mark-place, with_mark-stays}
-use Rattle.cc_laws_heap.proofs.Making.{with_mark-cases}
+use Rattle.cc_laws_snapshot.proofs.Marked.{purple-name, purple-place, with_mark-place}
 use Rattle.cc_laws_snapshot.proofs.GivingBack.{name-was, purple-stays}
 
 -- native i is purple in the buffer

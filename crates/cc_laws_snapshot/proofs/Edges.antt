@@ -1,7 +1,7 @@
 -- An edge of the heaps is one of an object that is there.
 use Rattle.std.proofs.Common.{Bool, true, false, ◌≡◌, inl, inr, ◌⊎◌, ⊎_elim, sym, refl, subst, map, Bool, ap, List, ◌∷◌, true, []}
 use Rattle.std.specs.List.{flat_map}
-use Rattle.cc_lists.specs.Members.{Among, has}
+use Rattle.cc_lists.specs.Members.{Among}
 use Rattle.cc_lists.proofs.Members.{Among-append, Among-flat_map_cases, Among-right, Among-left, Among-map}
 use Rattle.cc_names.specs.declared.name.Name.{Name}
 use Rattle.cc_names.specs.Names.{native, reflector, behind}

@@ -1,8 +1,7 @@
 -- Names and pairs of names told apart.
 use Rattle.std.proofs.Common.{arith, ◌≡◌, ◌∙◌, true, sym, ap, inl, inr, ◌⊎◌, ⊎_elim}
-use Rattle.std.proofs.lemmas.Bool.{cases_Bool, and_parts, and_from, true≢false, false≢true}
+use Rattle.std.proofs.lemmas.Bool.{cases_Bool, and_parts, and_from, true≢false}
 use Rattle.cc_names.specs.declared.name.Name.{Name}
-use Rattle.cc_names.specs.declared.name.Name.TheVariants as name
 use Rattle.cc_names.specs.Names.{same_name, is_native, is_script}
 use Rattle.cc_names.proofs.NameTests.{same_name-true, same_name-refl, same_name-exact}
 use Rattle.cc_model.specs.View.{between}
@@ -25,9 +24,7 @@ pair-same r x y a b = ap (λ z. pair_of z r.1) a ∙ ap (λ z. pair_of x z) b
 
 -- the test of a reference from x to y tells this reference
 pub between-true : (x y : Name) (r : Name × Name) → between x y r ≡ true → r ≡ (x, y)
-between-true x y r e =
-    let k = and_parts (same_name r.1 y) (same_name r.0 x) e in
-    pair-same r x y (same_name-true r.0 x k.1) (same_name-true r.1 y k.0)
+between-true x y r e = grind (arith, and_parts, pair-same, same_name-true)
 
 -- and this reference passes it
 pub between-refl : (x y : Name) → between x y (x, y) ≡ true

@@ -10,13 +10,7 @@ use Rattle.cc_marking.specs.Looking.{sides_left}
 -- at first at most two for each entry
 pub sides-all : (looked : ℕ → Bool) (es : List KeyedEntry) → sides_left looked es ≤ 2 * length es
 sides-all looked [] = omega arith
-sides-all looked (e ∷ es) = go (looked e.the_map) (looked e.key) (sides-all looked es)
-  where
-    go : (a b : Bool) → sides_left looked es ≤ 2 * length es → cond a 0 1 + (cond b 0 1 + sides_left looked es) ≤ 2 * suc (length es)
-    go true true h = omega (arith, h)
-    go true false h = omega (arith, h)
-    go false true h = omega (arith, h)
-    go false false h = omega (arith, h)
+sides-all looked (e ∷ es) = grind (arith, sides-all looked es)
 
 -- one object more: at least as many sides less as it has entries
 pub sides-fewer : (before after : ℕ → Bool) (k : ℕ) (es : List KeyedEntry) → before k ≡ false → ((j : ℕ) → after j ≡ (before j || k == j)) →
@@ -84,14 +78,7 @@ count_below es k (suc n) = test_weight (option_map (has_object k) (slice_get es 
 -- the next place is one of them, and the others are below it
 pub count-next : (es : List KeyedEntry) (k n i : ℕ) → place_below es k n ≡ Some i → count_below es k n ≡ 1 + count_below es k i
 count-next es k zero i e = absurd (cc)
-count-next es k (suc n) i e = go (count-next es k n i) (option_map (has_object k) (slice_get es n)) e
-  where
-    go : (place_below es k n ≡ Some i → count_below es k n ≡ 1 + count_below es k i) → (o : Option Bool) →
-        ◌≡◌ {A = Option ℕ} (elim o [ None ↦ place_below es k n | Some b ↦ elim b [ true ↦ Some n | false ↦ place_below es k n ] ]) (Some i) →
-        test_weight o + count_below es k n ≡ 1 + count_below es k i
-    go ih None f = let rest = ih f in omega (arith, rest)
-    go ih (Some true) f = let same : n ≡ i = cc in ap (λ z. 1 + count_below es k z) same
-    go ih (Some false) f = let rest = ih f in omega (arith, rest)
+count-next es k (suc n) i e = grind (arith, count-next es k n i)
 
 count-cons : (e : KeyedEntry) (es : List KeyedEntry) (k n : ℕ) → count_below (e ∷ es) k (suc n) ≡ cond (has_object k e) 1 0 + count_below es k n
 count-cons e es k zero = refl
@@ -102,14 +89,7 @@ count-cons e es k (suc n) =
 -- none is one where there is no last place
 pub count-none : (es : List KeyedEntry) (k n : ℕ) → place_below es k n ≡ None → count_below es k n ≡ 0
 count-none es k zero e = refl
-count-none es k (suc n) e = go (count-none es k n) (option_map (has_object k) (slice_get es n)) e
-  where
-    go : (place_below es k n ≡ None → count_below es k n ≡ 0) → (o : Option Bool) →
-        ◌≡◌ {A = Option ℕ} (elim o [ None ↦ place_below es k n | Some b ↦ elim b [ true ↦ Some n | false ↦ place_below es k n ] ]) None →
-        test_weight o + count_below es k n ≡ 0
-    go ih None f = let rest = ih f in omega (arith, rest)
-    go ih (Some true) f = absurd (cc)
-    go ih (Some false) f = let rest = ih f in omega (arith, rest)
+count-none es k (suc n) e = grind (arith, count-none es k n)
 
 -- below the end they are all
 pub count-all : (es : List KeyedEntry) (k : ℕ) → count_below es k (length es) ≡ count_by (has_object k) es

@@ -1,5 +1,5 @@
 -- The last place of an object below another place.
-use Rattle.std.proofs.Common.{◌≡◌, ℕ, ◌<◌, ◌==◌, zero, suc, Bool, true, false, ◌||◌, cond, List, [], ◌∷◌, length, get_or, Option, Some, None, refl, sym, ◌∙◌, ap, subst, arith, inl, inr, ◌⊎◌, ⊎_elim, option_map}
+use Rattle.std.proofs.Common.{◌≡◌, ℕ, ◌<◌, zero, suc, Bool, true, false, cond, List, [], ◌∷◌, length, get_or, Option, Some, None, refl, sym, ◌∙◌, ap, subst, arith, inl, inr, ◌⊎◌, ⊎_elim, option_map}
 use Rattle.std.specs.Prelude.{slice_get, IfSome}
 use Rattle.std.proofs.lemmas.Bool.{true≢false, eq-eqb}
 use Rattle.std.proofs.lemmas.Bool.Decides.{eqb_tells}
@@ -17,11 +17,7 @@ place-test es k i d within = ap (option_map (has_object k)) (slice_get-get_or es
 -- one place further
 pub below-step : (es : List KeyedEntry) (k i : ℕ) (d : KeyedEntry) → i < length es →
     place_below es k (suc i) ≡ cond (has_object k (get_or es i d)) (Some i) (place_below es k i)
-below-step es k i d within = ap (λ o. elim o [ None ↦ place_below es k i | Some b ↦ elim b [ true ↦ Some i | false ↦ place_below es k i ] ]) (place-test es k i d within) ∙ go (has_object k (get_or es i d))
-  where
-    go : (b : Bool) → elim b [ true ↦ Some i | false ↦ place_below es k i ] ≡ cond b (Some i) (place_below es k i)
-    go true = refl
-    go false = refl
+below-step es k i d within = grind (arith, place-test)
 
 -- the place is a place of the object, below the other, and no place between is one
 pub record IsLastBelow (es : List KeyedEntry) (k n i : ℕ) : Type 0 where
@@ -101,11 +97,7 @@ below-none es k (suc n) e j d l within = go (λ f less. below-none es k n f j d 
 
 -- a place of an object is within the list
 pub place-within : (es : List KeyedEntry) (k i : ℕ) → IsPlaceOf es k i → i < length es
-place-within es k i h = go (slice_get es i) refl h
-  where
-    go : (o : Option KeyedEntry) → slice_get es i ≡ o → option_map (has_object k) o ≡ Some true → i < length es
-    go None q f = absurd (cc)
-    go (Some e) q f = slice_get_within es i e q
+place-within es k i h = grind (arith, slice_get_within)
 
 -- and its entry has it
 pub place-has : (es : List KeyedEntry) (k i : ℕ) (d : KeyedEntry) → IsPlaceOf es k i → has_object k (get_or es i d) ≡ true
@@ -113,8 +105,7 @@ place-has es k i d h = read es k i d true (place-within es k i h) h
 
 -- the same, as an answer
 pub below-there : (es : List KeyedEntry) (k n : ℕ) (o : Option ℕ) → o ≡ place_below es k n → IfSome o (IsPlaceOf es k)
-below-there es k n None e = tt
-below-there es k n (Some i) e = (below-last es k n i (sym e)).there
+below-there es k n o e = grind (arith, below-last)
 
 pub below-below : (es : List KeyedEntry) (k n : ℕ) (o : Option ℕ) → o ≡ place_below es k n → IfSome o (λ i. i < n)
 below-below es k n None e = tt
@@ -130,28 +121,14 @@ below-alike es fs k (suc n) h =
 
 -- the entry of a map and a key has both
 pub entry-has : (m k : ℕ) (e : KeyedEntry) → is_entry_of m k e ≡ true → (has_object m e ≡ true) × (has_object k e ≡ true)
-entry-has m k e is =
-    let both = same-map m k e is in
-    (ap (λ b. b || e.key == m) (eq-eqb e.the_map m both.0), ap (λ b. e.the_map == k || b) (eq-eqb e.key k both.1) ∙ or-true (e.the_map == k))
-  where
-    or-true : (b : Bool) → (b || true) ≡ true
-    or-true true = refl
-    or-true false = refl
+entry-has m k e is = grind (arith, same-map, eq-eqb)
 
 -- so one that lacks either is another's
 pub other-map : (m k : ℕ) (e : KeyedEntry) → has_object m e ≡ false → is_entry_of m k e ≡ false
-other-map m k e off = go (is_entry_of m k e) refl
-  where
-    go : (b : Bool) → is_entry_of m k e ≡ b → b ≡ false
-    go true is = absurd (true≢false (sym (entry-has m k e is).0 ∙ off))
-    go false is = refl
+other-map m k e off = grind (arith, true≢false, entry-has)
 
 pub other-key : (m k : ℕ) (e : KeyedEntry) → has_object k e ≡ false → is_entry_of m k e ≡ false
-other-key m k e off = go (is_entry_of m k e) refl
-  where
-    go : (b : Bool) → is_entry_of m k e ≡ b → b ≡ false
-    go true is = absurd (true≢false (sym (entry-has m k e is).1 ∙ off))
-    go false is = refl
+other-key m k e off = grind (arith, true≢false, entry-has)
 
 -- an object that is the map or the key of an entry has a last place
 pub below-some : (es : List KeyedEntry) (k : ℕ) (e : KeyedEntry) → Among e es → has_object k e ≡ true → (i : ℕ) × (place_below es k (length es) ≡ Some i)

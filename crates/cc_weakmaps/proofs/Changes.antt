@@ -1,5 +1,5 @@
 -- ENTRIES AND THEIR INDEX, as entries are read, added, replaced and taken out.
-use Rattle.std.proofs.Common.{◌≡◌, ℕ, ◌+◌, ◌<◌, ◌≤◌, ◌==◌, zero, suc, Bool, true, false, ◌||◌, List, [], ◌∷◌, ◌++◌, length, get_or, take, Option, Some, None, refl, sym, ◌∙◌, ap, subst, arith, inl, inr, ⊎_elim}
+use Rattle.std.proofs.Common.{◌≡◌, ℕ, ◌+◌, ◌<◌, ◌≤◌, ◌==◌, zero, suc, Bool, true, false, ◌||◌, List, [], ◌∷◌, ◌++◌, length, get_or, take, Option, refl, sym, ◌∙◌, ap, subst, arith, inl, inr, ⊎_elim}
 use Rattle.std.specs.Prelude.{remove, IfNone}
 use Rattle.std.specs.List.{items_where_true}
 use Rattle.std.proofs.Math.ListN.{set}
@@ -20,8 +20,7 @@ use Rattle.cc_weakmaps.proofs.OneEach.{HasOneEach-set, same-map}
 use Rattle.cc_weakmaps.proofs.Stands.{absent-set, stands-entry, stands-set, stands-within}
 
 pub if_none-always : {X : Type 0} (o : Option X) (P : Type 0) → P → IfNone o P
-if_none-always None P h = h
-if_none-always (Some x) P h = tt
+if_none-always o P h = grind arith
 
 -- The chains, as they are read
 
@@ -67,9 +66,7 @@ module _ (es : List KeyedEntry) (links : List Links) (kept left : List (Option �
       (Among-append e es (x ∷ []) m)
 
   pub added-indexed : ((k : ℕ) → last_kept left k ≡ last_kept kept k) → IsIndexed (es ++ x ∷ []) (links ++ link ∷ []) left (length es)
-  added-indexed same = indexed-alike es (es ++ x ∷ []) links (links ++ link ∷ []) kept left (length es) (omega arith) (omega (arith, length_push es x))
-      (λ j d l. (ap (λ y. y.the_map) (get_or_append_left es (x ∷ []) d j l), ap (λ y. y.key) (get_or_append_left es (x ∷ []) d j l)))
-      (λ j d l. get_or_append_left links (link ∷ []) d j (omega (arith, l, h.as_many))) same h.indexed
+  added-indexed same = grind (arith, indexed-alike, length_push, get_or_append_left)
 
   pub added-kept : (others : List Links) (put : List (Option ℕ)) → length es < 4294967296 → has_value_in es x.the_map x.key ≡ false → length others ≡ length (links ++ link ∷ []) →
       IsIndexed (es ++ x ∷ []) others put (length es + 1) → IsKept (es ++ x ∷ []) others put
@@ -88,8 +85,7 @@ module _ (es fs : List KeyedEntry) (links : List Links) (left : List (Option ℕ
 
   -- the front is as it was
   pub fewer-indexed : (n : ℕ) → n ≤ length es → n ≤ length fs → ((j : ℕ) (d : KeyedEntry) → j < n → get_or fs j d ≡ get_or es j d) → IsIndexed es links left n → IsIndexed fs links left n
-  fewer-indexed n el fl same h = indexed-alike es fs links links left left n el fl
-      (λ j d l. (ap (λ x. x.the_map) (same j d l), ap (λ x. x.key) (same j d l))) (λ j d l. refl) (λ k. refl) h
+  fewer-indexed n el fl same h = grind (arith, indexed-alike)
 
 -- with as many links as there are entries left
 pub fewer-kept : (fs : List KeyedEntry) (links : List Links) (kept left : List (Option ℕ)) → HasOneEach fs → AreFew fs → length fs ≤ length links → IsIndexed fs links kept (length fs) →

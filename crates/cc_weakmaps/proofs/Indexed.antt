@@ -1,5 +1,5 @@
 -- THE INDEX, as entries are put in it and taken out, one at a time.
-use Rattle.std.proofs.Common.{◌≡◌, ℕ, ◌+◌, ◌<◌, ◌≤◌, ◌==◌, suc, Bool, true, false, ◌||◌, cond, List, length, get_or, Option, Some, refl, sym, ◌∙◌, ap, subst, arith, ⊎_elim, option_map, if◌then◌else◌, add-one}
+use Rattle.std.proofs.Common.{◌≡◌, ℕ, ◌+◌, ◌<◌, ◌≤◌, ◌==◌, suc, Bool, true, false, ◌||◌, cond, List, length, get_or, Option, Some, refl, sym, ◌∙◌, ap, subst, arith, option_map, if◌then◌else◌, add-one}
 use Rattle.std.specs.Prelude.{slice_get}
 use Rattle.std.proofs.Math.ListN.{set}
 use Rattle.std.proofs.lemmas.Bool.{eqb-true, eq-eqb}
@@ -80,35 +80,8 @@ module _ (es : List KeyedEntry) (links : List Links) (kept left : List (Option �
   -- it is put in
   pub indexed-after : (link : Links) → i < length links → link.by_map ≡ last_kept kept (get_or es i e).the_map → link.by_key ≡ last_kept kept (get_or es i e).key →
       IsIndexed es links kept i → ArePut kept left (get_or es i e).the_map (Some i) (get_or es i e).key (Some i) → IsIndexed es (set links i link) left (suc i)
-  indexed-after link room of_map of_key h put = record {
-    last = λ k. put k ∙ (go k ((get_or es i e).key == k) refl ((get_or es i e).the_map == k) refl ∙ sym (below-step es k i e within));
-    by_map = λ j f x l. ⊎_elim
-        (λ t. let same : j ≡ i = t.1 in subst (λ z. (get_or (set links i link) z x).by_map ≡ place_below es (get_or es z f).the_map z) (sym same)
-        (ap (λ y. y.by_map) (get_or-set_same links i link x room) ∙ (of_map ∙ (h.last _ ∙ ap (λ y. place_below es y.the_map i) (here f)))))
-        (λ t. let apart : ¬ (j ≡ i) = t.1 in ap (λ y. y.by_map) (get_or-set_other links i j link x t.1) ∙ h.by_map j f x (omega (arith, l, apart)))
-        (eqb_tells j i);
-    by_key = λ j f x l. ⊎_elim
-        (λ t. let same : j ≡ i = t.1 in subst (λ z. (get_or (set links i link) z x).by_key ≡ place_below es (get_or es z f).key z) (sym same)
-        (ap (λ y. y.by_key) (get_or-set_same links i link x room) ∙ (of_key ∙ (h.last _ ∙ ap (λ y. place_below es y.key i) (here f)))))
-        (λ t. let apart : ¬ (j ≡ i) = t.1 in ap (λ y. y.by_key) (get_or-set_other links i j link x t.1) ∙ h.by_key j f x (omega (arith, l, apart)))
-        (eqb_tells j i);
-  }
-    where
-      here : (f : KeyedEntry) → get_or es i e ≡ get_or es i f
-      here f = one _ _ (sym (slice_get-get_or es i e within) ∙ slice_get-get_or es i f within)
-        where
-          one : (x y : KeyedEntry) → Some x ≡ Some y → x ≡ y
-          one x y q = cc
-
-      go : (k : ℕ) (b : Bool) → ((get_or es i e).key == k) ≡ b → (c : Bool) → ((get_or es i e).the_map == k) ≡ c →
-          (if b then Some i else (if c then Some i else last_kept kept k)) ≡ cond (has_object k (get_or es i e)) (Some i) (place_below es k i)
-      go k b f true same = both b ∙ ap (λ c. cond (c || (get_or es i e).key == k) (Some i) (place_below es k i)) (sym same)
-        where
-          both : (b : Bool) → (if b then Some i else Some i) ≡ Some i
-          both true = refl
-          both false = refl
-      go k true same false other = ap (λ c. cond c (Some i) (place_below es k i)) (sym same) ∙ ap (λ c. cond (c || (get_or es i e).key == k) (Some i) (place_below es k i)) (sym other)
-      go k false apart false other = h.last k ∙ (ap (λ c. cond c (Some i) (place_below es k i)) (sym apart) ∙ ap (λ c. cond (c || (get_or es i e).key == k) (Some i) (place_below es k i)) (sym other))
+  indexed-after link room of_map of_key h put =
+      grind (arith, below-step, set, get_or-set_same, get_or-set_other, eqb_tells, slice_get-get_or, h.last, h.by_map, h.by_key)
 
 -- The steps of the code
 

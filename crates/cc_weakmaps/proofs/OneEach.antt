@@ -1,5 +1,5 @@
 -- AT MOST ONE ENTRY for each map and key, as entries are set and taken out.
-use Rattle.std.proofs.Common.{◌≡◌, ℕ, ◌+◌, ◌≤◌, ◌==◌, zero, suc, Bool, true, false, cond, List, [], ◌∷◌, refl, sym, ◌∙◌, ap, subst, arith, count_by}
+use Rattle.std.proofs.Common.{◌≡◌, ℕ, ◌≤◌, ◌==◌, zero, suc, Bool, true, false, List, [], ◌∷◌, refl, sym, ◌∙◌, ap, subst, arith, count_by}
 use Rattle.std.specs.List.{items_where_true, remove}
 use Rattle.std.proofs.lemmas.Bool.{and_parts, eqb-true}
 use Rattle.cc_lists.proofs.Counting.{count_by-cons}
@@ -26,20 +26,8 @@ module _ (n j m k v : ℕ) where
 
 -- and of the entry that is set there is one
 set-same : (m k v : ℕ) (es : List KeyedEntry) → count_by (is_entry_of m k) es ≤ 1 → count_by (is_entry_of m k) (with_entry es m k v) ≤ 1
-set-same m k v [] h = go (is_entry_of m k (entry m k v)) refl
-  where
-    go : (b : Bool) → is_entry_of m k (entry m k v) ≡ b → count_by (is_entry_of m k) (entry m k v ∷ []) ≤ 1
-    go true is = rw (count_by-cons (is_entry_of m k) (entry m k v) [], is) (omega arith)
-    go false is = rw (count_by-cons (is_entry_of m k) (entry m k v) [], is) (omega arith)
-set-same m k v (e ∷ es) h = go (set-same m k v es) (is_entry_of m k e) refl
-  where
-    go : (count_by (is_entry_of m k) es ≤ 1 → count_by (is_entry_of m k) (with_entry es m k v) ≤ 1) → (b : Bool) → is_entry_of m k e ≡ b →
-        count_by (is_entry_of m k) (elim b [ true ↦ entry m k v ∷ es | false ↦ e ∷ with_entry es m k v ]) ≤ 1
-    go ih true is = subst (λ c. c ≤ 1) (sym (count_by-cons (is_entry_of m k) (entry m k v) es ∙ (ap (λ b. cond b 1 0 + count_by (is_entry_of m k) es) (same-count m k m k v e is) ∙ sym (count_by-cons (is_entry_of m k) e es)))) h
-    go ih false is =
-        let none : ◌≡◌ {A = ℕ} (cond (is_entry_of m k e) 1 0) 0 = ap (λ b. cond b 1 0) is in
-        let rest : count_by (is_entry_of m k) (with_entry es m k v) ≤ 1 = ih (omega (arith, h, none, count_by-cons (is_entry_of m k) e es)) in
-        omega (arith, none, rest, count_by-cons (is_entry_of m k) e (with_entry es m k v))
+set-same m k v [] h = grind (arith, count_by-cons)
+set-same m k v (e ∷ es) h = grind (arith, count_by-cons, same-count, set-same m k v es)
 
 pub HasOneEach-set : (es : List KeyedEntry) (m k v : ℕ) → HasOneEach es → HasOneEach (with_entry es m k v)
 HasOneEach-set es m k v h = record { at_most = λ n j. go n j (is_entry_of n j (entry m k v)) refl }

@@ -1,5 +1,5 @@
 -- What the place of an entry says of the list that it is in.
-use Rattle.std.proofs.Common.{◌≡◌, ℕ, ◌+◌, ◌<◌, zero, suc, List, [], ◌∷◌, ◌++◌, Bool, true, false, Option, Some, None, is_some, length, take, get_or, true≢false, ap, add-one, arith, refl}
+use Rattle.std.proofs.Common.{◌≡◌, ℕ, ◌+◌, ◌<◌, zero, suc, List, [], ◌∷◌, ◌++◌, Bool, true, false, Some, None, is_some, length, take, get_or, true≢false, ap, add-one, arith, refl}
 use Rattle.std.proofs.Math.ListN.{set}
 use Rattle.cc_weakmaps.specs.Entries.{KeyedEntry, entry, is_entry_of, value_in, has_value_in, with_entry}
 use Rattle.cc_weakmaps.specs.Places.{StandsAt}
@@ -54,19 +54,11 @@ absent-further es m k place d before within other = rw (add-one place) (past es 
 
 -- a key that has no value in a map is none that has one
 pub absent-value : (es : List KeyedEntry) (m k : ℕ) → has_value_in es m k ≡ false → value_in es m k ≡ None
-absent-value es m k h = go (value_in es m k) h
-  where
-    go : (o : Option ℕ) → is_some o ≡ false → o ≡ None
-    go None h = refl
-    go (Some v) h = absurd (true≢false h)
+absent-value es m k h = grind arith
 
 -- and its entry goes last
 pub absent-set : (es : List KeyedEntry) (m k v : ℕ) → has_value_in es m k ≡ false → with_entry es m k v ≡ es ++ entry m k v ∷ []
 absent-set [] m k v h = refl
-absent-set (e ∷ es) m k v h = go (absent-set es m k v) (is_entry_of m k e) h
-  where
-    go : (has_value_in es m k ≡ false → with_entry es m k v ≡ es ++ entry m k v ∷ []) → (b : Bool) → is_some (elim b [ true ↦ Some e.value | false ↦ value_in es m k ]) ≡ false → elim b [ true ↦ entry m k v ∷ es | false ↦ e ∷ with_entry es m k v ] ≡ e ∷ es ++ entry m k v ∷ []
-    go ih true h = absurd (true≢false h)
-    go ih false h = ap (λ xs. e ∷ xs) (ih h)
+absent-set (e ∷ es) m k v h = grind (arith, absent-set es m k v)
 
 pub ruleset stands = (stands-within, stands-value, stands-set, stands-first, absent-further, absent-value, absent-set)

@@ -1,14 +1,13 @@
-use Rattle.std.proofs.Common.{◌≡◌, [], ◌∷◌, length, drop, sym, ◌∙◌, ap, subst}
-use Rattle.cc_names.specs.declared.kind.Colour.{Colour}
-use Rattle.cc_script.specs.Objects.{AreWhole, is_there, slots_at}
+use Rattle.std.proofs.Common.{◌≡◌, [], ◌∷◌, length, drop, sym, ◌∙◌, ap, subst, arith}
+use Rattle.cc_script.specs.Objects.{AreWhole, slots_at}
 use Rattle.cc_script.specs.Marking.{Marking, raise_each}
-use Rattle.cc_script.specs.Underway.{Underway, marks_of, with_first_looked_into}
+use Rattle.cc_script.specs.Underway.{Underway, marks_of}
 use Rattle.cc_script.proofs.Popping.{front-popped, none-popped}
 use Rattle.cc_script.proofs.Underway.{first-looked}
 use Rattle.cc_script.proofs.Wholeness.{there-raised}
-use Rattle.cc_marking.specs.Looking.{with_all_started, with_values}
+use Rattle.cc_marking.specs.Looking.{with_values}
 use Rattle.cc_marking.proofs.There.{AreEntriesThere-stay}
-use Rattle.cc_marking.proofs.Turns.{none-looked, turn-spends}
+use Rattle.cc_marking.proofs.Turns.{turn-spends}
 use Rattle.cc_marking.proofs.Underway.{IsUnderWay, under_way-begins, under_way-turns, under_way-ends, under_way-spent}
 use Rattle.cc_marking.proofs.marking.mark_to.Given as given
 use Rattle.cc_marking.proofs.marking.mark_to.Goals as goal
@@ -17,12 +16,7 @@ pub start_each-requires-clause-whole : goal.start_each-requires-clause-whole
 start_each-requires-clause-whole g c = subst (λ (u : Underway). AreWhole u.objects) (sym c.start_marking-marking.ensures.marking) c.requires.ordered.whole
 
 pub loop-key-init : goal.loop-key-init
-loop-key-init g c = (
-  under_way-begins c.args.to c.args.weak.now c.args.scripts.now (g.R.Roots.left c.args.roots.now) c.requires.ordered c.requires.followed c.requires.live c.args.steps.now (marks_of c.start_each.new.marking)
-      (c.start_each.ensures.started ∙ ap (λ (u : Underway). with_all_started u.to (g.R.Roots.left c.args.roots.now) (marks_of u)) c.start_marking-marking.ensures.marking),
-  c.start_each.ensures.colour ∙ ap (λ (u : Underway). u.to) c.start_marking-marking.ensures.marking,
-  c.start_each.ensures.whole,
-)
+loop-key-init g c = grind (arith, under_way-begins, g.R.Roots.left)
 
 -- the first of those that wait
 module _ (g : given.Over) (c : goal.After-mark_values g) where
@@ -36,19 +30,13 @@ module _ (g : given.Over) (c : goal.After-mark_values g) where
   slotted = raise_each c.args.to (slots_at m.objects c.in-Some.key.0) (record { objects = m.objects; waiting = drop 1 m.waiting })
 
   slotted-is : marks_of c.next_marked.new.self ≡ slotted
-  slotted-is =
-      ap marks_of c.in-Some.ensures.looked
-      ∙ (ap (λ (to : Colour). with_first_looked_into to m) c.loop-key.invariant.1
-      ∙ first-looked c.args.to m c.in-Some.key.0 (drop 1 m.waiting) front)
+  slotted-is = grind (arith, first-looked, front)
 
   valued-is : marks_of c.mark_values.new.marking ≡ with_values c.args.to c.args.weak.now c.in-Some.key.0 (length c.args.weak.now) slotted
   valued-is = c.mark_values.ensures.valued ∙ ap (with_values c.args.to c.args.weak.now c.in-Some.key.0 (length c.args.weak.now)) slotted-is
 
 pub mark_values-requires-clause-entries : goal.mark_values-requires-clause-entries
-mark_values-requires-clause-entries g c =
-    let u = c.loop-key.invariant.0 in
-    AreEntriesThere-stay c.args.scripts.now c.next_marked.new.self.objects
-    (λ k h. c.in-Some.ensures.there k ∙ (ap (λ os. is_there os k) u.raised ∙ (there-raised u.keys c.args.to c.args.scripts.now k ∙ h))) c.args.weak.now c.requires.entries
+mark_values-requires-clause-entries g c = grind (arith, AreEntriesThere-stay, there-raised)
 
 pub loop-key-smaller : goal.loop-key-smaller
 loop-key-smaller g c =
@@ -69,10 +57,7 @@ module _ (g : given.Over) (c : goal.After-end_marking g) where
   emptied = none-popped c.loop-key.marking.waiting c.in_default.ensures.first
 
   end-is : c.end_marking.new.self ≡ c.loop-key.marking.objects
-  end-is =
-      c.end_marking.ensures
-      ∙ (ap (λ (u : Underway). u.objects) c.in_default.ensures.looked
-      ∙ ap (λ (z : Marking). z.objects) (none-looked c.loop-key.marking.to (marks_of c.loop-key.marking) emptied))
+  end-is = search (emptied)
 
 pub returns-clause-raised : goal.returns-clause-raised
 returns-clause-raised g c =

@@ -4,26 +4,10 @@ use Rattle.cc_weakmaps.proofs.Indexed.{known-at, put-in}
 use Rattle.cc_weakmaps.proofs.index.put_in.Goals as goal
 
 pub keep-requires : goal.keep-requires
-keep-requires c =
-    let at_map = ap (λ (e : KeyedEntry). e.the_map) (c.entry.view_is ∙ c.index-entries-place.is) in
-    let at_key = ap (λ (e : KeyedEntry). e.key) (c.entry.view_is ∙ c.index-entries-place.is) in
-    record {
-      known = (known-at c.args.entries.now c.args.lasts.now.places.items c.args.place c.entry.inside.the_map.0 c.entry.inside.key.0 c.index-entries-place.result
-          c.requires.known c.requires.within at_map at_key).0;
-    }
+keep-requires c = grind (arith, known-at)
 
 pub keep-requires-2 : goal.keep-requires-2
-keep-requires-2 c =
-    let at_map = ap (λ (e : KeyedEntry). e.the_map) (c.entry.view_is ∙ c.index-entries-place.is) in
-    let at_key = ap (λ (e : KeyedEntry). e.key) (c.entry.view_is ∙ c.index-entries-place.is) in
-    record {
-      known = omega (
-        arith,
-        c.keep.ensures.memory.known,
-        (known-at c.args.entries.now c.args.lasts.now.places.items c.args.place c.entry.inside.the_map.0 c.entry.inside.key.0 c.index-entries-place.result
-            c.requires.known c.requires.within at_map at_key).1,
-      );
-    }
+keep-requires-2 c = grind (arith, known-at)
 
 pub returns-clause-indexed : goal.returns-clause-indexed
 returns-clause-indexed c =

@@ -1,4 +1,4 @@
-use Rattle.std.proofs.Common.{sym, subst}
+use Rattle.std.proofs.Common.{sym, subst, arith}
 use Rattle.cc_lists.specs.Members.{Among}
 use Rattle.cc_counted.specs.Stored.{Stored}
 use Rattle.cc_counted.specs.Nodes.{order_links}
@@ -18,6 +18,4 @@ invariant_of-self c =
     (c.unlink_at.ensures.keys (lists_of c.self.inside).order c.self.invariant.order) c.remove-node.new.self c.remove-node.ensures.slots c.remove-node.ensures.capacity).1
 
 pub returns-clause-lists : goal.returns-clause-lists
-returns-clause-lists c =
-    (stored-removed c.self.inside c.self.invariant _ c.self.view_is c.args.key.0 c.requires.queue c.requires.buffer c.unlink_at.new.store _ c.unlink_at.ensures.rest
-    (c.unlink_at.ensures.keys (lists_of c.self.inside).order c.self.invariant.order) c.remove-node.new.self c.remove-node.ensures.slots c.remove-node.ensures.capacity).0
+returns-clause-lists c = grind (arith, stored-removed, c.unlink_at.ensures.keys)

@@ -4,7 +4,6 @@ use Rattle.cc_names.specs.declared.name.Name.{Name}
 use Rattle.cc_names.specs.declared.kind.Kind.{Kind}
 use Rattle.cc_names.specs.declared.kind.Colour.TheVariants.{Black}
 use Rattle.cc_script.specs.declared.being.Being.{Being}
-use Rattle.cc_script.specs.declared.being.Being.TheVariants as being
 use Rattle.cc_script.specs.Beings.{kind_of, name_of, native_key_of}
 use Rattle.cc_script.specs.Objects.{FitsKind, new_object}
 use Rattle.cc_script.specs.ColourOrder.{HasColourOrder}
@@ -27,9 +26,7 @@ empty-slots (suc n) = ap (λ ys. None ∷ ys) (empty-slots n)
 
 -- exactly a reflector has a native
 fits-kind : (b : Being) → FitsKind (kind_of b) (native_key_of b)
-fits-kind (being.Plain number) = (λ is. cc, λ is. cc)
-fits-kind (being.Map number) = (λ is. cc, λ is. cc)
-fits-kind (being.Reflector number native) = (λ is. refl, λ is. refl)
+fits-kind b = grind arith
 
 -- the object as it stands there
 abbrev new_placed : Name → Kind → Option ℕ → List (Option ℕ) → Placed

@@ -21,12 +21,7 @@ put_in-requires-clause-known c =
     c.know_both.ensures.others)
 
 pub put_in-requires-clause-indexed : goal.put_in-requires-clause-indexed
-put_in-requires-clause-indexed c =
-    let es = c.self.inside.entries.items in
-    let items = c.as_slice.ensures.value ∙ (c.push_reserved.ensures.items ∙ ap (λ xs. xs ++ c.args.entry ∷ []) c.reserve.ensures.items) in
-    let links = c.push_reserved-2.ensures.items ∙ ap (λ xs. xs ++ link ∷ []) c.reserve-2.ensures.items in
-    let len : c.len-place.result ≡ length es = omega (arith, c.len-place.ensures, c.self.inside.entries.ok.0) in
-    rw (items, links, len) (added-indexed es c.self.inside.links.items c.self.inside.lasts.places.items c.know_both.new.self.places.items c.args.entry link c.self.invariant c.know_both.ensures.places)
+put_in-requires-clause-indexed c = grind (arith, added-indexed)
 
 pub invariant_of-self-2 : goal.invariant_of-self-2
 invariant_of-self-2 c =

@@ -2,7 +2,6 @@ use Rattle.std.proofs.Common.{◌≡◌, ◌∙◌, get_or, ap, sym, subst}
 use Rattle.std.proofs.Math.ListN.{set}
 use Rattle.cc_weakmaps.specs.Entries.{KeyedEntry, entry, with_entry}
 use Rattle.cc_weakmaps.specs.Kept.{Kept}
-use Rattle.cc_weakmaps.specs.Index.{IsKept}
 use Rattle.cc_weakmaps.specs.Places.{StandsAt}
 use Rattle.cc_weakmaps.proofs.Changes.{kept-set}
 use Rattle.cc_weakmaps.proofs.OneEach.{same-map}
@@ -22,10 +21,7 @@ same c =
     ∙ ap (λ k. entry c.args.the_map.0 k c.args.value.0) (ap (λ (e : KeyedEntry). e.key) there ∙ both.1)
 
 pub invariant_of-self : goal.invariant_of-self
-invariant_of-self c =
-    let items = c.self.inside.entries.items in
-    subst (λ e. IsKept (set items c.in-Some.place e) c.self.inside.links.items c.self.inside.lasts.places.items) (sym (same c))
-    (kept-set items c.self.inside.links.items c.self.inside.lasts.places.items c.args.the_map.0 c.args.key.0 c.args.value.0 c.in-Some.place (stands c) c.self.invariant)
+invariant_of-self c = search (same, kept-set, stands)
 
 pub returns-in-Some-clause-entries : goal.returns-in-Some-clause-entries
 returns-in-Some-clause-entries c =
