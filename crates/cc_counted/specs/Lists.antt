@@ -1,6 +1,7 @@
 -- THE PARTS OF A COUNTED HEAP AS LISTS, by keys, and what they show by numbers.
 use Rattle.std.specs.Prelude.{◌≡◌, ◌⊎◌, ℕ, ◌+◌, ◌-◌, ◌≤◌, ◌==◌, Bool, true, false, List, [], ◌++◌, length, ◌∷◌, map, flat_map, Option, Some, None, option_map, option_and_then, slice_index_or, slice_set}
 use Rattle.cc_lists.specs.Members.{Among, without}
+use Rattle.cc_names.specs.Sizes.{most_slots}
 use Rattle.cc_model.specs.declared.item.Event.{Event}
 use Rattle.cc_model.specs.Slots.{Slots}
 use Rattle.cc_model.specs.Heap.{HeapNative, Buffered}
