@@ -1,64 +1,42 @@
-use Rattle.std.proofs.Common.{◌≡◌, IsTrue, [], ◌∷◌, ◌++◌, flat_map, map, sym, ◌∙◌, ap, subst}
-use Rattle.std.proofs.lemmas.List.{append-nil}
-use Rattle.cc_lists.specs.Members.{with_all_last}
-use Rattle.cc_lists.proofs.KnownBytes.{on_err_of}
-use Rattle.cc_names.specs.Names.{same_name}
-use Rattle.cc_model.specs.Units.{members_of}
-use Rattle.cc_model.specs.Units as units
+use Rattle.std.proofs.Common.{◌≡◌, ℕ, List, IfSome, IsTrue, Option, Some, None, option_map, refl}
+use Rattle.cc_names.specs.declared.number.SKey.{SKey}
 use Rattle.cc_weakmaps.specs.Entries.{entry}
-use Rattle.cc_script.specs.Objects.{is_there}
-use Rattle.cc_heaps.specs.Keyed.{named_entry}
-use Rattle.cc_builder.specs.Building.{mapping_of, vertex_names}
-use Rattle.cc_builder.specs.BuildSteps.{mappings_at}
-use Rattle.cc_builder.proofs.EntryMappings.{entry-there, noted-none, noted-one}
+use Rattle.cc_script.specs.Objects.{Object, is_there}
+use Rattle.cc_builder.proofs.EntryMappings.{entry-there}
 use Rattle.cc_builder.proofs.build.Build.add_mapping.Goals as goal
 
-pub colour-requires : goal.colour-requires
-colour-requires c =
-    let there = entry-there c.args.heaps.now c.weak.result.now c.args.i (entry c.entry.result.0.0 c.entry.result.1.0 c.entry.result.2.0) c.weak.ensures c.entry.ensures c.requires.order in
-    record { live = subst (λ os. IsTrue (is_there os c.entry.result.2.0)) (sym c.scripts.ensures) there.value }
+pub add_key-requires-clause-the_map : goal.add_key-requires-clause-the_map
+add_key-requires-clause-the_map c =
+    (entry-there c.args.heaps.now c.weak.result.now c.args.i (entry c.entry-delegate.result.0.0 c.entry-delegate.result.1.0 (option_map (λ (k : SKey). k.0) c.entry-delegate.result.2) c.entry-delegate.result.3.0)
+    c.weak.ensures c.entry-delegate.ensures c.requires.order).the_map
 
-pub note_entry-requires-clause-the_map : goal.note_entry-requires-clause-the_map
-note_entry-requires-clause-the_map c =
-    (entry-there c.args.heaps.now c.weak.result.now c.args.i (entry c.entry.result.0.0 c.entry.result.1.0 c.entry.result.2.0) c.weak.ensures c.entry.ensures c.requires.order).the_map
+pub add_key-requires-clause-key : goal.add_key-requires-clause-key
+add_key-requires-clause-key c =
+    (entry-there c.args.heaps.now c.weak.result.now c.args.i (entry c.entry-delegate.result.0.0 c.entry-delegate.result.1.0 (option_map (λ (k : SKey). k.0) c.entry-delegate.result.2) c.entry-delegate.result.3.0)
+    c.weak.ensures c.entry-delegate.ensures c.requires.order).key
 
-pub note_entry-requires-clause-key : goal.note_entry-requires-clause-key
-note_entry-requires-clause-key c =
-    (entry-there c.args.heaps.now c.weak.result.now c.args.i (entry c.entry.result.0.0 c.entry.result.1.0 c.entry.result.2.0) c.weak.ensures c.entry.ensures c.requires.order).key
+-- the delegate's key is there
+some-there : (objects : List Object) (d : Option SKey) → ((q : ℕ) → option_map (λ (k : SKey). k.0) d ≡ Some q → IsTrue (is_there objects q)) → IfSome d (λ k. IsTrue (is_there objects k.0))
+some-there objects None there = tt
+some-there objects (Some k) there = there k.0 refl
 
--- where the value is gray, the entry is noted
-one : (c : goal.In_ok-node) → mappings_at c.args.heaps.now c.args.i ≡ units.mapping_of c.args.heaps.now.heap (named_entry c.args.heaps.now.scripts (entry c.entry.result.0.0 c.entry.result.1.0 c.entry.result.2.0)) ∷ []
-one c =
-    noted-one c.args.heaps.now c.weak.result.now c.args.i (entry c.entry.result.0.0 c.entry.result.1.0 c.entry.result.2.0) c.weak.ensures c.entry.ensures
-    c.requires.order c.scripts.result.now c.colour.result c.scripts.ensures c.colour.ensures (sym c.eq.ensures ∙ c.if-eq.true)
+pub add_key-requires-clause-delegate : goal.add_key-requires-clause-delegate
+add_key-requires-clause-delegate c =
+    some-there c.args.heaps.now.scripts c.entry-delegate.result.2
+    (entry-there c.args.heaps.now c.weak.result.now c.args.i (entry c.entry-delegate.result.0.0 c.entry-delegate.result.1.0 (option_map (λ (k : SKey). k.0) c.entry-delegate.result.2) c.entry-delegate.result.3.0)
+    c.weak.ensures c.entry-delegate.ensures c.requires.order).delegate
 
-pub returns-in_err-node-clause-refused : goal.returns-in_err-node-clause-refused
-returns-in_err-node-clause-refused c =
-    let noted = noted-one c.args.heaps.now c.weak.result.now c.args.i (entry c.entry.result.0.0 c.entry.result.1.0 c.entry.result.2.0) c.weak.ensures c.entry.ensures
-    c.requires.order c.scripts.result.now c.colour.result c.scripts.ensures c.colour.ensures (sym c.eq.ensures ∙ c.if-eq.true) in
-    on_err_of c.from_residual.result (λ none. cc)
+pub add_joint-requires-clause-the_map : goal.add_joint-requires-clause-the_map
+add_joint-requires-clause-the_map c =
+    (entry-there c.args.heaps.now c.weak.result.now c.args.i (entry c.entry-delegate.result.0.0 c.entry-delegate.result.1.0 (option_map (λ (k : SKey). k.0) c.entry-delegate.result.2) c.entry-delegate.result.3.0)
+    c.weak.ensures c.entry-delegate.ensures c.requires.order).the_map
 
-pub returns-then-eq-clause-names : goal.returns-then-eq-clause-names
-returns-then-eq-clause-names c =
-    let xs = vertex_names c.args.self.now.graph.nodes in
-    c.in_ok-node.ensures.names
-    ∙ ap (with_all_last same_name xs) (sym (ap (flat_map members_of) (one c) ∙ append-nil _))
+pub add_joint-requires-clause-key : goal.add_joint-requires-clause-key
+add_joint-requires-clause-key c =
+    (entry-there c.args.heaps.now c.weak.result.now c.args.i (entry c.entry-delegate.result.0.0 c.entry-delegate.result.1.0 (option_map (λ (k : SKey). k.0) c.entry-delegate.result.2) c.entry-delegate.result.3.0)
+    c.weak.ensures c.entry-delegate.ensures c.requires.order).key
 
-pub returns-then-eq-clause-mappings : goal.returns-then-eq-clause-mappings
-returns-then-eq-clause-mappings c =
-    let ms = map (mapping_of c.args.self.now.graph.nodes) c.args.self.now.graph.hyperedges in
-    c.in_ok-node.ensures.mappings ∙ ap (λ ns. ms ++ ns) (sym (one c))
-
--- where it is not, nothing is
-none : (c : goal.Else-eq) → mappings_at c.args.heaps.now c.args.i ≡ []
-none c =
-    noted-none c.args.heaps.now c.weak.result.now c.args.i (entry c.entry.result.0.0 c.entry.result.1.0 c.entry.result.2.0) c.weak.ensures c.entry.ensures
-    c.requires.order c.scripts.result.now c.colour.result c.scripts.ensures c.colour.ensures (sym c.eq.ensures ∙ c.if-eq.false)
-
-pub returns-clause-names : goal.returns-clause-names
-returns-clause-names c = sym (ap (λ ms. with_all_last same_name (vertex_names c.args.self.now.graph.nodes) (flat_map members_of ms)) (none c))
-
-pub returns-clause-mappings : goal.returns-clause-mappings
-returns-clause-mappings c =
-    let ms = map (mapping_of c.args.self.now.graph.nodes) c.args.self.now.graph.hyperedges in
-    sym (ap (λ ns. ms ++ ns) (none c) ∙ append-nil ms)
+pub add_joint-requires-clause-value : goal.add_joint-requires-clause-value
+add_joint-requires-clause-value c =
+    (entry-there c.args.heaps.now c.weak.result.now c.args.i (entry c.entry-delegate.result.0.0 c.entry-delegate.result.1.0 (option_map (λ (k : SKey). k.0) c.entry-delegate.result.2) c.entry-delegate.result.3.0)
+    c.weak.ensures c.entry-delegate.ensures c.requires.order).value
