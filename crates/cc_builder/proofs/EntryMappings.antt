@@ -17,7 +17,7 @@ use Rattle.cc_names.specs.declared.name.Name.{Name}
 use Rattle.cc_names.specs.declared.number.SKey.{SKey}
 use Rattle.cc_names.specs.Names.{native, same_name}
 use Rattle.cc_names.proofs.NameTests.{same_name-exact}
-use Rattle.cc_model.specs.Entries.{Entry, Joint, joint, key_joint, joints_of, joints}
+use Rattle.cc_model.specs.Entries.{Entry, Joint, key_joint, joints_of, joints}
 use Rattle.cc_model.specs.Heap.{Heap, is_gray_in}
 use Rattle.cc_model.specs.Snapshot.{Mapping}
 use Rattle.cc_model.specs.Units.{if_gray, mappings_of, members_of}
