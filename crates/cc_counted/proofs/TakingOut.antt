@@ -1,5 +1,5 @@
 -- THE NATIVE IN FRONT OF THE QUEUE TAKEN OUT at its key, before its slots are given up: nothing holds it.
-use Rattle.std.proofs.Common.{◌≡◌, ◌≢◌, ℕ, zero, suc, ◌+◌, ◌<◌, ◌≤◌, Bool, true, not, List, ◌∷◌, map, Option, Some, None, option_map, refl, sym, ◌∙◌, ap, subst, inl, inr, arith, ◌==◌}
+use Rattle.std.proofs.Common.{◌≡◌, ◌≢◌, ℕ, zero, suc, ◌+◌, ◌≤◌, Bool, true, not, List, ◌∷◌, map, Option, Some, None, option_map, refl, sym, ◌∙◌, ap, subst, inl, inr, arith, ◌==◌}
 use Rattle.std.specs.List.{filter}
 use Rattle.std.specs.Option.{option_to_list}
 use Rattle.std.proofs.lemmas.Bool.{eq-eqb, ne_eqb, true≢false}
@@ -16,7 +16,7 @@ use Rattle.cc_model.specs.Cascade.{Draining, told_free, without_native}
 use Rattle.cc_model.specs.Counts.{times, refs_to}
 use Rattle.cc_model.specs.WellFormed.{IsRising}
 use Rattle.cc_laws_heap.proofs.Face.{IsRising-filter, refs_to-slot, times-cons_same, times-some}
-use Rattle.cc_laws_heap.specs.Balance.{one_above_zero, one_at_zero, waiting as waits, living, IsBalanced, count_of, has_place, places}
+use Rattle.cc_laws_heap.specs.Balance.{one_at_zero, waiting as waits, IsBalanced, count_of}
 use Rattle.cc_purple.specs.Marks.{Marked}
 use Rattle.cc_counted.specs.declared.held.Held.{Held}
 use Rattle.cc_counted.specs.declared.held.Held.TheVariants as held
@@ -68,22 +68,11 @@ module _ (owned : List ℕ) (l : Lists) (es : List Event) (p : IsPlaced l) (b : 
 
   -- it waits only once
   pub not_behind : (k : ℕ) → Among k ks → k ≢ key
-  not_behind k m e =
-      let one : 1 ≤ times c.number (map (the_number numbers) ks) =
-      times-some c.number (map (the_number numbers) ks)
-      (subst (λ j. Among j (map (the_number numbers) ks)) (ap (the_number numbers) e ∙ the_number-cell l.cells key c at) (Among-map (the_number numbers) k ks m)) in
-      let zero_count : one_at_zero c.count ≡ 1 = ap one_at_zero count-zero in
-      omega (arith, waits_once, waits_by_count)
+  not_behind k m e = grind (arith, times-some, the_number-cell, Among-map, count-zero, waits_once, waits_by_count)
 
   -- and is not in the buffer
   pub not_marked : (m : Marked) → Among m l.marks → m.key ≢ key
-  not_marked m n e =
-      let same : (marked_number numbers m).number ≡ c.number = ap (the_number numbers) e ∙ the_number-cell l.cells key c at in
-      let one : 0 < places c.number d.heap.buffer =
-      count_by-some (has_place c.number) (marked_number numbers m) d.heap.buffer (Among-map (marked_number numbers) m l.marks n)
-      (eq-eqb (the_number numbers m.key) c.number same) in
-      let none : living (native_at d.heap c.number) ≡ 0 = ap living found ∙ ap one_above_zero count-zero in
-      omega (arith, b.buffer c.number)
+  not_marked m n e = grind (arith, the_number-cell, count_by-some, Among-map, eq-eqb, found, count-zero, b.buffer)
 
   -- no slot holds it
   not_held : (k : ℕ) (a : Placed) (x : Option Held) (j : ℕ) → cell_at l.cells k ≡ Some a → Among x a.slots → x ≡ Some (held.Native (record { 0 = j })) → j ≢ key
@@ -113,9 +102,7 @@ module _ (owned : List ℕ) (l : Lists) (es : List Event) (p : IsPlaced l) (b : 
 
   -- what is found after it is taken out was there before, at another key
   cell-left : (k : ℕ) (a : Placed) → cell_at left.cells k ≡ Some a → (k ≢ key) × (cell_at l.cells k ≡ Some a)
-  cell-left k a e =
-      let o : k ≢ key = λ s. let bad : None ≡ Some a = sym (ap (cell_at left.cells) s ∙ cell-gone) ∙ e in cc in
-      (o, sym (cell-other k o) ∙ e)
+  cell-left k a e = grind (arith, cell-gone, cell-other)
 
   still_there : (k : ℕ) → k ≢ key → (a : Placed) × (cell_at l.cells k ≡ Some a) → (a : Placed) × (cell_at left.cells k ≡ Some a)
   still_there k o f = (f.0, cell-other k o ∙ f.1)
@@ -162,8 +149,7 @@ module _ (owned : List ℕ) (l : Lists) (es : List Event) (p : IsPlaced l) (b : 
           ap (shown (keyed left.cells)) (cell-other k o ∙ f.1) ∙ (shown-same k f.0 f.1 ∙ ap (shown numbers) (sym f.1))
 
   buffer-left : map (marked_number (keyed left.cells)) l.marks ≡ map (marked_number numbers) l.marks
-  buffer-left = map-agree (marked_number (keyed left.cells)) (marked_number numbers) l.marks
-      (λ m n. ap (λ j. record { number = j; purple = m.purple }) (the_number-other m.key (not_marked m n)))
+  buffer-left = search (map-agree, the_number-other, not_marked)
 
   queue-left : map (the_number (keyed left.cells)) ks ≡ map (the_number numbers) ks
   queue-left = map-agree (the_number (keyed left.cells)) (the_number numbers) ks (λ k m. the_number-other k (not_behind k m))

@@ -1,5 +1,5 @@
 -- THE LISTS READ BACK: where the nodes have the links of some lists, those are the lists.
-use Rattle.std.proofs.Common.{◌≡◌, ◌≢◌, ℕ, true, false, List, [], ◌∷◌, ◌++◌, map, length, Option, Some, None, option_map, is_some, get_or, refl, sym, ◌∙◌, ap, subst, ◌==◌}
+use Rattle.std.proofs.Common.{◌≡◌, ◌≢◌, ℕ, true, false, List, [], ◌∷◌, ◌++◌, map, length, Option, Some, None, option_map, is_some, get_or, refl, sym, ◌∙◌, ap, subst, ◌==◌, arith}
 use Rattle.std.proofs.Math.ListN.{set}
 use Rattle.std.proofs.lemmas.Bool.{eq-eqb, ne_eqb, true≢false}
 use Rattle.std.proofs.lemmas.List.{get_or-set_other}
@@ -76,8 +76,7 @@ stored-are n s cells o q b capacity = (
 -- no natives
 pub chained-none : (n : Inside) → slots_in n ≡ [] → IsChain (order_links (slots_in n)) n.order [] → IsChain (queue_links (slots_in n)) n.queue [] →
     IsBuffer (suspect_links (slots_in n)) (marks_in (slots_in n)) n.buffer [] → IsChained n
-chained-none n none o q b =
-    (stored-are n (record { lists = record { cells = []; order = []; queue = []; marks = [] }; capacity = n.nodes.slab.capacity }) (ap cells_of none) o q b refl).1
+chained-none n none o q b = grind (arith, stored-are)
 
 -- THE NATIVES n WERE THESE
 module _ (n : Inside) (i : IsChained n) (s : Stored) (was : stored_of n ≡ s) where
@@ -109,9 +108,7 @@ module _ (n : Inside) (i : IsChained n) (s : Stored) (was : stored_of n ≡ s) w
     queue-beside = subst (λ l. IsChain l n.queue (lists_of n).queue) (sym (ap (λ (t : Threads). t.queue) rest)) i.queue
 
     pub buffer-beside_order : IsBuffer (suspect_links v.slab.slots) (marks_in v.slab.slots) n.buffer (lists_of n).marks
-    buffer-beside_order =
-        subst (λ l. IsBuffer l (marks_in v.slab.slots) n.buffer (lists_of n).marks) (sym (ap (λ (t : Threads). t.suspects) rest))
-        (subst (λ m. IsBuffer (suspect_links (slots_in n)) m n.buffer (lists_of n).marks) (sym (ap (λ (t : Threads). t.marks) rest)) i.buffer)
+    buffer-beside_order = grind arith
 
   -- or the queue,
   pub stored-queue : (v : Nodes) (q : Chain Queue) (change : List ℕ → List ℕ) → beside_queue v.slab ≡ beside_queue n.nodes.slab →

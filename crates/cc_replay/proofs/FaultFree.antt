@@ -16,12 +16,14 @@ use Rattle.clap.specs.declared.builder.value_parser.ValueParser.{ValueParser}
 use Rattle.clap.specs.declared.error.kind.ErrorKind.{ErrorKind}
 use Rattle.clap.specs.declared.error.kind.ErrorKind.TheVariants as kind
 use Rattle.std.specs.Option.{option_map_or}
-use Rattle.std.proofs.lemmas.Bool.{and_from}
 use Rattle.clap.proofs.WalkLemmas.{both}
 
 -- neither of two steps has a fault
 no_fault : (a b : Kinds) → or_else a b ≡ [] → (a ≡ []) × (b ≡ [])
 no_fault a b e = grind arith
+
+and_true : (a b : Bool) → a ≡ true → b ≡ true → (a && b) ≡ true
+and_true a b x y = rw (x, y) refl
 
 -- a test that has no fault where it is true
 test_passes : (b : Bool) (k : ErrorKind) (ks : Kinds) → cond b [] (k ∷ ks) ≡ [] → b ≡ true
@@ -37,7 +39,7 @@ values_free : (i : Bool) (p : ValueParser) (vs : List Text) → values_kinds i p
 values_free i p [] e = refl
 values_free i p (v ∷ vs) e =
     let free = no_fault (value_kinds i p v) _ e in
-    and_from _ _ (value_free i p v free.0) (values_free i p vs free.1)
+    and_true _ _ (value_free i p v free.0) (values_free i p vs free.1)
 
 count_free : (a : Rule) (values : List Text) (rows : List Row) → Faults.count_fault a values rows ≡ [] → Takes.count_passes a values rows ≡ true
 count_free a values rows e = grind (arith, value_free, values_free)
@@ -50,7 +52,7 @@ repeat_free true false k e = cc
 set_free : (again : Bool) (a : Rule) (values : List Text) (rows : List Row) → Faults.set_fault again a values rows ≡ [] → Takes.set_passes again a values rows ≡ true
 set_free again a values rows e =
     let free = no_fault (Faults.repeat_fault again a.id rows) _ e in
-    and_from _ _ (repeat_free (has_row a.id rows) again _ free.0) (values_free a.ignore_case (parser_of_value a.parser) values free.1)
+    and_true _ _ (repeat_free (has_row a.id rows) again _ free.0) (values_free a.ignore_case (parser_of_value a.parser) values free.1)
 
 action_free : (x : ArgAction) (again : Bool) (a : Rule) (values : List Text) (rows : List Row) → Faults.action_fault x again a values rows ≡ []
     → Takes.action_passes x again a values rows ≡ true
@@ -63,7 +65,7 @@ use_free : (again : Bool) (a : Rule) (values : List Text) (rows : List Row) → 
 use_free again a values rows e =
     let free = no_fault (range_kinds (unwrap_or_range a.range).start_inclusive (most_values a) (length values)) _ e in
     let within = range_free (unwrap_or_range a.range).start_inclusive (most_values a) (length values) free.0 in
-    and_from _ _ within.0 (and_from _ _ within.1 (action_free (action_of a) again a (values_or_missing a values) rows free.1))
+    and_true _ _ within.0 (and_true _ _ within.1 (action_free (action_of a) again a (values_or_missing a values) rows free.1))
 
 -- ---- the walk over the words
 
@@ -74,7 +76,7 @@ react_free : (c : List Rule) (again : Bool) (a : Rule) (values : List Text) (h :
     → Takes.react_passes c again a values h ≡ true
 react_free c again a values h e =
     let free = no_fault (Faults.settle_fault c again h) _ e in
-    and_from _ _ (settle_free c again h free.0) (use_free again a values (settled c h).rows free.1)
+    and_true _ _ (settle_free c again h free.0) (use_free again a values (settled c h).rows free.1)
 
 option_free : (c : List Rule) (again : Bool) (a : Rule) (v : Option Text) (h : Held) → Faults.option_fault c again a v h ≡ []
     → Takes.option_passes c again a v h ≡ true
@@ -104,7 +106,7 @@ short_free c again (Some a) rest h fault passes free e = go (takes_values a) e
     go true e = option_free c again a (attached_value rest) h e
     go false e =
         let both = no_fault (Faults.react_fault c again a [] h) _ e in
-        and_from _ _ (react_free c again a [] h both.0) (free _ both.1)
+        and_true _ _ (react_free c again a [] h both.0) (free _ both.1)
 
 step_of_bundle_free : (c : List Rule) (again : Bool) (o : Option ℕ) (flags : Text) (skip : ℕ) (h : Held) (fault : Text → ℕ → Held → Kinds) (passes : Text → ℕ → Held → Bool)
     → ((t : Text) (n : ℕ) (k : Held) → fault t n k ≡ [] → passes t n k ≡ true)
@@ -149,14 +151,14 @@ turn_free s names w word e = go (is_some w.stopped) e
     go true e = refl
     go false e =
         let free = no_fault (Faults.word_fault s names w.is_trailing w.waiting word w.held) _ e in
-        and_from _ _ (word_free s names w.is_trailing w.waiting word w.held free.0) (step_free s w.position met.0 met.1 free.1)
+        and_true _ _ (word_free s names w.is_trailing w.waiting word w.held free.0) (step_free s w.position met.0 met.1 free.1)
 
 walk_free : (s : Shape) (names : Names) (w : Walk) (words : List Text) → Faults.walk_fault s names w words ≡ [] → Takes.walk_passes s names w words ≡ true
 unfolding Faults.walk_fault Takes.walk_passes
 walk_free s names w [] e = refl
 walk_free s names w (word ∷ rest) e =
     let free = no_fault (Faults.turn_fault s names w word) _ e in
-    and_from _ _ (turn_free s names w word free.0) (walk_free s names (walked s.rules names w word) rest free.1)
+    and_true _ _ (turn_free s names w word free.0) (walk_free s names (walked s.rules names w word) rest free.1)
 
 -- ---- after the walk
 
@@ -190,9 +192,9 @@ required_free false rows rules e = all_given rows rules e
 valid_free : (s : Shape) (rows : List Row) (has : Bool) → Faults.has_free_rules s ≡ true → Faults.check_fault s rows has ≡ [] → is_valid s rows has ≡ true
 valid_free s rows has free e =
     let none = checks_free (not has && (s.arg_required_else_help && not (list_any (λ r. explicit_source r.source) rows))) (not has && s.subcommand_required) _ e in
-    and_from _ _ (help_free s.arg_required_else_help has _ none.0)
-    (and_from _ _ (subcommand_free s.subcommand_required has none.1)
-    (and_from _ _ free (required_free (s.subcommand_negates_reqs && has) rows s.rules none.2)))
+    and_true _ _ (help_free s.arg_required_else_help has _ none.0)
+    (and_true _ _ (subcommand_free s.subcommand_required has none.1)
+    (and_true _ _ free (required_free (s.subcommand_negates_reqs && has) rows s.rules none.2)))
 
 -- the defaults of the level's own arguments pass, and no argument has a rule on another
 abbrev pub is_sound_level : Shape → Bool
@@ -207,9 +209,9 @@ level_free s names h words has below sound e =
     let b = no_fault below _ a.1 in
     let c = no_fault (Faults.settle_fault s.rules s.args_override_self end) _ b.1 in
     let d = no_fault (Faults.defaults_fault (settled s.rules end).rows s.rules) _ c.1 in (
-      and_from _ _ (walk_free s names (walk_from h) words a.0)
-          (and_from _ _ (settle_free s.rules s.args_override_self end c.0)
-          (and_from _ _ ready.0 (valid_free s (finished s.rules end) has ready.1 d.1))),
+      and_true _ _ (walk_free s names (walk_from h) words a.0)
+          (and_true _ _ (settle_free s.rules s.args_override_self end c.0)
+          (and_true _ _ ready.0 (valid_free s (finished s.rules end) has ready.1 d.1))),
       b.0,
     )
 
@@ -246,4 +248,4 @@ takes-no_fault a words simple top subs e =
     let given = argument_words a words in
     let stop = (walk (built a).top.rules (names_of (built a)) nothing_held given).stopped in
     let free = level_free (built a).top (names_of (built a)) nothing_held given (is_some (entered (built a) stop)) (Faults.entered_fault (built a) stop) top e in
-    and_from _ _ simple (and_from _ _ (entered_free (built a) stop subs free.1) free.0)
+    and_true _ _ simple (and_true _ _ (entered_free (built a) stop subs free.1) free.0)
