@@ -1,5 +1,5 @@
 -- WHAT SLICES, COLLECTIONS AND `gc` COME TO, by what their units did and told.
-use Rattle.std.proofs.Common.{◌≡◌, ◌≢◌, ℕ, ◌+◌, ◌<◌, Bool, true, false, List, [], ◌++◌, Option, Some, None, is_some, refl, sym, ap, ◌∙◌, subst, arith}
+use Rattle.std.proofs.Common.{◌≡◌, ◌≢◌, ℕ, ◌+◌, ◌<◌, Bool, true, List, [], ◌++◌, Option, None, is_some, refl, sym, ap, ◌∙◌, subst, arith}
 use Rattle.cc_lists.proofs.Held.{is_some-none}
 use Rattle.cc_model.specs.declared.item.Event.{Event}
 use Rattle.cc_model.specs.Telling.{Telling, TellsEvents}

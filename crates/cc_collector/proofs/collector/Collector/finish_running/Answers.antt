@@ -1,8 +1,6 @@
 use Rattle.std.proofs.Common.{arith}
 use Rattle.std.proofs.lemmas.Bool.{false≢true}
 use Rattle.cc_lists.proofs.Held.{is_some-none}
-use Rattle.cc_model.specs.End.{at_end}
-use Rattle.cc_collector.specs.Units.{Keeps, HasDoneAll}
 use Rattle.cc_collector.proofs.Keeping.{Keeps-nothing}
 use Rattle.cc_collector.proofs.collector.Collector.finish_running.Goals as goal
 

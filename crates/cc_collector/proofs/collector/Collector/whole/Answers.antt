@@ -1,12 +1,12 @@
 use Rattle.std.specs.Prelude.{OnOk, OnErr}
-use Rattle.std.proofs.Common.{Result, Ok, Err, Option, None, sym, subst}
+use Rattle.std.proofs.Common.{Result, Option, None, sym, subst, arith}
 use Rattle.std.proofs.lemmas.Result.{on_ok_weaker, on_err_weaker}
 use Rattle.cc_lists.proofs.KnownBytes.{on_err_of}
-use Rattle.cc_model.specs.End.{refused}
+use Rattle.cc_model.specs.End.{refused, at_end}
 use Rattle.cc_builder.specs.Building.{Built}
 use Rattle.cc_collector.specs.Kept.{machine_of}
 use Rattle.cc_collector.specs.Collected.{IsCollected}
-use Rattle.cc_collector.specs.Units.{Keeps}
+use Rattle.cc_collector.specs.Units.{Keeps, HasDoneAll}
 use Rattle.cc_collector.proofs.GivingUp.{collected-given_up}
 use Rattle.cc_collector.proofs.Keeping.{Keeps-then}
 use Rattle.cc_collector.proofs.UnitsSpare.{collected-keeps, collected-tells}

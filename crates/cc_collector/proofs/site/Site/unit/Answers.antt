@@ -1,7 +1,5 @@
-use Rattle.std.proofs.Common.{◌≡◌, ◌≢◌, ◌∙◌, Option, None, Some, sym, ap, subst, rules, arith}
+use Rattle.std.proofs.Common.{◌≡◌, ◌≢◌, ◌∙◌, Option, Some, sym, ap, subst, arith}
 use Rattle.cc_model.specs.End.{refused}
-use Rattle.cc_graph.specs.Held.{AreHeld}
-use Rattle.cc_heaps.specs.HasKey.{HasKey}
 use Rattle.cc_builder.specs.declared.build.Step.{Step}
 use Rattle.cc_builder.specs.declared.build.Step.TheVariants.{Traversed, Gone, Complete}
 use Rattle.cc_builder.specs.Building.{Built, snapshot_of}
