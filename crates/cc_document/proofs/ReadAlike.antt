@@ -1,5 +1,5 @@
 -- THE HEAPS READ AS THE GRAPH DOES, of what a variable holds: its listener and its data too.
-use Rattle.std.proofs.Common.{◌≡◌, ℕ, Bool, true, false, List, get_or, Option, Some, None, is_some, IsTrue, option_map, refl, sym, ◌∙◌, ap, subst}
+use Rattle.std.proofs.Common.{arith, ◌≡◌, ℕ, Bool, true, false, List, get_or, Option, Some, None, is_some, IsTrue, option_map, refl, sym, ◌∙◌, ap, subst}
 use Rattle.std.specs.Option.{option_and_then}
 use Rattle.std.proofs.lemmas.Bool.{and_parts, false≢true}
 use Rattle.cc_lists.specs.Members.{Among}
