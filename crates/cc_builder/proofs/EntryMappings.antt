@@ -1,10 +1,10 @@
--- ENTRIES OF WEAK MAPS AS MAPPINGS: what they add to the nodes and to the mappings of a build.
-use Rattle.std.proofs.Common.{◌≡◌, ◌≢◌, ℕ, suc, ◌+◌, ◌<◌, ◌≤◌, Bool, true, false, cond, List, [], ◌∷◌, ◌++◌, map, length, take, drop, get_or, Option, Some, None, IfSome, option_map, option_to_list, refl, sym, ◌∙◌, ap, subst, arith, add-one, append_assoc, slice_get, slice_index_or}
+-- WHAT ENTRIES OF WEAK MAPS GIVE, AS MAPPINGS: what they add to the nodes and to the mappings of a build.
+use Rattle.std.proofs.Common.{◌≡◌, ◌≢◌, ℕ, suc, ◌+◌, ◌<◌, ◌≤◌, Bool, true, false, cond, List, [], ◌∷◌, ◌++◌, map, length, take, drop, get_or, Option, Some, None, Result, Ok, Err, OnOk, OnErr, IfSome, option_map, option_to_list, IsTrue, refl, sym, ◌∙◌, ap, subst, arith, add-one, append_assoc, slice_get, slice_index_or}
 use Rattle.std.specs.List.{filter, flat_map}
 use Rattle.std.proofs.Math.Seq.{drop-cons}
 use Rattle.std.proofs.lemmas.Grind.{flat_map-append}
 use Rattle.std.proofs.lemmas.List.Folds.{flat_map-map}
-use Rattle.std.proofs.lemmas.List.{drop_all, get_or-take, length-map, map_push, take-append-drop}
+use Rattle.std.proofs.lemmas.List.{append-nil, drop_all, get_or-take, length-map, map_push, take-append-drop}
 use Rattle.std.proofs.lemmas.Option.{slice_get-get_or}
 use denote.Enum.Bare.{sameb}
 use Rattle.cc_lists.specs.Members.{Among, with_last, with_all_last}
@@ -17,7 +17,7 @@ use Rattle.cc_names.specs.declared.name.Name.{Name}
 use Rattle.cc_names.specs.declared.number.SKey.{SKey}
 use Rattle.cc_names.specs.Names.{native, same_name}
 use Rattle.cc_names.proofs.NameTests.{same_name-exact}
-use Rattle.cc_model.specs.Entries.{Entry}
+use Rattle.cc_model.specs.Entries.{Entry, Joint, joint, key_joint, joints_of, joints}
 use Rattle.cc_model.specs.Heap.{Heap, is_gray_in}
 use Rattle.cc_model.specs.Snapshot.{Mapping}
 use Rattle.cc_model.specs.Units.{if_gray, mappings_of, members_of}
@@ -25,15 +25,15 @@ use Rattle.cc_model.specs.Units as units
 use Rattle.cc_counted.specs.declared.held.Held.TheVariants as held
 use Rattle.cc_weakmaps.specs.Entries.{KeyedEntry}
 use Rattle.cc_weakmaps.specs.Entries as keyed
-use Rattle.cc_weakmaps.specs.Living.{script_key}
-use Rattle.cc_script.specs.Objects.{Object, colour_at}
+use Rattle.cc_script.specs.Objects.{Object, colour_at, is_there}
 use Rattle.cc_graph.specs.Shown.{Vertex, Hyperedge, hyperedge, number_of}
 use Rattle.cc_graph.specs.Closed.{AreHyperedgesWithin, IsHyperedgeWithin}
 use Rattle.cc_marking.specs.Marking.{IsEntryThere}
-use Rattle.cc_heaps.specs.Keyed.{Keyed, IsInOrder, named_entry, the_name_at}
+use Rattle.cc_heaps.specs.Keyed.{Keyed, IsInOrder, name_held, named_entry, the_name_at}
 use Rattle.cc_heaps.specs.Changes.{IsScriptThere}
+use Rattle.cc_heaps.proofs.Reaching.{the_name-there}
 use Rattle.cc_builder.specs.Building.{Built, mapping_of, vertex_name, vertex_names}
-use Rattle.cc_builder.specs.BuildSteps.{IsMapNode, mappings_at, mappings_in, the_name, with_vertex_of}
+use Rattle.cc_builder.specs.BuildSteps.{IsMapNode, entry_mappings, key_mappings, mappings_at, mappings_in, named_joint, the_name, with_vertex_of}
 use Rattle.cc_builder.proofs.Begun.{with_all_last-append, with_all_last-first, with_all_last-longer}
 use Rattle.cc_builder.proofs.BuildNodes.{mapping-same, mappings-alike, member-alike, names-with_vertex, number_of-at}
 use Rattle.cc_builder.proofs.BuildPlaces.{left-some, right-some}
@@ -121,7 +121,7 @@ known-member v vs key i known = record {
   within = known.within;
 }
 
-module _ (h : Heap) (e : Entry) (vs ws us zs : List Vertex) (i j : Option ℕ) (k : ℕ) (m : IsMember h vs ws e.the_map i) (l : IsMember h ws us e.key j) (n : IsValue us zs e.value k) where
+module _ (h : Heap) (e : Joint) (vs ws us zs : List Vertex) (i j : Option ℕ) (k : ℕ) (m : IsMember h vs ws e.the_map i) (l : IsMember h ws us e.key j) (n : IsValue us zs e.value k) where
   at : (k < length zs) × (vertex_name zs k ≡ e.value)
   at = number_of-at zs e.value k n.number
 
@@ -184,30 +184,36 @@ module _ (h : Heap) (e : Entry) (vs ws us zs : List Vertex) (i j : Option ℕ) (
   pub map-within : IfSome i (λ q. q < length zs)
   map-within = member-within (length ws) i m.within longer
 
--- The entries one after the other
+-- What entries give, one after the other
 
--- an entry is noted where its value is gray
-mappings-gray : (h : Heap) (e : Entry) → is_gray_in h e.value ≡ true → mappings_in h e ≡ units.mapping_of h e ∷ []
+-- a joint is noted where it gives something gray
+mappings-gray : (h : Heap) (e : Joint) → is_gray_in h e.value ≡ true → mappings_in h e ≡ units.mapping_of h e ∷ []
 mappings-gray h e gray = ap (λ b. elim b [ true ↦ units.mapping_of h e ∷ [] | false ↦ [] ]) gray
 
-mappings-none : (h : Heap) (e : Entry) → is_gray_in h e.value ≡ false → mappings_in h e ≡ []
+mappings-none : (h : Heap) (e : Joint) → is_gray_in h e.value ≡ false → mappings_in h e ≡ []
 mappings-none h e gray = ap (λ b. elim b [ true ↦ units.mapping_of h e ∷ [] | false ↦ [] ]) gray
 
-mappings-each : (h : Heap) (es : List Entry) → flat_map (mappings_in h) es ≡ map (units.mapping_of h) (filter (λ (e : Entry). is_gray_in h e.value) es)
+mappings-each : (h : Heap) (es : List Joint) → flat_map (mappings_in h) es ≡ map (units.mapping_of h) (filter (λ (e : Joint). is_gray_in h e.value) es)
 mappings-each h [] = refl
 mappings-each h (e ∷ es) = go (mappings-each h es) (is_gray_in h e.value)
   where
-    rest : List Entry
-    rest = filter (λ (f : Entry). is_gray_in h f.value) es
+    rest : List Joint
+    rest = filter (λ (f : Joint). is_gray_in h f.value) es
 
     go : flat_map (mappings_in h) es ≡ map (units.mapping_of h) rest → (b : Bool) →
         elim b [ true ↦ units.mapping_of h e ∷ [] | false ↦ [] ] ++ flat_map (mappings_in h) es ≡ map (units.mapping_of h) (cond b (e ∷ rest) rest)
     go ih true = ap (λ ms. units.mapping_of h e ∷ ms) ih
     go ih false = ih
 
+-- entry by entry as joint by joint
+mappings-joints : (h : Heap) (es : List Entry) → flat_map (entry_mappings h) es ≡ flat_map (mappings_in h) (joints es)
+mappings-joints h [] = refl
+mappings-joints h (e ∷ es) =
+    ap (λ ms. entry_mappings h e ++ ms) (mappings-joints h es) ∙ sym (flat_map-append (mappings_in h) (joints_of e) (joints es))
+
 -- the entry at a place
-mappings-at : (v : Keyed) (i : ℕ) (e : KeyedEntry) → slice_get v.entries i ≡ Some e → mappings_at v i ≡ mappings_in v.heap (named_entry v.scripts e)
-mappings-at v i e at = ap (λ (o : Option KeyedEntry). elim o [ None ↦ [] | Some f ↦ mappings_in v.heap (named_entry v.scripts f) ]) at
+mappings-at : (v : Keyed) (i : ℕ) (e : KeyedEntry) → slice_get v.entries i ≡ Some e → mappings_at v i ≡ entry_mappings v.heap (named_entry v.scripts e)
+mappings-at v i e at = ap (λ (o : Option KeyedEntry). elim o [ None ↦ [] | Some f ↦ entry_mappings v.heap (named_entry v.scripts f) ]) at
 
 module _ (v : Keyed) (es : List KeyedEntry) (i : ℕ) (e : KeyedEntry) (same : es ≡ v.entries) (at : slice_get es i ≡ Some e) where
   read : slice_get v.entries i ≡ Some e
@@ -217,50 +223,60 @@ module _ (v : Keyed) (es : List KeyedEntry) (i : ℕ) (e : KeyedEntry) (same : e
   pub entry-there : IsInOrder [] v → IsEntryThere v.scripts e
   entry-there order = order.entries_there e (place-among e v.entries i read)
 
-  -- whether its value is gray, as its colour was read
-  value-gray : IsInOrder [] v → (objects : List Object) (colour : Colour) → objects ≡ v.scripts → colour_at objects e.value ≡ Some colour →
-      is_gray_in v.heap (the_name_at v.scripts e.value) ≡ sameb the_type colour Gray
-  value-gray order objects colour are has = object-gray v objects (script_key e.value) colour order (entry-there order).value are has
+  -- its mappings are first that of its key, then that of its value
+  pub entry-split : mappings_at v i ≡ key_mappings v e.the_map e.delegate e.key ++ mappings_in v.heap (named_joint v.scripts e.the_map e.key e.value)
+  entry-split =
+      let j = named_joint v.scripts e.the_map e.key e.value in
+      mappings-at v i e read
+      ∙ flat_map-append (mappings_in v.heap) (key_joint (the_name_at v.scripts e.the_map) (name_held v.scripts e.delegate) (the_name_at v.scripts e.key)) (j ∷ [])
+      ∙ ap (λ ms. key_mappings v e.the_map e.delegate e.key ++ ms) (append-nil (mappings_in v.heap j))
 
+-- a key that has no delegate gives nothing, and one that has one gives one joint
+pub key-joint : (v : Keyed) (m d k : ℕ) → IsTrue (is_there v.scripts d) → key_mappings v m (Some d) k ≡ mappings_in v.heap (named_joint v.scripts m d k)
+key-joint v m d k there =
+    ap (λ (o : Option Name). flat_map (mappings_in v.heap) (key_joint (the_name_at v.scripts m) o (the_name_at v.scripts k))) (the_name-there v.scripts d there)
+    ∙ append-nil (mappings_in v.heap (named_joint v.scripts m d k))
+
+-- whether what a joint gives is gray, as its colour was read
+module _ (v : Keyed) (order : IsInOrder [] v) (objects : List Object) (m k x : SKey) (colour : Colour) (there : IsScriptThere v (Some x)) (are : objects ≡ v.scripts)
+    (has : colour_at objects x.0 ≡ Some colour) where
   -- it gives one mapping or none
-  pub noted-one : IsInOrder [] v → (objects : List Object) (colour : Colour) → objects ≡ v.scripts → colour_at objects e.value ≡ Some colour →
-      sameb the_type colour Gray ≡ true → mappings_at v i ≡ units.mapping_of v.heap (named_entry v.scripts e) ∷ []
-  noted-one order objects colour are has gray =
-      mappings-at v i e read ∙ mappings-gray v.heap (named_entry v.scripts e) (value-gray order objects colour are has ∙ gray)
+  pub noted-one : sameb the_type colour Gray ≡ true →
+      mappings_in v.heap (named_joint v.scripts m.0 k.0 x.0) ≡ units.mapping_of v.heap (named_joint v.scripts m.0 k.0 x.0) ∷ []
+  noted-one gray = mappings-gray v.heap (named_joint v.scripts m.0 k.0 x.0) (object-gray v objects x colour order there are has ∙ gray)
 
-  pub noted-none : IsInOrder [] v → (objects : List Object) (colour : Colour) → objects ≡ v.scripts → colour_at objects e.value ≡ Some colour →
-      sameb the_type colour Gray ≡ false → mappings_at v i ≡ []
-  noted-none order objects colour are has other =
-      mappings-at v i e read ∙ mappings-none v.heap (named_entry v.scripts e) (value-gray order objects colour are has ∙ other)
+  pub noted-none : sameb the_type colour Gray ≡ false → mappings_in v.heap (named_joint v.scripts m.0 k.0 x.0) ≡ []
+  noted-none other = mappings-none v.heap (named_joint v.scripts m.0 k.0 x.0) (object-gray v objects x colour order there are has ∙ other)
 
 -- THOSE THAT ARE LEFT, from a place on
 abbrev pub mappings_from : Keyed → ℕ → List Mapping
-mappings_from v i = flat_map (λ (e : KeyedEntry). mappings_in v.heap (named_entry v.scripts e)) (drop i v.entries)
+mappings_from v i = flat_map (λ (e : KeyedEntry). entry_mappings v.heap (named_entry v.scripts e)) (drop i v.entries)
 
 -- from the first on all
 pub mappings-all : (v : Keyed) → IsInOrder [] v → mappings_from v 0 ≡ mappings_of v.heap
 mappings-all v order =
-    sym (flat_map-map (mappings_in v.heap) (named_entry v.scripts) v.entries)
-    ∙ ap (flat_map (mappings_in v.heap)) (sym order.entries)
-    ∙ mappings-each v.heap v.heap.entries
+    sym (flat_map-map (entry_mappings v.heap) (named_entry v.scripts) v.entries)
+    ∙ ap (flat_map (entry_mappings v.heap)) (sym order.entries)
+    ∙ mappings-joints v.heap v.heap.entries
+    ∙ mappings-each v.heap (joints v.heap.entries)
 
 -- those of the next place, and those from the one behind it on
 mappings-next : (v : Keyed) (i : ℕ) → i < length v.entries → mappings_from v i ≡ mappings_at v i ++ mappings_from v (i + 1)
 mappings-next v i l =
-    let d = keyed.entry 0 0 0 in
-    let f : KeyedEntry → List Mapping = λ e. mappings_in v.heap (named_entry v.scripts e) in
+    let d = keyed.entry 0 0 None 0 in
+    let f : KeyedEntry → List Mapping = λ e. entry_mappings v.heap (named_entry v.scripts e) in
     ap (flat_map f) (drop-cons v.entries i d l)
     ∙ ap (λ ms. ms ++ flat_map f (drop (suc i) v.entries)) (sym (mappings-at v i (get_or v.entries i d) (slice_get-get_or v.entries i d l)))
     ∙ ap (λ n. mappings_at v i ++ flat_map f (drop n v.entries)) (sym (add-one i))
 
 -- behind the last none
 pub mappings-end : (v : Keyed) (i : ℕ) → length v.entries ≤ i → mappings_from v i ≡ []
-mappings-end v i l = ap (flat_map (λ (e : KeyedEntry). mappings_in v.heap (named_entry v.scripts e))) (drop_all i v.entries l)
+mappings-end v i l = ap (flat_map (λ (e : KeyedEntry). entry_mappings v.heap (named_entry v.scripts e))) (drop_all i v.entries l)
 
 -- where one place has some, there are some
 pub mappings-some : (v : Keyed) (i : ℕ) → IsInOrder [] v → i < length v.entries → mappings_at v i ≢ [] → mappings_of v.heap ≢ []
 mappings-some v i order l some none =
-    let f : KeyedEntry → List Mapping = λ e. mappings_in v.heap (named_entry v.scripts e) in
+    let f : KeyedEntry → List Mapping = λ e. entry_mappings v.heap (named_entry v.scripts e) in
     right-some (flat_map f (take i v.entries)) (mappings_from v i)
     (λ e. left-some (mappings_at v i) (mappings_from v (i + 1)) some (sym (mappings-next v i l) ∙ e))
     (sym (flat_map-append f (take i v.entries) (drop i v.entries))
@@ -286,3 +302,25 @@ turn-mappings v i ms ns all l e so_far =
     ∙ append_assoc ms (mappings_at v i) (mappings_from v (i + 1))
     ∙ ap (λ os. ms ++ os) (sym (mappings-next v i l))
     ∙ so_far
+
+-- One entry: what is noted of its key, then what is noted of its value
+
+pub ok-then : {T E P Q : Type 0} (r : Result T E) → OnOk r P → (P → Q) → OnOk r Q
+ok-then (Ok x) p f = f p
+ok-then (Err e) p f = tt
+
+pub err-then : {T E P Q : Type 0} (r : Result T E) → OnErr r P → (P → Q) → OnErr r Q
+err-then (Ok x) p f = tt
+err-then (Err e) p f = f p
+
+pub both-members : (xs ys zs : List Name) (ms ns all : List Mapping) → all ≡ ms ++ ns → ys ≡ with_all_last same_name xs (flat_map members_of ms) →
+    zs ≡ with_all_last same_name ys (flat_map members_of ns) → zs ≡ with_all_last same_name xs (flat_map members_of all)
+both-members xs ys zs ms ns all split first second =
+    second
+    ∙ ap (λ us. with_all_last same_name us (flat_map members_of ns)) first
+    ∙ sym (with_all_last-append xs (flat_map members_of ms) (flat_map members_of ns))
+    ∙ ap (with_all_last same_name xs) (sym (ap (flat_map members_of) split ∙ flat_map-append members_of ms ns))
+
+pub both-mappings : (os ps qs ms ns all : List Mapping) → all ≡ ms ++ ns → ps ≡ os ++ ms → qs ≡ ps ++ ns → qs ≡ os ++ all
+both-mappings os ps qs ms ns all split first second =
+    second ∙ ap (λ rs. rs ++ ns) first ∙ append_assoc os ms ns ∙ ap (λ rs. os ++ rs) (sym split)

@@ -1,4 +1,4 @@
--- NO SCRIPT OBJECT IS GRAY: no native holds a gray one then, and no entry has a gray value.
+-- NO SCRIPT OBJECT IS GRAY: no native holds a gray one then, and no entry gives one.
 use Rattle.std.proofs.Common.{◌≡◌, Bool, true, false, ◌||◌, ◌↔◌, List, [], ◌∷◌, ◌++◌, flat_map, map, Option, Some, None, is_some, IsTrue, find, refl, sym, ◌∙◌, ap, subst}
 use Rattle.std.specs.List.{filter, list_any}
 use Rattle.std.proofs.lemmas.Bool.{true≢false}
@@ -12,7 +12,7 @@ use Rattle.cc_names.specs.declared.kind.Colour.{Colour}
 use Rattle.cc_names.specs.declared.kind.Colour.TheVariants.{White, Gray, Black}
 use Rattle.cc_names.specs.Names.{native, same_name}
 use Rattle.cc_model.specs.Heap.{HeapNative, HeapScript, is_gray_colour, is_gray_in}
-use Rattle.cc_model.specs.Entries.{Entry}
+use Rattle.cc_model.specs.Entries.{Joint, joints}
 use Rattle.cc_model.specs.Snapshot.{Mapping}
 use Rattle.cc_model.specs.Slots.{contents}
 use Rattle.cc_model.specs.Places.{places_of_native}
@@ -68,7 +68,7 @@ module _ (v : Keyed) (scripts : List Object) (found : Bool) (order : IsInOrder [
 
   -- and there are no mappings
   mappings-none : mappings_of v.heap ≡ []
-  mappings-none = ap (map (mapping_of v.heap)) (filter-nothing (λ (e : Entry). is_gray_in v.heap e.value) v.heap.entries (λ e m. names-none e.value))
+  mappings-none = ap (map (mapping_of v.heap)) (filter-nothing (λ (e : Joint). is_gray_in v.heap e.value) (joints v.heap.entries) (λ e m. names-none e.value))
 
   pub mappings-passed : (ms : List Mapping) → ms ≡ ms ++ mappings_of v.heap
   mappings-passed ms = sym (ap (λ more. ms ++ more) mappings-none ∙ append-nil ms)

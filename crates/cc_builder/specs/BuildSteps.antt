@@ -3,7 +3,7 @@ use Rattle.std.specs.Prelude.{◌≡◌, ℕ, ◌+◌, ◌-◌, ◌<◌, length,
 use Rattle.cc_names.specs.declared.name.Name.{Name}
 use Rattle.cc_names.specs.Names.{native}
 use Rattle.cc_model.specs.Slots.{from_to}
-use Rattle.cc_model.specs.Entries.{Entry}
+use Rattle.cc_model.specs.Entries.{Entry, Joint, joint, key_joint, joints_of}
 use Rattle.cc_model.specs.Heap.{Heap, is_gray_in}
 use Rattle.cc_model.specs.Snapshot.{Mapping, Snapshot}
 use Rattle.cc_model.specs.Units.{with_nodes, if_gray, is_noted, mapping_of}
@@ -11,7 +11,8 @@ use Rattle.cc_counted.specs.declared.held.Held.{Held}
 use Rattle.cc_counted.specs.declared.held.Held.TheVariants as held
 use Rattle.cc_counted.specs.Counts as counts
 use Rattle.cc_graph.specs.Shown.{Vertex, Hyperedge, Rooms, with_vertex, with_sample, change_vertex}
-use Rattle.cc_heaps.specs.Keyed.{Keyed, counts_of, named_entry, the_name_at}
+use Rattle.cc_script.specs.Objects.{Object}
+use Rattle.cc_heaps.specs.Keyed.{Keyed, counts_of, name_held, named_entry, the_name_at}
 use Rattle.cc_heaps.specs.Changes.{held_name}
 use Rattle.cc_heaps.specs.Places.{places_at}
 use Rattle.cc_counted.specs.Suspects.{is_purple_in}
@@ -73,13 +74,25 @@ noting s x ys = record s { nodes = with_nodes s.nodes ys; references = s.referen
 abbrev pub noting_one : Snapshot → Name → Name → Snapshot
 noting_one s x y = noting s x (y ∷ [])
 
--- the mappings of an entry: one where its value is gray, else none
-abbrev pub mappings_in : Heap → Entry → List Mapping
+-- the mappings of a joint: one where it gives a gray object, else none
+abbrev pub mappings_in : Heap → Joint → List Mapping
 mappings_in h e = elim (is_gray_in h e.value) [ true ↦ mapping_of h e ∷ [] | false ↦ [] ]
+
+-- those of an entry
+abbrev pub entry_mappings : Heap → Entry → List Mapping
+entry_mappings h e = flat_map (mappings_in h) (joints_of e)
 
 -- those of the entry at a place
 abbrev pub mappings_at : Keyed → ℕ → List Mapping
-mappings_at v i = elim (slice_get v.entries i) [ None ↦ [] | Some e ↦ mappings_in v.heap (named_entry v.scripts e) ]
+mappings_at v i = elim (slice_get v.entries i) [ None ↦ [] | Some e ↦ entry_mappings v.heap (named_entry v.scripts e) ]
+
+-- the joint of what stands at three keys
+abbrev pub named_joint : List Object → ℕ → ℕ → ℕ → Joint
+named_joint objects m k x = joint (the_name_at objects m) (the_name_at objects k) (the_name_at objects x)
+
+-- the mappings of a key by its map and its delegate
+abbrev pub key_mappings : Keyed → ℕ → Option ℕ → ℕ → List Mapping
+key_mappings v m d k = flat_map (mappings_in v.heap) (key_joint (the_name_at v.scripts m) (name_held v.scripts d) (the_name_at v.scripts k))
 
 -- the number of the node of a map by its key: none where the map is not gray
 pub record IsMapNode (v : Keyed) (vs : List Vertex) (key : ℕ) (node : Option ℕ) : Type 0 where

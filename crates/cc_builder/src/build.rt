@@ -60,9 +60,10 @@ impl Model for Build {
 
 impl Build {
     /// Begins a collection: the purple natives of the buffer, in its order, become nodes (the candidates), then each
-    /// native that holds a gray script object, in a slot or as its preserved reflector, by rising number. Each entry of a
-    /// weak map whose value is gray is noted as a mapping, in the order in which entries were first set; its map and its
-    /// key, each where it is gray, and its value become nodes. And the buffer is emptied.
+    /// native that holds a gray script object, in a slot or as its preserved reflector, by rising number. What each entry of
+    /// a weak map gives that is gray is noted as a mapping, in the order in which entries were first set: first a key that is
+    /// a gray proxy, by map and delegate, then a gray value, by map and key; the two, each where it is gray, and what they
+    /// give become nodes. And the buffer is emptied.
     ///
     /// `NoMemory`, only where a node is added, leaves the buffer's contents, order and marks as they were.
     pub fn begin(alloc: Global, heaps: &mut Heaps) -> Result<Build, NoMemory>

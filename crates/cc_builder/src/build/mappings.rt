@@ -1,4 +1,4 @@
-//! The entries of weak maps with a gray value, noted as mappings.
+//! What entries of weak maps give that is gray, noted as mappings: of an entry first a key that is a proxy, then its value.
 ghost use Rattle.std.specs.Prelude.{◌≡◌, ◌≢◌, ◌<◌, ◌++◌, ◌∷◌, [], length, map, flat_map, IsTrue, IfOk, IfSome, OnOk, OnErr, Some, option_map, option_to_list};
 ghost use Rattle.cc_lists.specs.Members.{with_all_last};
 ghost use Rattle.cc_names.specs.Names.{same_name};
@@ -6,11 +6,10 @@ ghost use Rattle.cc_model.specs.Units.{if_gray, mappings_of, members_of};
 ghost use Rattle.cc_model.specs.Units as units;
 ghost use Rattle.cc_script.specs.Objects.{is_there};
 ghost use Rattle.cc_graph.specs.Held.{AreHeld};
-ghost use Rattle.cc_heaps.specs.Keyed.{IsInOrder, named_entry, the_name_at};
-ghost use Rattle.cc_weakmaps.specs.Entries.{entry};
+ghost use Rattle.cc_heaps.specs.Keyed.{IsInOrder, the_name_at};
 ghost use Rattle.cc_heaps.specs.HasKey.{HasKey};
 ghost use Rattle.cc_builder.specs.Building.{IsBuilt, mapping_of, vertex_name, vertex_names};
-ghost use Rattle.cc_builder.specs.BuildSteps.{IsMapNode, mappings_at};
+ghost use Rattle.cc_builder.specs.BuildSteps.{IsMapNode, key_mappings, mappings_at, mappings_in, named_joint};
 
 use crate::build::Build;
 use cc_counted::Held;
@@ -25,8 +24,9 @@ struct MapNode {
 }
 
 impl Build {
-    /// Each entry of a weak map whose value is gray is noted as a mapping, in the order in which entries were first set.
-    /// Its map and its key, each where it is gray, and its value become nodes, in this order, last, where they are none.
+    /// What each entry of a weak map gives that is gray is noted as a mapping, in the order in which entries were first
+    /// set: first a key that is a gray proxy, by map and delegate, then a gray value, by map and key. The two that give it,
+    /// each where it is gray, and what they give become nodes, in this order, last, where they are none.
     ///
     /// `NoMemory` only where there is such an entry.
     pub(super) fn add_mappings(&mut self, heaps: &Heaps) -> Result<(), NoMemory>
@@ -46,7 +46,7 @@ impl Build {
         ensures held { AreHeld self.new.graph (HasKey heaps.now) }
     {
         if !heaps.scripts().has_colour(Colour::Gray) {
-            // nothing is gray, so no entry has a gray value
+            // nothing is gray, so no entry gives anything gray
             return Ok(());
         }
         let mut last = None;
@@ -56,10 +56,11 @@ impl Build {
         Ok(())
     }
 
-    /// The entry at place `i`, counted from 0, is noted where its value is gray. The map of the last one that was noted, with
-    /// its node; `last` is that of the one before, whose node is not looked up again.
+    /// What the entry at place `i`, counted from 0, gives is noted where it is gray: first its key, where this is a proxy,
+    /// then its value. The map of the last one that was noted, with its node; `last` is that of the one before, whose node is
+    /// not looked up again.
     ///
-    /// `NoMemory` only where it is.
+    /// `NoMemory` only where one of them is.
     fn add_mapping(
         &mut self,
         i: usize,
@@ -84,19 +85,93 @@ impl Build {
         ensures built { IsBuilt self.new heaps.now }
         ensures held { AreHeld self.new.graph (HasKey heaps.now) }
     {
-        let (the_map, key, value) = heaps.weak().entry(i);
+        let (the_map, key, delegate, value) = heaps.weak().entry(i);
+        let last = self.add_key(the_map, delegate, key, last, heaps)?;
+        self.add_joint(the_map, key, value, last, heaps)
+    }
+
+    /// The key of an entry is noted, by map and delegate, where it is a proxy and gray. The map of the last one that was
+    /// noted, with its node.
+    ///
+    /// `NoMemory` only where it is.
+    fn add_key(
+        &mut self,
+        the_map: SKey,
+        delegate: Option<SKey>,
+        key: SKey,
+        last: Option<MapNode>,
+        heaps: &Heaps,
+    ) -> Result<Option<MapNode>, NoMemory>
+        requires built { IsBuilt self.old heaps.now }
+        requires held { AreHeld self.old.graph (HasKey heaps.now) }
+        requires order { IsInOrder [] heaps.now }
+        requires the_map { IsTrue (is_there heaps.now.scripts the_map.0) }
+        requires delegate { IfSome delegate (λ d. IsTrue (is_there heaps.now.scripts d.0)) }
+        requires key { IsTrue (is_there heaps.now.scripts key.0) }
+        requires last { IfSome last (λ m. IsMapNode heaps.now self.old.graph.nodes m.the_map.0 m.node) }
+        ensures last { IfOk result (λ l. IfSome l (λ m. IsMapNode heaps.now self.new.graph.nodes m.the_map.0 m.node)) }
+        ensures names { OnOk result (vertex_names self.new.graph.nodes
+            ≡ with_all_last same_name (vertex_names self.old.graph.nodes) (flat_map members_of (key_mappings heaps.now the_map.0 (option_map (λ d. d.0) delegate) key.0))) }
+        ensures mappings { OnOk result (map (mapping_of self.new.graph.nodes) self.new.graph.hyperedges
+            ≡ map (mapping_of self.old.graph.nodes) self.old.graph.hyperedges ++ key_mappings heaps.now the_map.0 (option_map (λ d. d.0) delegate) key.0) }
+        ensures edges { self.new.graph.edges ≡ self.old.graph.edges }
+        ensures next { self.new.next ≡ self.old.next }
+        ensures candidates { self.new.candidates ≡ self.old.candidates }
+        ensures spare { self.new.graph.spare ≡ self.old.graph.spare }
+        ensures refused { OnErr result (key_mappings heaps.now the_map.0 (option_map (λ d. d.0) delegate) key.0 ≢ []) }
+        ensures built { IsBuilt self.new heaps.now }
+        ensures held { AreHeld self.new.graph (HasKey heaps.now) }
+    {
+        match delegate {
+            Some(delegate) => self.add_joint(the_map, delegate, key, last, heaps),
+            None => Ok(last),
+        }
+    }
+
+    /// What two members of an entry, the first of which is its map, give together is noted where it is gray. The map of the
+    /// last one that was noted, with its node.
+    ///
+    /// `NoMemory` only where it is.
+    fn add_joint(
+        &mut self,
+        the_map: SKey,
+        key: SKey,
+        value: SKey,
+        last: Option<MapNode>,
+        heaps: &Heaps,
+    ) -> Result<Option<MapNode>, NoMemory>
+        requires built { IsBuilt self.old heaps.now }
+        requires held { AreHeld self.old.graph (HasKey heaps.now) }
+        requires order { IsInOrder [] heaps.now }
+        requires the_map { IsTrue (is_there heaps.now.scripts the_map.0) }
+        requires key { IsTrue (is_there heaps.now.scripts key.0) }
+        requires value { IsTrue (is_there heaps.now.scripts value.0) }
+        requires last { IfSome last (λ m. IsMapNode heaps.now self.old.graph.nodes m.the_map.0 m.node) }
+        ensures last { IfOk result (λ l. IfSome l (λ m. IsMapNode heaps.now self.new.graph.nodes m.the_map.0 m.node)) }
+        ensures names { OnOk result (vertex_names self.new.graph.nodes
+            ≡ with_all_last same_name (vertex_names self.old.graph.nodes) (flat_map members_of (mappings_in heaps.now.heap (named_joint heaps.now.scripts the_map.0 key.0 value.0)))) }
+        ensures mappings { OnOk result (map (mapping_of self.new.graph.nodes) self.new.graph.hyperedges
+            ≡ map (mapping_of self.old.graph.nodes) self.old.graph.hyperedges ++ mappings_in heaps.now.heap (named_joint heaps.now.scripts the_map.0 key.0 value.0)) }
+        ensures edges { self.new.graph.edges ≡ self.old.graph.edges }
+        ensures next { self.new.next ≡ self.old.next }
+        ensures candidates { self.new.candidates ≡ self.old.candidates }
+        ensures spare { self.new.graph.spare ≡ self.old.graph.spare }
+        ensures refused { OnErr result (mappings_in heaps.now.heap (named_joint heaps.now.scripts the_map.0 key.0 value.0) ≢ []) }
+        ensures built { IsBuilt self.new heaps.now }
+        ensures held { AreHeld self.new.graph (HasKey heaps.now) }
+    {
         if heaps.scripts().colour(value) == Colour::Gray {
-            let node = self.note_entry(the_map, key, value, last, heaps)?;
+            let node = self.note_joint(the_map, key, value, last, heaps)?;
             return Ok(Some(MapNode { the_map, node }));
         }
         Ok(last)
     }
 
-    /// An entry is noted as a mapping: its map and its key, each where it is gray, and its value become nodes, last, where
-    /// they are none. The number of the map's node.
+    /// A mapping is noted: map and key, each where it is gray, and what they give become nodes, last, where they are none.
+    /// The number of the map's node.
     ///
     /// `NoMemory` may leave some of them as nodes.
-    fn note_entry(
+    fn note_joint(
         &mut self,
         the_map: SKey,
         key: SKey,
@@ -113,9 +188,9 @@ impl Build {
         requires last { IfSome last (λ m. IsMapNode heaps.now self.old.graph.nodes m.the_map.0 m.node) }
         ensures node { IfOk result (λ i. IsMapNode heaps.now self.new.graph.nodes the_map.0 i) }
         ensures names { OnOk result (vertex_names self.new.graph.nodes
-            ≡ with_all_last same_name (vertex_names self.old.graph.nodes) (members_of (units.mapping_of heaps.now.heap (named_entry heaps.now.scripts (entry the_map.0 key.0 value.0))))) }
+            ≡ with_all_last same_name (vertex_names self.old.graph.nodes) (members_of (units.mapping_of heaps.now.heap (named_joint heaps.now.scripts the_map.0 key.0 value.0)))) }
         ensures mappings { OnOk result (map (mapping_of self.new.graph.nodes) self.new.graph.hyperedges
-            ≡ map (mapping_of self.old.graph.nodes) self.old.graph.hyperedges ++ units.mapping_of heaps.now.heap (named_entry heaps.now.scripts (entry the_map.0 key.0 value.0)) ∷ []) }
+            ≡ map (mapping_of self.old.graph.nodes) self.old.graph.hyperedges ++ units.mapping_of heaps.now.heap (named_joint heaps.now.scripts the_map.0 key.0 value.0) ∷ []) }
         ensures edges { self.new.graph.edges ≡ self.old.graph.edges }
         ensures next { self.new.next ≡ self.old.next }
         ensures candidates { self.new.candidates ≡ self.old.candidates }
@@ -130,8 +205,8 @@ impl Build {
         Ok(the_map)
     }
 
-    /// The map of an entry becomes a node, as `add_gray` makes it one. Where it is the map of the entry before, its node is
-    /// known.
+    /// The map of an entry becomes a node, as `add_gray` makes it one. Where it is the map of what was noted before, its node
+    /// is known.
     fn map_node(
         &mut self,
         the_map: SKey,

@@ -20,8 +20,8 @@ use cc_names::{Colour, NoMemory, SlotNo};
 impl Build {
     /// One node: the first that is not traversed. The count of a native is sampled, and its references are noted: to
     /// natives, to script objects that are gray, and to its preserved reflector where that is gray. Of a script object
-    /// those to gray ones are noted and, of a reflector, the one to its native. What they lead to becomes a node, last,
-    /// where it is none.
+    /// those to gray ones are noted, of a proxy the one to its delegate where that is gray and, of a reflector, the one to
+    /// its native. What they lead to becomes a node, last, where it is none.
     ///
     /// `NoMemory` only where there is something to note; the build is then only to be abandoned.
     pub fn step(&mut self, heaps: &Heaps) -> Result<Step, NoMemory>

@@ -1,64 +1,75 @@
-use Rattle.std.proofs.Common.{◌≡◌, IsTrue, [], ◌∷◌, ◌++◌, flat_map, map, sym, ◌∙◌, ap, subst}
-use Rattle.std.proofs.lemmas.List.{append-nil}
-use Rattle.cc_lists.specs.Members.{with_all_last}
+use Rattle.std.proofs.Common.{◌≡◌, IsTrue, IfSome, ◌++◌, map, Option, Some, None, option_map, refl, sym, ◌∙◌, ap}
 use Rattle.cc_lists.proofs.KnownBytes.{on_err_of}
-use Rattle.cc_names.specs.Names.{same_name}
-use Rattle.cc_model.specs.Units.{members_of}
-use Rattle.cc_model.specs.Units as units
-use Rattle.cc_weakmaps.specs.Entries.{entry}
-use Rattle.cc_script.specs.Objects.{is_there}
-use Rattle.cc_heaps.specs.Keyed.{named_entry}
+use Rattle.cc_names.specs.declared.number.SKey.{SKey}
+use Rattle.cc_weakmaps.specs.Entries.{KeyedEntry, entry}
+use Rattle.cc_script.specs.Objects.{Object, is_there}
+use Rattle.cc_marking.specs.Marking.{IsEntryThere}
 use Rattle.cc_builder.specs.Building.{mapping_of, vertex_names}
-use Rattle.cc_builder.specs.BuildSteps.{mappings_at}
-use Rattle.cc_builder.proofs.EntryMappings.{entry-there, noted-none, noted-one}
+use Rattle.cc_builder.specs.BuildSteps.{key_mappings, mappings_at, mappings_in, named_joint}
+use Rattle.cc_builder.proofs.BuildPlaces.{left-some, right-some}
+use Rattle.cc_builder.proofs.EntryMappings.{both-mappings, both-members, entry-split, entry-there, err-then, ok-then}
 use Rattle.cc_builder.proofs.build.Build.add_mapping.Goals as goal
 
-pub colour-requires : goal.colour-requires
-colour-requires c =
-    let there = entry-there c.args.heaps.now c.weak.result.now c.args.i (entry c.entry.result.0.0 c.entry.result.1.0 c.entry.result.2.0) c.weak.ensures c.entry.ensures c.requires.order in
-    record { live = subst (λ os. IsTrue (is_there os c.entry.result.2.0)) (sym c.scripts.ensures) there.value }
+-- what the entry names is there
+abbrev the_entry : goal.After-entry → KeyedEntry
+the_entry c = entry c.entry.result.0.0 c.entry.result.1.0 (option_map (λ (k : SKey). k.0) c.entry.result.2) c.entry.result.3.0
 
-pub note_entry-requires-clause-the_map : goal.note_entry-requires-clause-the_map
-note_entry-requires-clause-the_map c =
-    (entry-there c.args.heaps.now c.weak.result.now c.args.i (entry c.entry.result.0.0 c.entry.result.1.0 c.entry.result.2.0) c.weak.ensures c.entry.ensures c.requires.order).the_map
+names-there : (c : goal.After-entry) → IsEntryThere c.args.heaps.now.scripts (the_entry c)
+names-there c = entry-there c.args.heaps.now c.weak.result.now c.args.i (the_entry c) c.weak.ensures c.entry.ensures c.requires.order
 
-pub note_entry-requires-clause-key : goal.note_entry-requires-clause-key
-note_entry-requires-clause-key c =
-    (entry-there c.args.heaps.now c.weak.result.now c.args.i (entry c.entry.result.0.0 c.entry.result.1.0 c.entry.result.2.0) c.weak.ensures c.entry.ensures c.requires.order).key
+pub add_key-requires-clause-the_map : goal.add_key-requires-clause-the_map
+add_key-requires-clause-the_map c = (names-there c).the_map
 
--- where the value is gray, the entry is noted
-one : (c : goal.In_ok-node) → mappings_at c.args.heaps.now c.args.i ≡ units.mapping_of c.args.heaps.now.heap (named_entry c.args.heaps.now.scripts (entry c.entry.result.0.0 c.entry.result.1.0 c.entry.result.2.0)) ∷ []
-one c =
-    noted-one c.args.heaps.now c.weak.result.now c.args.i (entry c.entry.result.0.0 c.entry.result.1.0 c.entry.result.2.0) c.weak.ensures c.entry.ensures
-    c.requires.order c.scripts.result.now c.colour.result c.scripts.ensures c.colour.ensures (sym c.eq.ensures ∙ c.if-eq.true)
+pub add_key-requires-clause-key : goal.add_key-requires-clause-key
+add_key-requires-clause-key c = (names-there c).key
 
-pub returns-in_err-node-clause-refused : goal.returns-in_err-node-clause-refused
-returns-in_err-node-clause-refused c =
-    let noted = noted-one c.args.heaps.now c.weak.result.now c.args.i (entry c.entry.result.0.0 c.entry.result.1.0 c.entry.result.2.0) c.weak.ensures c.entry.ensures
-    c.requires.order c.scripts.result.now c.colour.result c.scripts.ensures c.colour.ensures (sym c.eq.ensures ∙ c.if-eq.true) in
-    on_err_of c.from_residual.result (λ none. cc)
+pub add_key-requires-clause-delegate : goal.add_key-requires-clause-delegate
+add_key-requires-clause-delegate c = of_some c.entry.result.2 (names-there c).delegate
+  where
+    of_some : (d : Option SKey) → ((q : _) → option_map (λ (k : SKey). k.0) d ≡ Some q → IsTrue (is_there c.args.heaps.now.scripts q)) → IfSome d (λ k. IsTrue (is_there c.args.heaps.now.scripts k.0))
+    of_some None there = tt
+    of_some (Some k) there = there k.0 refl
 
-pub returns-then-eq-clause-names : goal.returns-then-eq-clause-names
-returns-then-eq-clause-names c =
-    let xs = vertex_names c.args.self.now.graph.nodes in
-    c.in_ok-node.ensures.names
-    ∙ ap (with_all_last same_name xs) (sym (ap (flat_map members_of) (one c) ∙ append-nil _))
+pub add_joint-requires-clause-the_map : goal.add_joint-requires-clause-the_map
+add_joint-requires-clause-the_map c = (names-there c).the_map
 
-pub returns-then-eq-clause-mappings : goal.returns-then-eq-clause-mappings
-returns-then-eq-clause-mappings c =
-    let ms = map (mapping_of c.args.self.now.graph.nodes) c.args.self.now.graph.hyperedges in
-    c.in_ok-node.ensures.mappings ∙ ap (λ ns. ms ++ ns) (sym (one c))
+pub add_joint-requires-clause-key : goal.add_joint-requires-clause-key
+add_joint-requires-clause-key c = (names-there c).key
 
--- where it is not, nothing is
-none : (c : goal.Else-eq) → mappings_at c.args.heaps.now c.args.i ≡ []
-none c =
-    noted-none c.args.heaps.now c.weak.result.now c.args.i (entry c.entry.result.0.0 c.entry.result.1.0 c.entry.result.2.0) c.weak.ensures c.entry.ensures
-    c.requires.order c.scripts.result.now c.colour.result c.scripts.ensures c.colour.ensures (sym c.eq.ensures ∙ c.if-eq.false)
+pub add_joint-requires-clause-value : goal.add_joint-requires-clause-value
+add_joint-requires-clause-value c = (names-there c).value
+
+-- its mappings are those of its key, and those of its value
+split : (c : goal.After-entry) → mappings_at c.args.heaps.now c.args.i
+    ≡ key_mappings c.args.heaps.now c.entry.result.0.0 (option_map (λ (k : SKey). k.0) c.entry.result.2) c.entry.result.1.0
+    ++ mappings_in c.args.heaps.now.heap (named_joint c.args.heaps.now.scripts c.entry.result.0.0 c.entry.result.1.0 c.entry.result.3.0)
+split c = entry-split c.args.heaps.now c.weak.result.now c.args.i (the_entry c) c.weak.ensures c.entry.ensures
+
+abbrev of_key : (c : goal.After-entry) → _
+of_key c = key_mappings c.args.heaps.now c.entry.result.0.0 (option_map (λ (k : SKey). k.0) c.entry.result.2) c.entry.result.1.0
+
+abbrev of_value : (c : goal.After-entry) → _
+of_value c = mappings_in c.args.heaps.now.heap (named_joint c.args.heaps.now.scripts c.entry.result.0.0 c.entry.result.1.0 c.entry.result.3.0)
+
+pub returns-in_err-last-clause-refused : goal.returns-in_err-last-clause-refused
+returns-in_err-last-clause-refused c =
+    on_err_of c.from_residual.result (λ none. left-some (of_key c) (of_value c) c.in_err-last.ensures.refused (sym (split c) ∙ none))
+
+pub returns-clause-refused : goal.returns-clause-refused
+returns-clause-refused c =
+    err-then c.add_joint.result c.add_joint.ensures.refused (λ some none. right-some (of_key c) (of_value c) some (sym (split c) ∙ none))
 
 pub returns-clause-names : goal.returns-clause-names
-returns-clause-names c = sym (ap (λ ms. with_all_last same_name (vertex_names c.args.self.now.graph.nodes) (flat_map members_of ms)) (none c))
+returns-clause-names c =
+    ok-then c.add_joint.result c.add_joint.ensures.names
+    (both-members (vertex_names c.args.self.now.graph.nodes) (vertex_names c.add_key.new.self.graph.nodes) (vertex_names c.add_joint.new.self.graph.nodes)
+    (of_key c) (of_value c) (mappings_at c.args.heaps.now c.args.i) (split c) c.in_ok-last.ensures.names)
 
 pub returns-clause-mappings : goal.returns-clause-mappings
 returns-clause-mappings c =
-    let ms = map (mapping_of c.args.self.now.graph.nodes) c.args.self.now.graph.hyperedges in
-    sym (ap (λ ns. ms ++ ns) (none c) ∙ append-nil ms)
+    let old = c.args.self.now in
+    let mid = c.add_key.new.self in
+    let new = c.add_joint.new.self in
+    ok-then c.add_joint.result c.add_joint.ensures.mappings
+    (both-mappings (map (mapping_of old.graph.nodes) old.graph.hyperedges) (map (mapping_of mid.graph.nodes) mid.graph.hyperedges) (map (mapping_of new.graph.nodes) new.graph.hyperedges)
+    (of_key c) (of_value c) (mappings_at c.args.heaps.now c.args.i) (split c) c.in_ok-last.ensures.mappings)

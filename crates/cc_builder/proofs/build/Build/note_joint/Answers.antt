@@ -1,31 +1,29 @@
 use Rattle.std.proofs.Common.{◌≡◌, ℕ, [], ◌∷◌, ◌++◌, map, length, Some, sym, ◌∙◌, ap, subst}
-use Rattle.cc_weakmaps.specs.Entries.{entry}
-use Rattle.cc_model.specs.Entries.{Entry}
+use Rattle.cc_model.specs.Entries.{Joint}
 use Rattle.cc_counted.specs.declared.held.Held.TheVariants as held
 use Rattle.cc_graph.specs.Shown.{Shown, hyperedge, number_of}
 use Rattle.cc_graph.specs.Closed.{IsHyperedgeWithin}
 use Rattle.cc_graph.specs.Held.{AreHeld}
 use Rattle.cc_heaps.specs.HasKey.{HasKey}
-use Rattle.cc_heaps.specs.Keyed.{named_entry}
 use Rattle.cc_builder.specs.Building.{Built, IsBuilt, mapping_of, vertex_names}
-use Rattle.cc_builder.specs.BuildSteps.{IsMapNode, the_name, with_mapping}
+use Rattle.cc_builder.specs.BuildSteps.{IsMapNode, named_joint, the_name, with_mapping}
 use Rattle.cc_builder.proofs.BuildNodes.{number_of-at}
 use Rattle.cc_builder.proofs.BuildKept.{built_of, IsBuilt-mapping}
 use Rattle.cc_builder.proofs.EntryMappings.{IsMember, IsValue, added-value, entry-mappings, entry-names, entry-within, map-number, map-within}
-use Rattle.cc_builder.proofs.build.Build.note_entry.Goals as goal
+use Rattle.cc_builder.proofs.build.Build.note_joint.Goals as goal
 
--- the entry by names
-abbrev the_entry : goal.In_ok-note_mapping → Entry
-the_entry c = named_entry c.args.heaps.now.scripts (entry c.args.the_map.0 c.args.key.0 c.args.value.0)
+-- the joint by names
+abbrev the_joint : goal.In_ok-note_mapping → Joint
+the_joint c = named_joint c.args.heaps.now.scripts c.args.the_map.0 c.args.key.0 c.args.value.0
 
 -- its map, its key and its value are nodes now
-map-added : (c : goal.In_ok-note_mapping) → IsMember c.args.heaps.now.heap c.args.self.now.graph.nodes c.map_node.new.self.graph.nodes (the_entry c).the_map c.in_ok-the_map.the_map
+map-added : (c : goal.In_ok-note_mapping) → IsMember c.args.heaps.now.heap c.args.self.now.graph.nodes c.map_node.new.self.graph.nodes (the_joint c).the_map c.in_ok-the_map.the_map
 map-added c = let e = c.in_ok-the_map.ensures in record { names = e.names; number = e.number; within = e.within }
 
-key-added : (c : goal.In_ok-note_mapping) → IsMember c.args.heaps.now.heap c.map_node.new.self.graph.nodes c.add_gray.new.self.graph.nodes (the_entry c).key c.in_ok-key.key
+key-added : (c : goal.In_ok-note_mapping) → IsMember c.args.heaps.now.heap c.map_node.new.self.graph.nodes c.add_gray.new.self.graph.nodes (the_joint c).key c.in_ok-key.key
 key-added c = let e = c.in_ok-key.ensures in record { names = e.names; number = e.number; within = e.within }
 
-value-added : (c : goal.In_ok-note_mapping) → IsValue c.add_gray.new.self.graph.nodes c.add_object.new.self.graph.nodes (the_entry c).value c.in_ok-value.value
+value-added : (c : goal.In_ok-note_mapping) → IsValue c.add_gray.new.self.graph.nodes c.add_object.new.self.graph.nodes (the_joint c).value c.in_ok-value.value
 value-added c =
     added-value c.add_gray.new.self c.add_object.new.self c.args.heaps.now c.args.value c.in_ok-value.value c.requires.value c.in_ok-value.ensures.added c.in_ok-value.ensures.number
 
@@ -46,7 +44,7 @@ pub returns-clause-names : goal.returns-clause-names
 returns-clause-names c =
     ap (λ (g : Shown). vertex_names g.nodes) c.in_ok-note_mapping.ensures.noted
     ∙ ap (λ (b : Built). vertex_names b.graph.nodes) c.self.view_is
-    ∙ entry-names c.args.heaps.now.heap (the_entry c) c.args.self.now.graph.nodes c.map_node.new.self.graph.nodes c.add_gray.new.self.graph.nodes c.add_object.new.self.graph.nodes
+    ∙ entry-names c.args.heaps.now.heap (the_joint c) c.args.self.now.graph.nodes c.map_node.new.self.graph.nodes c.add_gray.new.self.graph.nodes c.add_object.new.self.graph.nodes
     c.in_ok-the_map.the_map c.in_ok-key.key c.in_ok-value.value (map-added c) (key-added c) (value-added c)
 
 pub returns-clause-mappings : goal.returns-clause-mappings
@@ -58,7 +56,7 @@ returns-clause-mappings c =
     ap (λ (g : Shown). map (mapping_of g.nodes) g.hyperedges) c.in_ok-note_mapping.ensures.noted
     ∙ ap (λ (b : Built). map (mapping_of b.graph.nodes) (b.graph.hyperedges ++ m ∷ [])) c.self.view_is
     ∙ ap (λ ms. map (mapping_of zs) (ms ++ m ∷ [])) before
-    ∙ entry-mappings c.args.heaps.now.heap (the_entry c) c.args.self.now.graph.nodes c.map_node.new.self.graph.nodes c.add_gray.new.self.graph.nodes zs
+    ∙ entry-mappings c.args.heaps.now.heap (the_joint c) c.args.self.now.graph.nodes c.map_node.new.self.graph.nodes c.add_gray.new.self.graph.nodes zs
     c.in_ok-the_map.the_map c.in_ok-key.key c.in_ok-value.value (map-added c) (key-added c) (value-added c) c.args.self.now.graph.hyperedges c.requires.built.mapped
 
 pub returns-clause-built : goal.returns-clause-built
@@ -66,7 +64,7 @@ returns-clause-built c =
     let v = c.args.heaps.now in
     let m = hyperedge c.in_ok-the_map.the_map c.in_ok-key.key c.in_ok-value.value in
     let within : IsHyperedgeWithin (length c.add_object.new.self.graph.nodes) m =
-    entry-within v.heap (the_entry c) c.args.self.now.graph.nodes c.map_node.new.self.graph.nodes c.add_gray.new.self.graph.nodes c.add_object.new.self.graph.nodes
+    entry-within v.heap (the_joint c) c.args.self.now.graph.nodes c.map_node.new.self.graph.nodes c.add_gray.new.self.graph.nodes c.add_object.new.self.graph.nodes
     c.in_ok-the_map.the_map c.in_ok-key.key c.in_ok-value.value (map-added c) (key-added c) (value-added c) in
     let mappings : ℕ = c.note_mapping.new.self.room.mappings in
     let built : IsBuilt (with_mapping c.add_object.new.self m mappings) v = IsBuilt-mapping c.add_object.new.self v m mappings c.in_ok-value.ensures.built within in
@@ -83,9 +81,9 @@ pub returns-clause-node : goal.returns-clause-node
 returns-clause-node c =
     let v = c.args.heaps.now in
     let known : IsMapNode v c.add_object.new.self.graph.nodes c.args.the_map.0 c.in_ok-the_map.the_map = record {
-      number = map-number v.heap (the_entry c) c.args.self.now.graph.nodes c.map_node.new.self.graph.nodes c.add_gray.new.self.graph.nodes c.add_object.new.self.graph.nodes
+      number = map-number v.heap (the_joint c) c.args.self.now.graph.nodes c.map_node.new.self.graph.nodes c.add_gray.new.self.graph.nodes c.add_object.new.self.graph.nodes
           c.in_ok-the_map.the_map c.in_ok-key.key c.in_ok-value.value (map-added c) (key-added c) (value-added c);
-      within = map-within v.heap (the_entry c) c.args.self.now.graph.nodes c.map_node.new.self.graph.nodes c.add_gray.new.self.graph.nodes c.add_object.new.self.graph.nodes
+      within = map-within v.heap (the_joint c) c.args.self.now.graph.nodes c.map_node.new.self.graph.nodes c.add_gray.new.self.graph.nodes c.add_object.new.self.graph.nodes
           c.in_ok-the_map.the_map c.in_ok-key.key c.in_ok-value.value (map-added c) (key-added c) (value-added c);
     } in
     subst (λ (g : Shown). IsMapNode v g.nodes c.args.the_map.0 c.in_ok-the_map.the_map) (sym c.in_ok-note_mapping.ensures.noted)
