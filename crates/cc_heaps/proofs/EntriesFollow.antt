@@ -41,8 +41,8 @@ kind-map g x e = grind (arith, option_map-found, option_and_then-found)
 
 -- a reflector preserved leaves the graph well made, and weak maps weak maps
 preserved-well : (g : Graph) (x : Name) → MadeScript g x → IsWellMade g → IsWellMade (graph.preserve g (Some x)) × Grows g (graph.preserve g (Some x))
-preserved-well g (name.Native k) m w = (w, record { made = λ x i. i; maps = λ k i. i })
-preserved-well g (name.Script k) m w = (w, record { made = λ x i. i; maps = λ k i. i })
+preserved-well g (name.Native k) m w = (w, record { made = λ x i. i; maps = λ k i. i; delegates = λ x i. refl })
+preserved-well g (name.Script k) m w = (w, record { made = λ x i. i; maps = λ k i. i; delegates = λ x i. refl })
 preserved-well g (name.Reflector k) m w = (IsWellMade-change_native g k.0 as_preserved (λ n r. r) w (KeepsNative-preserved g k.0 m), Grows-change_native g k.0 as_preserved (λ n r. r))
 
 module _ {owned : List ℕ} (h : Heap) (m k : Name) (s : IsSound owned h) where

@@ -1,5 +1,5 @@
 -- KEYS THAT ARE KEPT where the heaps changed under the same keys, and where some natives are no more.
-use Rattle.std.proofs.Common.{arith, ◌≡◌, Option, Some, None, refl, sym, ◌∙◌, ap, subst}
+use Rattle.std.proofs.Common.{arith, ◌≡◌, true, Option, Some, None, refl, sym, ◌∙◌, ap, subst}
 use Rattle.std.proofs.Math.ListN.{get_or-map}
 use Rattle.cc_lists.specs.Members.{Among}
 use Rattle.cc_names.specs.declared.name.Name.{Name}

@@ -11,6 +11,7 @@ use Rattle.cc_names.specs.Names.{native, reflector}
 use Rattle.cc_model.specs.Slots.{reflector_slots}
 use Rattle.cc_model.specs.Graph as graph
 use Rattle.cc_model.specs.Graph.{as_wrapped}
+use Rattle.cc_model.proofs.Places.{script_place-cases}
 use Rattle.cc_model.specs.Heap.{Heap, has_reflector}
 use Rattle.cc_model.specs.View.{view, native_edges, script_edges, ReachedIn}
 use Rattle.cc_model.specs.Cascade.{add_ref}
@@ -32,14 +33,14 @@ pub made-reached : (h : Heap) (k : ℕ) → IsWellFormed (with_reflector h k) �
 made-reached h k w = reached-kept h (with_reflector h k) w (record {
   registers = λ x i. i;
   edges = λ x y r i e. more x y (subst (λ es. Among (x, y) es) (sym (edges-alike h (add_ref h k) (HoldsTheSame-add_ref h k))) e);
-  entries = λ e i a b. i;
+  joints = λ j i a b. i;
 })
   where
     more : (x y : Name) → Among (x, y) (view (add_ref h k)).edges → Among (x, y) (view (with_reflector h k)).edges
     more x y e = ⊎_elim
         (λ l. Among-left (x, y) (flat_map native_edges (add_ref h k).natives) (flat_map script_edges (with_reflector h k).scripts) l)
         (λ l. let f = Among-flat_map_cases script_edges h.scripts (x, y) l in
-        script-edge (with_reflector h k) f.0 x y (Among-left f.0 h.scripts (blank (reflector k) Reflector reflector_slots ∷ []) f.1) f.2)
+        script-edge (with_reflector h k) f.0 x y (Among-left f.0 h.scripts (blank (reflector k) Reflector reflector_slots None ∷ []) f.1) f.2)
         (Among-append (x, y) (flat_map native_edges (add_ref h k).natives) (flat_map script_edges h.scripts) e)
 
 -- and neither does an exposure.
@@ -80,7 +81,8 @@ module _ {owned : List ℕ} (h : Heap) (k : ℕ) (s : IsSound owned h) (there : 
     -- It is black and holds nothing: the colour invariant stays,
     pub reflector_made-colours : KeepsColours h (with_reflector h k)
     reflector_made-colours c = HasColourInvariant-from (with_reflector h k) reflector_made-sound.well_formed
-        (AreColoured-push h.scripts h.script_registers (blank (reflector k) Reflector reflector_slots) refl (contents-empty_none reflector_slots)
+        (AreColoured-push h.scripts h.script_registers (blank (reflector k) Reflector reflector_slots None) refl
+        (λ o m i. ⊎_elim (λ l. absurd (contents-empty_none reflector_slots o.name l)) (λ e. absurd (cc)) (script_place-cases (blank (reflector k) Reflector reflector_slots None) o.name i))
         (AreColoured-from_view h s.well_formed c))
 
     -- and every snapshot that was fresh is fresh.

@@ -63,7 +63,7 @@ module _ {owned : List ℕ} (h : Heap) (k : ℕ) (s : IsSound owned h) (there : 
         native-edge (set_preserved h k true) (changed f.0) x y (Among-map changed f.0 h.natives f.1) (more f.0 (x, y) f.2))
         (λ l. Among-right (x, y) (flat_map native_edges (set_preserved h k true).natives) (flat_map script_edges h.scripts) l)
         (Among-append (x, y) (flat_map native_edges h.natives) (flat_map script_edges h.scripts) e);
-    entries = λ e i a b. i;
+    joints = λ j i a b. i;
   })
     where
       flagged : HeapNative → HeapNative

@@ -1,7 +1,7 @@
 -- A REFLECTOR MADE: the script heap has one object more, the native has its key, and one reference more. The parts fit
 -- together once all three are done.
 use Rattle.cc_heaps.proofs.ReflectorLists.{reflectors-set, within-read}
-use Rattle.std.proofs.Common.{arith, ◌≡◌, ◌≢◌, ℕ, ◌+◌, true, false, List, [], ◌∷◌, ◌++◌, set, Option, Some, None, is_some, option_map, refl, sym, ◌∙◌, ap, subst}
+use Rattle.std.proofs.Common.{arith, IsTrue, ◌≡◌, ◌≢◌, ℕ, ◌+◌, true, false, List, [], ◌∷◌, ◌++◌, set, Option, Some, None, is_some, option_map, refl, sym, ◌∙◌, ap, subst}
 use Rattle.std.specs.Option.{option_and_then, option_or}
 use Rattle.std.specs.List.{find}
 use Rattle.std.proofs.lemmas.Bool.{eq-eqb, ne_eqb}

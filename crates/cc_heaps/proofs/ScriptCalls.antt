@@ -208,15 +208,15 @@ module _ (objects : List Object) (one : HasOneKey objects) (whole : AreWhole obj
       ∙ (λ i. map-agree (named_object made_last) (named_object objects) objects same i
       ++ record { name = new.name; kind = new.kind; slots = (ap (map (name_held made_last)) empty ∙ map-replicate (name_held made_last) n None) i; delegate = kept new.delegate held i; colour = new.colour } ∷ [])
     where
+      kept : (d : Option ℕ) → ((q : ℕ) → d ≡ Some q → IsTrue (is_there objects q)) → name_held made_last d ≡ name_held objects d
+      kept None t = refl
+      kept (Some q) t = KeepsNames-same objects made_last KeepsNames-made q (t q refl)
+
       same : (o : Object) → Among o objects → named_object made_last o ≡ named_object objects o
       same o m = λ i. record (named_object objects o) {
         slots = map-held (name_held made_last) (name_held objects) o.slots refl (λ q s. KeepsNames-same objects made_last KeepsNames-made q (whole o q m (slot-place o q s))) i;
         delegate = kept o.delegate (λ q e. whole o q m (delegate-place o q e)) i;
       }
-
-      kept : (d : Option ℕ) → ((q : ℕ) → d ≡ Some q → IsTrue (is_there objects q)) → name_held made_last d ≡ name_held objects d
-      kept None t = refl
-      kept (Some q) t = KeepsNames-same objects made_last KeepsNames-made q (t q refl)
 
   -- names other than its own have the keys that they had
   pub key_of-made : (x : Name) → same_name new.name x ≡ false → key_of made_last x ≡ key_of objects x

@@ -47,7 +47,11 @@ module _ (f : Object → Object) (keeps : KeepsObjects f) (objects : List Object
   -- by names, where each object is written as its names are
   pub named-written : (g : HeapScript → HeapScript) → ((o : Object) → Among o objects → named_object objects (f o) ≡ g (named_object objects o)) →
       named_objects (map f objects) ≡ map g (named_objects objects)
-  named-written g same = grind (arith, map-map, map-agree, name_held-written)
+  named-written g same =
+      ap (λ hold. map (λ o. record { name = o.name; kind = o.kind; slots = map hold o.slots; delegate = hold o.delegate; colour = o.colour }) (map f objects)) name_held-written
+      ∙ (map-map (named_object objects) f objects
+      ∙ (map-agree (λ o. named_object objects (f o)) (λ o. g (named_object objects o)) objects same
+      ∙ sym (map-map g (named_object objects) objects)))
 
   pub one_key-written : HasOneKey objects → HasOneKey (map f objects)
   one_key-written one key = subst (λ n. n ≤ 1) (sym (count_by-kept_map (λ o. o.key == key) f objects (λ o. ap (λ k. k == key) (keeps.key o)))) (one key)

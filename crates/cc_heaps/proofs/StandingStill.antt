@@ -23,7 +23,7 @@ use Rattle.cc_model.specs.WellFormed.{IsWellFormed, native_names}
 use Rattle.cc_model.specs.StandsFor.{shape_at, shape_of_held_script, StandsFor}
 use Rattle.cc_laws_heap.specs.Sound.{IsSound}
 use Rattle.cc_laws_heap.specs.Freeing.{SameBeside}
-use Rattle.cc_laws_heap.proofs.Face.{AreColoured-from_view, Follows-left, HasColourInvariant-from, HoldsTheSame-add_ref, IsColoured, IsSound-marked, Leaves, Leaves-exposed, add_ref-sound, add_ref-stands, as_marked, beside-sweep, black-is, black-register, black-slot, cascade-frees, cascade-sound, cascade-stands, exposed-sound, follows-stands, is-black, is_not_among-apart, is_spared, reached-in, round-stands, scripts-sweep, stands-follows, sweep-sound, unlink-keeps, unlink-stands}
+use Rattle.cc_laws_heap.proofs.Face.{AreColoured-from_view, Follows-left, HasColourInvariant-from, HoldsTheSame-add_ref, IsColoured, IsSound-marked, Leaves, Leaves-exposed, add_ref-sound, add_ref-stands, as_marked, beside-sweep, black-is, black-register, black-place, cascade-frees, cascade-sound, cascade-stands, exposed-sound, follows-stands, is-black, is_not_among-apart, is_spared, reached-in, round-stands, scripts-sweep, stands-follows, sweep-sound, unlink-keeps, unlink-stands}
 use Rattle.cc_heaps.specs.Keyed.{Keyed, IsInOrder, changed_to, number_at, the_number}
 use Rattle.cc_heaps.specs.Standing.{StillStands}
 use Rattle.cc_heaps.proofs.Calls.{number-there}
@@ -146,7 +146,7 @@ module _ {owned : List ℕ} (h : Heap) (c : HasColours h) (s : IsSound owned h) 
   -- what is left keeps the colours
   swept-coloured : IsColoured (sweep h).heap
   swept-coloured = record {
-    black_to_black = λ o p m n e i. is-black h c p (left-there p n) (black-slot h o p.name (left-there o m) i (black-is h c o (left-there o m) e));
+    black_to_black = λ o p m n e i. is-black h c p (left-there p n) (black-place h o p.name (left-there o m) i (black-is h c o (left-there o m) e));
     held_black = λ o m i. is-black h c o (left-there o m)
         (black-register h o.name (subst (λ (r : Slots). Among o.name (contents r)) (beside-sweep h c s).script_registers i));
     none_white = left-not_white;

@@ -1,5 +1,5 @@
 -- COMMANDS ANSWERED: they are refused, or lack memory, or are carried out by what they do.
-use Rattle.std.proofs.Common.{◌≡◌, ◌≢◌, ℕ, ◌+◌, ◌<◌, ◌≤◌, true, false, List, length, Option, Some, None, option_map, refl, sym, ◌∙◌, ap, arith}
+use Rattle.std.proofs.Common.{◌≡◌, ◌≢◌, ℕ, ◌+◌, ◌<◌, ◌≤◌, ◌||◌, Bool, true, false, List, length, nat_le, Option, Some, None, option_map, refl, sym, ◌∙◌, ap, subst}
 use Rattle.std.specs.Option.{is_none}
 use Rattle.std.proofs.lemmas.Bool.{leb-true, leb-false, le-leb, lt-leb, not-false, or_parts}
 use Rattle.cc_names.specs.declared.name.Name.{Name}
@@ -10,13 +10,13 @@ use Rattle.cc_names.specs.Names.{native, object, reflector}
 use Rattle.cc_model.specs.declared.command.Command.{Command}
 use Rattle.cc_model.specs.declared.command.Command.TheVariants.{Native, Script, WeakMap, Proxy, CopyNative, CopyScript, Drop, Set, Get, Put, Take, Wrap, Unwrap, Preserve, SetEntry, GetEntry, Expose}
 use Rattle.cc_model.specs.declared.item.Refusal.{Refusal}
-use Rattle.cc_model.specs.declared.item.Refusal.TheVariants.{Full, NoMemory}
+use Rattle.cc_model.specs.declared.item.Refusal.TheVariants.{Empty, Full, NoMemory}
 use Rattle.cc_model.specs.declared.item.Reply.{Reply}
 use Rattle.cc_model.specs.declared.item.Reply.TheVariants.{Named, Done, Refused}
 use Rattle.cc_model.specs.Telling.{Telling, TellsEvents}
 use Rattle.cc_model.specs.Checks.{Objects, is_map_in, slots_at, slot_at, value_at, native_of, reflector_of, named_or_nothing, refusal_of, reply_if_taken}
 use Rattle.cc_model.specs.Heap.{Heap, Outcome, register, source, objects_of, set_register, preserve}
-use Rattle.cc_model.specs.Effects.{effects, hold_native, hold_script, make_native, make_object, put_in_script, set_entry, store_native, takes_memory, wrapped}
+use Rattle.cc_model.specs.Effects.{effects, hold_native, hold_script, make_native, make_object, make_proxy, put_in_script, set_entry, store_native, takes_memory, wrapped}
 use Rattle.cc_model.specs.Exposure.{exposed}
 use Rattle.cc_model.proofs.Tellings.{Tells-nil}
 use Rattle.cc_laws_heap.proofs.Face.{IsTaken-from}
@@ -40,7 +40,28 @@ named-not_refused x r e = grind arith
 -- the reply to a command that is not refused is no refusal
 reply-not_refused : (o : Objects) (c : Command) (r : Refusal) → reply_if_taken o c ≢ Refused r
 unfolding reply_if_taken
-reply-not_refused o c r e = grind (arith, named-not_refused)
+reply-not_refused o command.Nothing r e = absurd (cc)
+reply-not_refused o (command.Native d n) r e = absurd (cc)
+reply-not_refused o (command.Script d n) r e = absurd (cc)
+reply-not_refused o (command.WeakMap d) r e = absurd (cc)
+reply-not_refused o (command.Proxy d s) r e = absurd (cc)
+reply-not_refused o (command.CopyNative d s) r e = named-not_refused _ r e
+reply-not_refused o (command.CopyScript d s) r e = named-not_refused _ r e
+reply-not_refused o (command.Drop d) r e = absurd (cc)
+reply-not_refused o (command.Set d i s) r e = absurd (cc)
+reply-not_refused o (command.Get d s i) r e = named-not_refused _ r e
+reply-not_refused o (command.Put d i s) r e = absurd (cc)
+reply-not_refused o (command.Take d s i) r e = named-not_refused _ r e
+reply-not_refused o (command.Wrap d s) r e = named-not_refused _ r e
+reply-not_refused o (command.Unwrap d s) r e = named-not_refused _ r e
+reply-not_refused o (command.Preserve s) r e = absurd (cc)
+reply-not_refused o (command.SetEntry m k v) r e = absurd (cc)
+reply-not_refused o (command.GetEntry d m k) r e = named-not_refused _ r e
+reply-not_refused o (command.Expose s i) r e = named-not_refused _ r e
+reply-not_refused o (command.Slice u) r e = absurd (cc)
+reply-not_refused o command.Collect r e = absurd (cc)
+reply-not_refused o command.Gc r e = absurd (cc)
+reply-not_refused o command.Census r e = absurd (cc)
 
 -- The three ways
 
@@ -106,13 +127,18 @@ module _ (old new : Heap) (reply : Reply) (before after : Telling) where
 -- and tells nothing
 
 module _ (old new : Heap) (reply : Reply) (t : Telling) where
-  pub carried-script : (d n : ℕ) → reply ≡ Named (object (old.scripts_made + 1)) → new ≡ make_object old d Plain n → IsCarriedOut (Script d n) old new reply t t
+  pub carried-script : (d n : ℕ) → reply ≡ Named (object (old.scripts_made + 1)) → new ≡ make_object old d Plain n None → IsCarriedOut (Script d n) old new reply t t
   unfolding effects reply_if_taken
   carried-script d n r h = record { reply_is = r; heap = h; told = Tells-nil t }
 
-  pub carried-map : (d : ℕ) → reply ≡ Named (object (old.scripts_made + 1)) → new ≡ make_object old d Map 0 → IsCarriedOut (WeakMap d) old new reply t t
+  pub carried-map : (d : ℕ) → reply ≡ Named (object (old.scripts_made + 1)) → new ≡ make_object old d Map 0 None → IsCarriedOut (WeakMap d) old new reply t t
   unfolding effects reply_if_taken
   carried-map d r h = record { reply_is = r; heap = h; told = Tells-nil t }
+
+  pub carried-proxy : (d s : ℕ) (x : Option Name) → x ≡ register old (S s) → reply ≡ Named (object (old.scripts_made + 1)) → new ≡ make_proxy old d x →
+      IsCarriedOut (Proxy d s) old new reply t t
+  unfolding effects reply_if_taken
+  carried-proxy d s x e r h = record { reply_is = r; heap = h ∙ ap (make_proxy old d) e; told = Tells-nil t }
 
   pub carried-copy_script : (d s : ℕ) (x : Option Name) → x ≡ register old (S s) → exposed old x ≡ old → reply ≡ named_or_nothing x →
       new ≡ hold_script old d x → IsCarriedOut (CopyScript d s) old new reply t t
@@ -195,6 +221,16 @@ module _ (h : Heap) where
 
   pub room-map : (d : ℕ) → h.scripts_made < h.limits.scripts → refusal_of (objects_of h) (WeakMap d) ≡ None
   room-map d few = refusal-by (objects_of h) (WeakMap d) false false false false false refl refl refl refl (lt-leb _ _ few)
+
+  -- a proxy has something to stand for
+  pub empty-proxy : (d s : ℕ) → register h (S s) ≡ None → refusal_of (objects_of h) (Proxy d s) ≡ Some Empty
+  empty-proxy d s none = refusal-by (objects_of h) (Proxy d s) true false false false _ (ap (λ x. is_none x || false) none) refl refl refl refl
+
+  pub full-proxy : (d s : ℕ) (x : Name) → register h (S s) ≡ Some x → h.limits.scripts ≤ h.scripts_made → refusal_of (objects_of h) (Proxy d s) ≡ Some Full
+  full-proxy d s x some few = refusal-by (objects_of h) (Proxy d s) false false false false true (ap (λ y. is_none y || false) some) refl refl refl (le-leb _ _ few)
+
+  pub room-proxy : (d s : ℕ) (x : Name) → register h (S s) ≡ Some x → h.scripts_made < h.limits.scripts → refusal_of (objects_of h) (Proxy d s) ≡ None
+  room-proxy d s x some few = refusal-by (objects_of h) (Proxy d s) false false false false false (ap (λ y. is_none y || false) some) refl refl refl (lt-leb _ _ few)
 
   pub slot-set : (d i : ℕ) (from : Option Reg) → refusal_of (objects_of h) (Set d i from) ≡ None → i < length (slots_at (objects_of h) (N d))
   slot-set d i from e = leb-false (length (slots_at (objects_of h) (N d))) i (IsTaken-from (objects_of h) (Set d i from) e).slot

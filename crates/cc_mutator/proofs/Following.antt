@@ -70,6 +70,7 @@ takes-may_want : (h : Heap) (s : State) (c : Command) → StandsFor h s.graph �
 takes-may_want h s (Native d n) stands listed applied takes = refl
 takes-may_want h s (Script d n) stands listed applied takes = refl
 takes-may_want h s (WeakMap d) stands listed applied takes = refl
+takes-may_want h s (Proxy d r) stands listed applied takes = refl
 takes-may_want h s (CopyNative d r) stands listed applied takes = absurd (false≢true takes)
 takes-may_want h s (CopyScript d r) stands listed applied takes = absurd (false≢true takes)
 takes-may_want h s (Drop r) stands listed applied takes = absurd (false≢true takes)

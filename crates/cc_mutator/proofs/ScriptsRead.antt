@@ -12,7 +12,7 @@ use Rattle.cc_lists.proofs.Searching.{find-only}
 use Rattle.cc_names.specs.declared.name.Name.{Name}
 use Rattle.cc_names.specs.declared.number.SKey.{SKey}
 use Rattle.cc_names.specs.declared.kind.Kind.{Kind}
-use Rattle.cc_names.specs.declared.kind.Kind.TheVariants.{Plain, Reflector, Map}
+use Rattle.cc_names.specs.declared.kind.Kind.TheVariants.{Plain, Reflector, Map, Proxy}
 use Rattle.cc_names.specs.declared.kind.Colour.TheVariants.{Black}
 use Rattle.cc_names.specs.declared.register.Reg.TheVariants.{S}
 use Rattle.cc_names.specs.Names.{is_script, same_name}
@@ -45,20 +45,40 @@ abbrev pub is_map_kind : Kind → Bool
 is_map_kind Plain = false
 is_map_kind Reflector = false
 is_map_kind Map = true
+is_map_kind Proxy = false
 
 is_map_kind-true : (kind : Kind) → is_map_kind kind ≡ true → kind ≡ Map
-is_map_kind-true kind e = grind arith
+is_map_kind-true Plain e = absurd (cc)
+is_map_kind-true Reflector e = absurd (cc)
+is_map_kind-true Map e = refl
+is_map_kind-true Proxy e = absurd (cc)
 
 is_map_kind-some : (kind : Kind) → Some kind ≡ Some Map → is_map_kind kind ≡ true
-is_map_kind-some kind e = search
+is_map_kind-some Plain e = absurd (cc)
+is_map_kind-some Reflector e = absurd (cc)
+is_map_kind-some Map e = refl
+is_map_kind-some Proxy e = absurd (cc)
 
 -- a weak map has none, and what is no weak map has its own
 kind-slots : (x : Name) (kind : Kind) (slots : Slots) → FitsName x kind slots → slots_or_none (slots_of_kind kind slots) ≡ slots
-kind-slots x kind slots f = grind arith
+kind-slots x Plain slots f = refl
+kind-slots x Reflector slots f = refl
+kind-slots x Proxy slots f = refl
+kind-slots (name.Script k) Map slots f = sym f
+kind-slots (name.Native k) Map slots f = absurd f
+kind-slots (name.Reflector k) Map slots f = absurd f
 
 -- at most 64 of them: a reflector has four
 fits-few : (x : Name) (kind : Kind) (slots : Slots) → FitsName x kind slots → length slots ≤ most_slots
-fits-few x kind slots f = grind arith
+fits-few (name.Native k) kind slots f = absurd f
+fits-few (name.Script k) Plain slots f = f
+fits-few (name.Script k) Map slots f = omega (arith, ap length f)
+fits-few (name.Script k) Proxy slots f = omega (arith, ap length f)
+fits-few (name.Script k) Reflector slots f = absurd f
+fits-few (name.Reflector k) Reflector slots f = omega (arith, f)
+fits-few (name.Reflector k) Plain slots f = absurd f
+fits-few (name.Reflector k) Map slots f = absurd f
+fits-few (name.Reflector k) Proxy slots f = absurd f
 
 module _ (owned : List ℕ) (v : Keyed) (order : IsInOrder owned v) where
   -- the slots of a script object that is there

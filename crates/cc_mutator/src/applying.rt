@@ -3,7 +3,7 @@ ghost use Rattle.std.specs.Prelude.{◌≡◌, ◌≢◌, ◌<◌, ◌≤◌, Is
 ghost use Rattle.cc_names.specs.declared.kind.Colour.TheVariants.{Black};
 ghost use Rattle.cc_names.specs.declared.register.Reg.TheVariants.{N as n_register, S as s_register};
 ghost use Rattle.cc_names.specs.Sizes.{most_slots};
-ghost use Rattle.cc_model.specs.declared.command.Command.TheVariants.{Native, Script, WeakMap, CopyNative, CopyScript, Drop, Set, Get, Put, Take, Wrap, Unwrap, Preserve, SetEntry, GetEntry, Expose};
+ghost use Rattle.cc_model.specs.declared.command.Command.TheVariants.{Native, Script, WeakMap, Proxy, CopyNative, CopyScript, Drop, Set, Get, Put, Take, Wrap, Unwrap, Preserve, SetEntry, GetEntry, Expose};
 ghost use Rattle.cc_model.specs.declared.item.Refusal.{Refusal};
 ghost use Rattle.cc_model.specs.declared.item.Refusal.TheVariants.{NoMemory as no_memory};
 ghost use Rattle.cc_model.specs.declared.item.Reply.TheVariants.{Refused as refused};
@@ -73,6 +73,22 @@ fn make_map(heaps: &mut Heaps, d: RegNo) -> Reply
     ensures { (t : Telling) → IsApplied (WeakMap d) heaps.old heaps.new result t t }
 {
     match heaps.new_map(d) {
+        Ok(name) => Reply::Named(name),
+        Err(MakeStop::Full) => Reply::Refused(Refusal::Full),
+        Err(MakeStop::NoMemory) => Reply::Refused(Refusal::NoMemory),
+    }
+}
+
+/// Makes a proxy of the script object in a register.
+fn make_proxy(heaps: &mut Heaps, d: RegNo, s: RegNo) -> Reply
+    requires order { (owned : List ℕ) × IsInOrder owned heaps.old }
+    requires colours { HasColourInvariant (view heaps.old.heap) }
+    ensures { (t : Telling) → IsApplied (Proxy d s) heaps.old heaps.new result t t }
+{
+    let Some(delegate) = heaps.script_reg(s) else {
+        return Reply::Refused(Refusal::Empty);
+    };
+    match heaps.new_proxy(d, delegate) {
         Ok(name) => Reply::Named(name),
         Err(MakeStop::Full) => Reply::Refused(Refusal::Full),
         Err(MakeStop::NoMemory) => Reply::Refused(Refusal::NoMemory),
@@ -394,6 +410,7 @@ fn answer<N: Notices>(heaps: &mut Heaps, command: &Command, out: &mut N) -> Repl
         Command::Native(d, slots) => make_native(heaps, d, slots, out),
         Command::Script(d, slots) => make_plain(heaps, d, slots),
         Command::WeakMap(d) => make_map(heaps, d),
+        Command::Proxy(d, s) => make_proxy(heaps, d, s),
         Command::CopyNative(d, s) => copy_native(heaps, d, s, out),
         Command::CopyScript(d, s) => copy_script(heaps, d, s),
         Command::Drop(r) => empty(heaps, r, out),
@@ -413,8 +430,8 @@ fn answer<N: Notices>(heaps: &mut Heaps, command: &Command, out: &mut N) -> Repl
 
 /// Does a command of the mutator, and returns the reply to it. What it deletes is told first, however deep it goes.
 ///
-/// A command that is refused changes nothing and tells nothing. Memory is wanted by `native`, `script` and `weakmap`, by
-/// `wrap` where the native has no reflector, and by `wset` with a value where the map has no entry of the key, where they
+/// A command that is refused changes nothing and tells nothing. Memory is wanted by `native`, `script`, `weakmap` and `proxy`,
+/// by `wrap` where the native has no reflector, and by `wset` with a value where the map has no entry of the key, where they
 /// are not refused; by no other command. Without it they change nothing and tell nothing either.
 ///
 /// The reply is that of each graph that the heaps stand for, or it is want of memory where that graph does not refuse the

@@ -180,7 +180,12 @@ pub(crate) fn refusal_of_expose(heaps: &Heaps, s: RegNo, i: u32) -> Option<Refus
 }
 
 /// Why `put` is refused.
-pub(crate) fn refusal_of_put(heaps: &Heaps, d: RegNo, i: u32, from: Option<RegNo>) -> Option<Refusal>
+pub(crate) fn refusal_of_put(
+    heaps: &Heaps,
+    d: RegNo,
+    i: u32,
+    from: Option<RegNo>,
+) -> Option<Refusal>
     requires { (owned : List ℕ) × IsInOrder owned heaps.now }
     ensures { result ≡ refusal_of (objects_of heaps.now.heap) (Put d i from) }
 {
@@ -199,7 +204,12 @@ pub(crate) fn refusal_of_take(heaps: &Heaps, d: RegNo, s: RegNo, i: u32) -> Opti
 }
 
 /// Why `wset` is refused.
-pub(crate) fn refusal_of_set_entry(heaps: &Heaps, m: RegNo, k: RegNo, from: Option<RegNo>) -> Option<Refusal>
+pub(crate) fn refusal_of_set_entry(
+    heaps: &Heaps,
+    m: RegNo,
+    k: RegNo,
+    from: Option<RegNo>,
+) -> Option<Refusal>
     requires { (owned : List ℕ) × IsInOrder owned heaps.now }
     ensures { result ≡ refusal_of (objects_of heaps.now.heap) (SetEntry m k from) }
 {

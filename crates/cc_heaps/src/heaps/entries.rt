@@ -32,7 +32,8 @@ impl Heaps {
         ensures same { OnErr result (self.new ≡ self.old) }
         ensures order { (owned : List ℕ) → IsInOrder owned self.old → IsInOrder owned self.new }
     {
-        self.weak.set(the_map, key, self.scripts.delegate(key), value)
+        self.weak
+            .set(the_map, key, self.scripts.delegate(key), value)
     }
 
     // A script object that is a reflector is preserved.

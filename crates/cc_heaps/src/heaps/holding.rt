@@ -76,7 +76,12 @@ impl Heaps {
     }
 
     // A register written, whose new reference was taken before: what it held is given up.
-    pub(super) fn put_in_register<N: Notices>(&mut self, r: RegNo, content: Option<NKey>, out: &mut N)
+    pub(super) fn put_in_register<N: Notices>(
+        &mut self,
+        r: RegNo,
+        content: Option<NKey>,
+        out: &mut N,
+    )
         requires order { (owned : List ℕ) × IsInOrder (numbers_of (native_name self.old content) ++ owned) self.old }
         requires there { IsNativeThere self.old content }
         ensures heap { self.new ≡ left_with self.old (put_in_register self.old.heap r (native_name self.old content)).heap }
@@ -126,7 +131,13 @@ impl Heaps {
     /// deletes. Takes no memory. A gray script object that came in would have a holder of which a snapshot knows nothing:
     /// snapshots stay fresh where a script object that comes in is black. A native that is not reached could lose its mark
     /// by coming into the slot of another such one: none is forgotten where the native whose slot is written is reached.
-    pub fn store_native<N: Notices>(&mut self, key: NKey, i: SlotNo, content: Option<Held>, out: &mut N)
+    pub fn store_native<N: Notices>(
+        &mut self,
+        key: NKey,
+        i: SlotNo,
+        content: Option<Held>,
+        out: &mut N,
+    )
         requires order { (owned : List ℕ) × IsInOrder owned self.old × AreOwnedOnce owned }
         requires live { IsSome (number_at self.old key.0) }
         requires within { i < length (slots_of (counts_of self.old) key.0) }

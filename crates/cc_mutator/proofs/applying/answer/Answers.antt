@@ -6,6 +6,9 @@ returns-in-Script g c = rw c.in-Script.is (c.make_plain.ensures _)
 pub returns-in-WeakMap : goal.returns-in-WeakMap
 returns-in-WeakMap g c = rw c.in-WeakMap.is (c.make_map.ensures _)
 
+pub returns-in-Proxy : goal.returns-in-Proxy
+returns-in-Proxy g c = rw c.in-Proxy.is (c.make_proxy.ensures _)
+
 pub returns-in-CopyScript : goal.returns-in-CopyScript
 returns-in-CopyScript g c = rw c.in-CopyScript.is (c.copy_script.ensures _)
 
