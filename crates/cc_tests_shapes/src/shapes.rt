@@ -177,10 +177,11 @@ fn a_ring_through_a_hundred_thousand_reflectors_is_freed(rt: HostRuntime) {
     REFLECTOR_RING.is_played(&rt);
 }
 
-/// What stands after both chains of entries, of which s0 holds the map and s1 the first key. One `gc` marks the chain black
-/// from the registers, and the next one gray from a native that holds the map and the first key, and itself; so each entry
-/// is a mapping of a collection. The first collection keeps the native, which a register holds, and so all that the chain
-/// leads to; the second one takes it, and the `gc` after that frees all.
+/// What stands after both chains of entries, of which s0 holds the map and s1 the first key, and after a chain of proxies,
+/// of which s1 holds the delegate of the only key. One `gc` marks the chain black from the registers, and the next one gray
+/// from a native that holds the map and what s1 held, and itself; so each entry is a mapping of a collection. The first
+/// collection keeps the native, which a register holds, and so all that the chain leads to; the second one takes it, and
+/// the `gc` after that frees all.
 const MARKED_AND_SCANNED: &str =
     "gc\nnative n0 3\nset n0 0 n0\nset n0 1 s0\nset n0 2 s1\ndrop s0\ndrop s1\n\
     copy n1 n0\ndrop n1\ngc\ncollect\ngc\ndrop n0\ncollect\ngc\ncensus\n";
@@ -235,6 +236,53 @@ fn a_chain_of_a_hundred_thousand_entries_is_marked_and_scanned_against_their_ord
     rt: HostRuntime,
 ) {
     ENTRY_CHAIN_AGAINST_ORDER.is_played(&rt);
+}
+
+/// Each proxy stands for the one before it, the first for a reflector; the last one is the key of the only entry, and s1
+/// holds its delegate. One `gc` marks the chain, and keeps the key and the value; a collection keeps the native. The `gc`
+/// after s1 is dropped frees all but the map and the reflector, which goes with its native after the next collection.
+const PROXY_CHAIN: Shape = Shape {
+    script: &[
+        Once("native n0 0\nwrap s1 n0\nweakmap s0\n"),
+        Each(2, 100000, "proxy s2 s1\ncopy s1 s2\n"),
+        Once("proxy s2 s1\nscript s3 0\nwset s0 s2 s3\ndrop n0\ndrop s2\ndrop s3\n"),
+        Once("gc\ncollect\ndrop s1\ngc\ncollect\ngc\ncensus\n"),
+    ],
+    wanted: &[
+        Once("= #1\n= ~1\n= @1\n"),
+        Each(2, 100000, "= @K\n= @K\n"),
+        Once("= @100001\n= @100002\n= ok\n= ok\n= ok\n= ok\n= ok\n= ok\n= ok\n"),
+        Each(2, 100002, "- free @K\n"),
+        Once("= ok\n- unlink #1\n= ok\n- free ~1\n- free #1\n= ok\n+ @1\n= census 1\n"),
+    ],
+};
+
+#[test]
+fn a_chain_of_a_hundred_thousand_proxies_is_marked_and_swept(rt: HostRuntime) {
+    PROXY_CHAIN.is_played(&rt);
+}
+
+/// The same over a script object, and the collections go over it too.
+const PROXY_CHAIN_FROM_A_NATIVE: Shape = Shape {
+    script: &[
+        Once("weakmap s0\nscript s1 0\n"),
+        Each(3, 100001, "proxy s2 s1\ncopy s1 s2\n"),
+        Once("proxy s2 s1\nscript s3 0\nwset s0 s2 s3\ndrop s2\ndrop s3\n"),
+        Once(MARKED_AND_SCANNED),
+    ],
+    wanted: &[
+        Once("= @1\n= @2\n"),
+        Each(3, 100001, "= @K\n= @K\n"),
+        Once("= @100002\n= @100003\n= ok\n= ok\n= ok\n"),
+        Once(SCANNED),
+        Each(1, 100003, "- free @K\n"),
+        Once("= ok\n= census 0\n"),
+    ],
+};
+
+#[test]
+fn a_chain_of_a_hundred_thousand_proxies_is_marked_and_scanned(rt: HostRuntime) {
+    PROXY_CHAIN_FROM_A_NATIVE.is_played(&rt);
 }
 
 /// Each key holds the one before it, and s1 holds the last: so one `gc` keeps all values. The one after s1 is dropped frees
