@@ -50,9 +50,7 @@ repeat_free true true k e = refl
 repeat_free true false k e = cc
 
 set_free : (again : Bool) (a : Rule) (values : List Text) (rows : List Row) → Faults.set_fault again a values rows ≡ [] → Takes.set_passes again a values rows ≡ true
-set_free again a values rows e =
-    let free = no_fault (Faults.repeat_fault again a.id rows) _ e in
-    and_true _ _ (repeat_free (has_row a.id rows) again _ free.0) (values_free a.ignore_case (parser_of_value a.parser) values free.1)
+set_free again a values rows e = grind (arith, no_fault, and_true, repeat_free, values_free)
 
 action_free : (x : ArgAction) (again : Bool) (a : Rule) (values : List Text) (rows : List Row) → Faults.action_fault x again a values rows ≡ []
     → Takes.action_passes x again a values rows ≡ true
@@ -62,10 +60,7 @@ range_free : (least most n : ℕ) → range_kinds least most n ≡ [] → (nat_l
 range_free least most n e = (grind arith, grind arith)
 
 use_free : (again : Bool) (a : Rule) (values : List Text) (rows : List Row) → Faults.use_fault again a values rows ≡ [] → Takes.use_passes again a values rows ≡ true
-use_free again a values rows e =
-    let free = no_fault (range_kinds (unwrap_or_range a.range).start_inclusive (most_values a) (length values)) _ e in
-    let within = range_free (unwrap_or_range a.range).start_inclusive (most_values a) (length values) free.0 in
-    and_true _ _ within.0 (and_true _ _ within.1 (action_free (action_of a) again a (values_or_missing a values) rows free.1))
+use_free again a values rows e = grind (arith, no_fault, range_free, and_true, action_free)
 
 -- ---- the walk over the words
 
@@ -74,9 +69,7 @@ settle_free c again h e = grind (arith, use_free)
 
 react_free : (c : List Rule) (again : Bool) (a : Rule) (values : List Text) (h : Held) → Faults.react_fault c again a values h ≡ []
     → Takes.react_passes c again a values h ≡ true
-react_free c again a values h e =
-    let free = no_fault (Faults.settle_fault c again h) _ e in
-    and_true _ _ (settle_free c again h free.0) (use_free again a values (settled c h).rows free.1)
+react_free c again a values h e = grind (arith, no_fault, and_true, settle_free, use_free)
 
 option_free : (c : List Rule) (again : Bool) (a : Rule) (v : Option Text) (h : Held) → Faults.option_fault c again a v h ≡ []
     → Takes.option_passes c again a v h ≡ true
@@ -141,17 +134,7 @@ step_free s position h (subcommand name) e = refl
 step_free s position h value e = grind (arith, positional_free)
 
 turn_free : (s : Shape) (names : Names) (w : Walk) (word : Text) → Faults.turn_fault s names w word ≡ [] → Takes.turn_passes s names w word ≡ true
-turn_free s names w word e = go (is_some w.stopped) e
-  where
-    met : Held × Step
-    met = word_met s.rules names w.is_trailing w.waiting w.position word w.held
-
-    go : (b : Bool) → cond b [] (or_else (Faults.word_fault s names w.is_trailing w.waiting word w.held) (Faults.step_fault s w.position met.0 met.1)) ≡ []
-        → (b || (Takes.word_passes s names w.is_trailing w.waiting word w.held && Takes.step_passes s w.position met.0 met.1)) ≡ true
-    go true e = refl
-    go false e =
-        let free = no_fault (Faults.word_fault s names w.is_trailing w.waiting word w.held) _ e in
-        and_true _ _ (word_free s names w.is_trailing w.waiting word w.held free.0) (step_free s w.position met.0 met.1 free.1)
+turn_free s names w word e = grind (arith, no_fault, and_true, word_free, step_free)
 
 walk_free : (s : Shape) (names : Names) (w : Walk) (words : List Text) → Faults.walk_fault s names w words ≡ [] → Takes.walk_passes s names w words ≡ true
 unfolding Faults.walk_fault Takes.walk_passes
@@ -190,11 +173,7 @@ required_free true rows rules e = refl
 required_free false rows rules e = all_given rows rules e
 
 valid_free : (s : Shape) (rows : List Row) (has : Bool) → Faults.has_free_rules s ≡ true → Faults.check_fault s rows has ≡ [] → is_valid s rows has ≡ true
-valid_free s rows has free e =
-    let none = checks_free (not has && (s.arg_required_else_help && not (list_any (λ r. explicit_source r.source) rows))) (not has && s.subcommand_required) _ e in
-    and_true _ _ (help_free s.arg_required_else_help has _ none.0)
-    (and_true _ _ (subcommand_free s.subcommand_required has none.1)
-    (and_true _ _ free (required_free (s.subcommand_negates_reqs && has) rows s.rules none.2)))
+valid_free s rows has free e = grind (arith, checks_free, and_true, help_free, subcommand_free, required_free)
 
 -- the defaults of the level's own arguments pass, and no argument has a rule on another
 abbrev pub is_sound_level : Shape → Bool
@@ -202,18 +181,7 @@ is_sound_level s = list_all default_passes s.rules && Faults.has_free_rules s
 
 level_free : (s : Shape) (names : Names) (h : Held) (words : List Text) (has : Bool) (below : Kinds) → is_sound_level s ≡ true
     → level_fault s names h words has below ≡ [] → (level_passes s names h words has ≡ true) × (below ≡ [])
-level_free s names h words has below sound e =
-    let end = (walk s.rules names h words).held in
-    let ready = both (list_all default_passes s.rules) _ sound in
-    let a = no_fault (Faults.walk_fault s names (walk_from h) words) _ e in
-    let b = no_fault below _ a.1 in
-    let c = no_fault (Faults.settle_fault s.rules s.args_override_self end) _ b.1 in
-    let d = no_fault (Faults.defaults_fault (settled s.rules end).rows s.rules) _ c.1 in (
-      and_true _ _ (walk_free s names (walk_from h) words a.0)
-          (and_true _ _ (settle_free s.rules s.args_override_self end c.0)
-          (and_true _ _ ready.0 (valid_free s (finished s.rules end) has ready.1 d.1))),
-      b.0,
-    )
+level_free s names h words has below sound e = grind (arith, both, no_fault, and_true, walk_free, settle_free, valid_free)
 
 -- the subcommand that the words name, if there is one
 below_free : (name : Text) (words : List Text) (subs : List Shape) → list_all is_sound_level subs ≡ true
@@ -244,8 +212,4 @@ entered_free a (Some p) sound e = below_free p.0 p.1 a.subs sound e
 -- the command whose levels are sound takes words at which it has no fault
 pub takes-no_fault : (a : App) (words : List Text) → is_simple a ≡ true → is_sound_level (built a).top ≡ true → list_all is_sound_level (built a).subs ≡ true
     → fault_of a words ≡ [] → takes a words ≡ true
-takes-no_fault a words simple top subs e =
-    let given = argument_words a words in
-    let stop = (walk (built a).top.rules (names_of (built a)) nothing_held given).stopped in
-    let free = level_free (built a).top (names_of (built a)) nothing_held given (is_some (entered (built a) stop)) (Faults.entered_fault (built a) stop) top e in
-    and_true _ _ simple (and_true _ _ (entered_free (built a) stop subs free.1) free.0)
+takes-no_fault a words simple top subs e = grind (arith, level_free, and_true, entered_free)
