@@ -63,7 +63,7 @@ module _ (v : Keyed) (c : Option Built) (g : Graph) (s : Shows (parts v c) g) wh
           }
 
       unwrapped : (o : Option Slots) → n.reflector ≡ o → n.preserved ≡ false → IsNoKey g (reflector k)
-      unwrapped (Some slots) r p = (s.stands.blank k n slots is p r).1.0
+      unwrapped (Some slots) r p = (s.stands.blank k n slots is p r).1
       unwrapped None r p = λ e i t.
           let made = (and_parts (is_script e.key) (was_made g e.key) (s.well.entries e i).key).1 in
           let now : IsTrue (was_made g (reflector k)) = subst (λ x. IsTrue (was_made g x)) t made in
