@@ -28,7 +28,8 @@ and `- unlink` lines as the shape must have.
 counts in place of timing, by callgrind (valgrind): the instructions of the four commands that make a native that holds
 itself, drop it and collect it, beside SIZE natives that live (1000 10000 100000 if left out). Each count is the difference
 of two scripts, with these commands and without. The machine's noise is not in it. The largest size takes some seconds a
-script.
+script. The first such cycle comes behind the collection that looked at all SIZE natives, and its collection gives back the
+room that this one took. The second comes behind the first.
 """
 
 import os
@@ -313,7 +314,7 @@ def instructions(path):
 
 
 def count(sizes):
-    """Prints what the self-cycle's commands take beside living natives."""
+    """Prints what the self-cycle's commands take beside living natives, the first time and the second."""
     print("| a native that holds itself, beside | " + " | ".join(f"{size:,} that live" for size in sizes) + " |")
     print("|---|" + "---:|" * len(sizes))
     with tempfile.TemporaryDirectory(prefix="ccreplay-bench-") as folder:
@@ -321,12 +322,13 @@ def count(sizes):
             taken = []
             for size in sizes:
                 build = living_chain(size, min(holders, size))
-                first = Script(f"{folder}/first", build, 0, 0)
-                both = Script(f"{folder}/both", build + SELF_CYCLE, 1, 1)
-                for script in (first, both):
+                scripts = [Script(f"{folder}/{k}", build + k * SELF_CYCLE, k, k) for k in range(3)]
+                for script in scripts:
                     script.run(f"{folder}/said")
-                taken.append(instructions(both.path) - instructions(first.path))
-            print(f"| {name} | " + " | ".join(f"{it:,}" for it in taken) + " |", flush=True)
+                none, one, two = (instructions(script.path) for script in scripts)
+                taken.append((one - none, two - one))
+            for k, which in enumerate(("the first", "the second")):
+                print(f"| {name}, {which} | " + " | ".join(f"{it[k]:,}" for it in taken) + " |", flush=True)
 
 
 def main():

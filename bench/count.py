@@ -8,7 +8,8 @@ Build the program first (it stays as crates/ccreplay/out/ccreplay), and then nam
     bench/count.py [SIZE ..]
 
 CCREPLAY names another program. FUNCTIONS=1 also prints what each function took, where it is one instruction an object or
-more. LIVE are the numbers of natives beside which a slice is counted (1000,10000,100000 if left out; none where empty).
+more. ALL=1 counts every shape of bench.py, and not these four. LIVE are the numbers of natives beside which a slice is
+counted (1000,10000,100000 if left out; none where empty).
 
 A row has the instructions of a script's second part, for each object: those of the whole script less those of its first
 part. A slice is one of 900 in a row, each of one unit, in a collection of so many natives that live.
@@ -20,7 +21,7 @@ import subprocess
 import sys
 import tempfile
 
-from bench import PROGRAM, chain, live_chain, mapping_chain, mapping_chain_backwards, ring
+from bench import PROGRAM, SHAPES as EVERY_SHAPE, chain, live_chain, mapping_chain, mapping_chain_backwards, ring
 
 SHAPES = [
     ("a chain of natives that lives, collected", live_chain),
@@ -30,6 +31,7 @@ SHAPES = [
 ]
 SLICES = 900
 FUNCTIONS = bool(os.environ.get("FUNCTIONS"))
+ALL = bool(os.environ.get("ALL"))
 LIVE = [int(it) for it in os.environ.get("LIVE", "1000,10000,100000").split(",") if it]
 
 
@@ -76,7 +78,7 @@ def main():
     print("| script | objects | instructions for each |")
     print("|---|---:|---:|")
     with tempfile.TemporaryDirectory(prefix="ccreplay-count-") as folder:
-        for name, made in SHAPES:
+        for name, made in EVERY_SHAPE if ALL else SHAPES:
             for size in sizes:
                 shape = made(size)
                 difference(folder, name, size, shape.build, shape.end, shape.times * size)

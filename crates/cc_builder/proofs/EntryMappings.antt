@@ -1,10 +1,10 @@
 -- WHAT ENTRIES OF WEAK MAPS GIVE, AS MAPPINGS: what they add to the nodes and to the mappings of a build.
-use Rattle.std.proofs.Common.{◌≡◌, ◌≢◌, ℕ, suc, ◌+◌, ◌<◌, ◌≤◌, Bool, true, false, cond, List, [], ◌∷◌, ◌++◌, map, length, take, drop, get_or, Option, Some, None, Result, Ok, Err, OnOk, OnErr, IfSome, option_map, option_to_list, IsTrue, refl, sym, ◌∙◌, ap, subst, arith, add-one, append_assoc, slice_get, slice_index_or}
+use Rattle.std.proofs.Common.{◌≡◌, ◌≢◌, ℕ, suc, ◌+◌, ◌<◌, ◌≤◌, Bool, true, false, cond, List, [], ◌∷◌, ◌++◌, map, length, take, drop, get_or, Option, Some, None, IfSome, option_map, option_to_list, refl, sym, ◌∙◌, ap, subst, arith, add-one, append_assoc, slice_get, slice_index_or}
 use Rattle.std.specs.List.{filter, flat_map}
 use Rattle.std.proofs.Math.Seq.{drop-cons}
 use Rattle.std.proofs.lemmas.Grind.{flat_map-append}
 use Rattle.std.proofs.lemmas.List.Folds.{flat_map-map}
-use Rattle.std.proofs.lemmas.List.{append-nil, drop_all, get_or-take, length-map, map_push, take-append-drop}
+use Rattle.std.proofs.lemmas.List.{drop_all, get_or-take, length-map, map_push, take-append-drop}
 use Rattle.std.proofs.lemmas.Option.{slice_get-get_or}
 use denote.Enum.Bare.{sameb}
 use Rattle.cc_lists.specs.Members.{Among, with_last, with_all_last}
@@ -17,7 +17,7 @@ use Rattle.cc_names.specs.declared.name.Name.{Name}
 use Rattle.cc_names.specs.declared.number.SKey.{SKey}
 use Rattle.cc_names.specs.Names.{native, same_name}
 use Rattle.cc_names.proofs.NameTests.{same_name-exact}
-use Rattle.cc_model.specs.Entries.{Entry, Joint, joint, key_joint, joints_of, joints}
+use Rattle.cc_model.specs.Entries.{Entry, Joint, joints_of, joints}
 use Rattle.cc_model.specs.Heap.{Heap, is_gray_in}
 use Rattle.cc_model.specs.Snapshot.{Mapping}
 use Rattle.cc_model.specs.Units.{if_gray, mappings_of, members_of}
@@ -25,15 +25,14 @@ use Rattle.cc_model.specs.Units as units
 use Rattle.cc_counted.specs.declared.held.Held.TheVariants as held
 use Rattle.cc_weakmaps.specs.Entries.{KeyedEntry}
 use Rattle.cc_weakmaps.specs.Entries as keyed
-use Rattle.cc_script.specs.Objects.{Object, colour_at, is_there}
+use Rattle.cc_script.specs.Objects.{Object, colour_at}
 use Rattle.cc_graph.specs.Shown.{Vertex, Hyperedge, hyperedge, number_of}
 use Rattle.cc_graph.specs.Closed.{AreHyperedgesWithin, IsHyperedgeWithin}
 use Rattle.cc_marking.specs.Marking.{IsEntryThere}
-use Rattle.cc_heaps.specs.Keyed.{Keyed, IsInOrder, name_held, named_entry, the_name_at}
+use Rattle.cc_heaps.specs.Keyed.{Keyed, IsInOrder, named_entry, the_name_at}
 use Rattle.cc_heaps.specs.Changes.{IsScriptThere}
-use Rattle.cc_heaps.proofs.Reaching.{the_name-there}
 use Rattle.cc_builder.specs.Building.{Built, mapping_of, vertex_name, vertex_names}
-use Rattle.cc_builder.specs.BuildSteps.{IsMapNode, entry_mappings, key_mappings, mappings_at, mappings_in, named_joint, the_name, with_vertex_of}
+use Rattle.cc_builder.specs.BuildSteps.{IsMapNode, entry_mappings, mappings_at, mappings_in, named_joint, the_name, with_vertex_of}
 use Rattle.cc_builder.proofs.Begun.{with_all_last-append, with_all_last-first, with_all_last-longer}
 use Rattle.cc_builder.proofs.BuildNodes.{mapping-same, mappings-alike, member-alike, names-with_vertex, number_of-at}
 use Rattle.cc_builder.proofs.BuildPlaces.{left-some, right-some}
@@ -223,20 +222,6 @@ module _ (v : Keyed) (es : List KeyedEntry) (i : ℕ) (e : KeyedEntry) (same : e
   pub entry-there : IsInOrder [] v → IsEntryThere v.scripts e
   entry-there order = order.entries_there e (place-among e v.entries i read)
 
-  -- its mappings are first that of its key, then that of its value
-  pub entry-split : mappings_at v i ≡ key_mappings v e.the_map e.delegate e.key ++ mappings_in v.heap (named_joint v.scripts e.the_map e.key e.value)
-  entry-split =
-      let j = named_joint v.scripts e.the_map e.key e.value in
-      mappings-at v i e read
-      ∙ flat_map-append (mappings_in v.heap) (key_joint (the_name_at v.scripts e.the_map) (name_held v.scripts e.delegate) (the_name_at v.scripts e.key)) (j ∷ [])
-      ∙ ap (λ ms. key_mappings v e.the_map e.delegate e.key ++ ms) (append-nil (mappings_in v.heap j))
-
--- a key that has no delegate gives nothing, and one that has one gives one joint
-pub key-joint : (v : Keyed) (m d k : ℕ) → IsTrue (is_there v.scripts d) → key_mappings v m (Some d) k ≡ mappings_in v.heap (named_joint v.scripts m d k)
-key-joint v m d k there =
-    ap (λ (o : Option Name). flat_map (mappings_in v.heap) (key_joint (the_name_at v.scripts m) o (the_name_at v.scripts k))) (the_name-there v.scripts d there)
-    ∙ append-nil (mappings_in v.heap (named_joint v.scripts m d k))
-
 -- whether what a joint gives is gray, as its colour was read
 module _ (v : Keyed) (order : IsInOrder [] v) (objects : List Object) (m k x : SKey) (colour : Colour) (there : IsScriptThere v (Some x)) (are : objects ≡ v.scripts)
     (has : colour_at objects x.0 ≡ Some colour) where
@@ -302,25 +287,3 @@ turn-mappings v i ms ns all l e so_far =
     ∙ append_assoc ms (mappings_at v i) (mappings_from v (i + 1))
     ∙ ap (λ os. ms ++ os) (sym (mappings-next v i l))
     ∙ so_far
-
--- One entry: what is noted of its key, then what is noted of its value
-
-pub ok-then : {T E P Q : Type 0} (r : Result T E) → OnOk r P → (P → Q) → OnOk r Q
-ok-then (Ok x) p f = f p
-ok-then (Err e) p f = tt
-
-pub err-then : {T E P Q : Type 0} (r : Result T E) → OnErr r P → (P → Q) → OnErr r Q
-err-then (Ok x) p f = tt
-err-then (Err e) p f = f p
-
-pub both-members : (xs ys zs : List Name) (ms ns all : List Mapping) → all ≡ ms ++ ns → ys ≡ with_all_last same_name xs (flat_map members_of ms) →
-    zs ≡ with_all_last same_name ys (flat_map members_of ns) → zs ≡ with_all_last same_name xs (flat_map members_of all)
-both-members xs ys zs ms ns all split first second =
-    second
-    ∙ ap (λ us. with_all_last same_name us (flat_map members_of ns)) first
-    ∙ sym (with_all_last-append xs (flat_map members_of ms) (flat_map members_of ns))
-    ∙ ap (with_all_last same_name xs) (sym (ap (flat_map members_of) split ∙ flat_map-append members_of ms ns))
-
-pub both-mappings : (os ps qs ms ns all : List Mapping) → all ≡ ms ++ ns → ps ≡ os ++ ms → qs ≡ ps ++ ns → qs ≡ os ++ all
-both-mappings os ps qs ms ns all split first second =
-    second ∙ ap (λ rs. rs ++ ns) first ∙ append_assoc os ms ns ∙ ap (λ rs. os ++ rs) (sym split)

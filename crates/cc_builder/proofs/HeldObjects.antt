@@ -1,14 +1,12 @@
 -- An object that is there, by its name in the heaps: what stands there, and its places.
-use Rattle.std.proofs.Common.{◌≡◌, ℕ, Bool, true, false, ◌||◌, List, [], Option, Some, None, IsSome, IsTrue, is_some, option_map, option_and_then, refl, sym, ◌∙◌, ap, subst, find, ◌==◌}
-use Rattle.std.specs.List.{filter}
-use Rattle.std.proofs.lemmas.Bool.{false≢true, true≢false, not-true}
+use Rattle.std.proofs.Common.{◌≡◌, ℕ, false, ◌||◌, List, [], Option, Some, None, IsSome, IsTrue, is_some, option_map, option_and_then, refl, sym, ◌∙◌, ap, subst, ◌==◌}
+use Rattle.std.proofs.lemmas.Bool.{true≢false, not-true}
 use Rattle.cc_heaps.proofs.GrayNames.{gray-named}
 use denote.Enum.Bare.{sameb}
 use Rattle.cc_lists.specs.Members.{Among}
-use Rattle.cc_lists.proofs.Members.{Among-map, Among-filter, Among-filtered, Among-passes}
-use Rattle.cc_lists.proofs.Filtering.{find-among, find-passes}
-use Rattle.cc_lists.proofs.Searching.{find-some, find-only, find-map}
-use Rattle.cc_lists.proofs.ListWrites.{only-member}
+use Rattle.cc_lists.proofs.Members.{Among-map}
+use Rattle.cc_lists.proofs.Filtering.{find-among}
+use Rattle.cc_lists.proofs.Searching.{find-only, find-map}
 use Rattle.cc_names.specs.declared.name.Name.{Name}
 use Rattle.cc_names.specs.declared.name.Name.TheVariants as name
 use Rattle.cc_names.specs.declared.number.NKey.{NKey}
@@ -21,7 +19,6 @@ use Rattle.cc_names.proofs.NameTests.{same_name-refl}
 use Rattle.cc_model.specs.Checks.{slots_or_none}
 use Rattle.cc_model.specs.Heap.{Heap, HeapNative, HeapScript, native_at, script_at, is_gray_colour, is_gray_in}
 use Rattle.cc_model.specs.Places.{places_of_native, places_of_script, places_in}
-use Rattle.cc_model.specs.WellFormed.{IsWellFormed}
 use Rattle.cc_model.specs.Units.{is_noted}
 use Rattle.cc_laws_heap.proofs.Face.{named-found, native_at-there, script-named, scripts-once}
 use Rattle.cc_counted.specs.declared.held.Held.{Held}

@@ -3,7 +3,6 @@ use Rattle.std.proofs.Common.{◌≡◌, ℕ, ◌+◌, count_by, Bool, true, fal
 use Rattle.std.specs.Prelude.{◌==◌, IsTrue, IfSome}
 use Rattle.std.specs.Option.{option_flatten}
 use Rattle.std.proofs.lemmas.Bool.{true≢false, eqb-true, eq-eqb, ne_eqb}
-use Rattle.std.proofs.Props.{props}
 use Rattle.std.proofs.lemmas.Bool.Decides.{eqb_tells}
 use Rattle.cc_lists.specs.Members.{Among, has, without}
 use Rattle.cc_lists.proofs.Counting.{count_by-cons}
@@ -13,18 +12,14 @@ use Rattle.cc_chain.specs.declared.link.Link.{Link}
 use Rattle.cc_chain.specs.Links.{AreBelow, Links, is_live, is_linked, link_at, is_key, with_link, with_changed, with_before, with_after, IsFree, SameLinks}
 use Rattle.cc_chain.specs.declared.chain.Chain.{Chain}
 use Rattle.cc_lists.specs.Walks.{first_of}
-use Rattle.cc_chain.specs.Chains.{AllDiffer, IsChain, IsSomeChain, last_or, behind, link_from, with_next, with_previous, walked}
+use Rattle.cc_chain.specs.Chains.{AllDiffer, IsChain, last_or, behind, link_from, with_next, with_previous, walked}
 use Rattle.cc_chain.proofs.Links.{changed_at, link_at-with_link, link_at-with_changed}
 use Rattle.cc_chain.proofs.Rows.{AllDiffer-push, AllDiffer-filter, without-first, without-leaves, last-among, link_from-absent, link_from-among, link_from-has, before-among, after-among, after-behind, link_from-push, last-push, first-push, closed_over, closed_over-none, link_from-without, first-without, last-without}
 
 -- Who is live, and who is in the list
 
 linked-live : (links : Links) (key : ℕ) → is_linked links key ≡ true → IsTrue (is_live links key)
-linked-live links key = go (links key)
-  where
-    go : (o : Option (Option Link)) → is_some (option_flatten o) ≡ true → is_some o ≡ true
-    go None e = e
-    go (Some o) e = refl
+linked-live links key = grind arith
 
 -- a walk from the first key of a part of the list gives that part
 walked-from : (links : Links) (n : ℕ) (before : Option ℕ) (keys : List ℕ) → AllDiffer keys → ((k : ℕ) → Among k keys → link_at links k ≡ link_from before keys k) →
@@ -159,11 +154,7 @@ module _ {R : Type 0} (links : Links) (chain : Chain R) (keys : List ℕ) (c : I
 
   -- The front leaves
   pub chain-front : (key : ℕ) → chain.first ≡ Some key → without ◌==◌ key keys ≡ drop 1 keys
-  chain-front key e = go keys c.differ (sym c.first ∙ e)
-    where
-      go : (ks : List ℕ) → AllDiffer ks → first_of ks ≡ Some key → without ◌==◌ key ks ≡ drop 1 ks
-      go [] d f = absurd (cc)
-      go (k ∷ ks) d f = let same : k ≡ key = cc in subst (λ z. without ◌==◌ z (k ∷ ks) ≡ ks) same (without-first k ks d.0)
+  chain-front key e = grind (arith, without-first)
 
   -- The list is read from the store
   pub chain-walked : (n : ℕ) → length keys ≤ n → walked n links chain.first ≡ keys
@@ -191,14 +182,3 @@ chain-kept links new chain keys same c = record { differ = c.differ; first = c.f
 pub chain-one_list : {R : Type 0} (links : Links) (chain : Chain R) (xs ys : List ℕ) → IsChain links chain xs → IsChain links chain ys → xs ≡ ys
 chain-one_list links chain xs ys c d =
     sym (chain-walked links chain xs c (length xs + length ys) (omega arith)) ∙ chain-walked links chain ys d (length xs + length ys) (omega arith)
-
--- and that a chain is some list has one proof alone: a ghost field may say it
-chosen-prop : {A : Type 0} (P : A → Type 0) → ((x : A) → IsProp (P x)) → ((x y : A) → P x → P y → x ≡ y) → IsProp ((x : A) × P x)
-chosen-prop P prop one s t = subst (λ y. (d : P y) → (s.0, s.1) ≡ (y, d)) (one s.0 t.0 s.1 t.1) (λ d. ap (λ e. (s.0, e)) (prop s.0 s.1 d)) t.1
-
-AllDiffer-prop : (xs : List ℕ) → IsProp (AllDiffer xs)
-AllDiffer-prop [] = hlevel
-AllDiffer-prop (x ∷ xs) = hlevel (AllDiffer-prop xs)
-
-pub IsSomeChain-prop : {R : Type 0} (links : Links) (chain : Chain R) → IsProp (IsSomeChain links chain)
-IsSomeChain-prop links chain = chosen-prop (IsChain links chain) (λ keys. hlevel (AllDiffer-prop, props)) (chain-one_list links chain)

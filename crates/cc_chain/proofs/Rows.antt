@@ -1,5 +1,5 @@
 -- The links of the keys of a list, and of the list once a key goes last or leaves.
-use Rattle.std.proofs.Common.{◌≡◌, ◌≢◌, ℕ, Bool, true, false, not, ◌||◌, List, [], ◌∷◌, ◌++◌, Option, Some, None, is_some, option_map, refl, sym, ◌∙◌, ap, subst, inl, inr, ◌⊎◌, ⊎_elim, if◌then◌else◌}
+use Rattle.std.proofs.Common.{◌≡◌, ◌≢◌, ℕ, Bool, true, false, not, List, [], ◌∷◌, ◌++◌, Option, Some, None, is_some, refl, sym, ◌∙◌, ap, subst, inl, inr, ◌⊎◌, ⊎_elim, if◌then◌else◌, arith}
 use Rattle.std.specs.Prelude.{◌==◌}
 use Rattle.std.specs.List.{filter}
 use Rattle.std.proofs.lemmas.Bool.{true≢false, eqb-true, eq-eqb, ne_eqb, false_from_ne_true}
@@ -23,11 +23,7 @@ AllDiffer-push (x ∷ xs) y d n = (
 
 pub AllDiffer-filter : {X : Type 0} (p : X → Bool) (xs : List X) → AllDiffer xs → AllDiffer (filter p xs)
 AllDiffer-filter p [] d = d
-AllDiffer-filter p (x ∷ xs) d = go (p x) (AllDiffer-filter p xs d.1)
-  where
-    go : (b : Bool) → AllDiffer (filter p xs) → AllDiffer (if b then x ∷ filter p xs else filter p xs)
-    go true ih = (λ m. d.0 (Among-filtered p x xs m), ih)
-    go false ih = ih
+AllDiffer-filter p (x ∷ xs) d = grind (arith, Among-filtered, AllDiffer-filter p xs d.1)
 
 -- a key that is not there leaves nothing out
 pub without-absent : (key : ℕ) (xs : List ℕ) → ¬ (Among key xs) → without ◌==◌ key xs ≡ xs
@@ -41,8 +37,7 @@ pub without-leaves : (key : ℕ) (xs : List ℕ) → ¬ (Among key (without ◌=
 without-leaves key xs m = true≢false (sym (Among-passes (λ x. not (x == key)) key xs m) ∙ rw (eq-eqb key key refl) refl)
 
 pub first_is-among : (xs : List ℕ) (k : ℕ) → is_key (first_of xs) k ≡ true → Among k xs
-first_is-among [] k e = true≢false (sym e)
-first_is-among (x ∷ xs) k e = inl (eqb-true x k e)
+first_is-among xs k e = grind (arith, true≢false, eqb-true)
 
 pub last-among : (before : Option ℕ) (xs : List ℕ) (k : ℕ) → is_key (last_or before xs) k ≡ true → (is_key before k ≡ true) ⊎ Among k xs
 last-among before [] k e = inl e
@@ -56,33 +51,18 @@ link_from-absent before (x ∷ xs) k n = rw (ne_eqb x k (λ e. n (inl e))) (link
 
 pub link_from-among : (before : Option ℕ) (xs : List ℕ) (k : ℕ) → Among k xs → is_some (link_from before xs k) ≡ true
 link_from-among before [] k m = absurd m
-link_from-among before (x ∷ xs) k m = go (link_from-among (Some x) xs k) (x == k) refl
-  where
-    go : (Among k xs → is_some (link_from (Some x) xs k) ≡ true) → (b : Bool) → (x == k) ≡ b →
-        is_some (if b then Some (record { before = before; after = first_of xs }) else link_from (Some x) xs k) ≡ true
-    go ih true e = refl
-    go ih false e = ⊎_elim (λ s. absurd (true≢false (sym (eq-eqb x k s) ∙ e))) ih m
+link_from-among before (x ∷ xs) k m = grind (arith, true≢false, eq-eqb, link_from-among (Some x) xs k)
 
 pub link_from-has : (before : Option ℕ) (xs : List ℕ) (k : ℕ) → is_some (link_from before xs k) ≡ has ◌==◌ xs k
 link_from-has before [] k = refl
-link_from-has before (x ∷ xs) k = go (x == k) (link_from-has (Some x) xs k)
-  where
-    go : (b : Bool) → is_some (link_from (Some x) xs k) ≡ has ◌==◌ xs k →
-        is_some (if b then Some (record { before = before; after = first_of xs }) else link_from (Some x) xs k) ≡ (b || has ◌==◌ xs k)
-    go true ih = refl
-    go false ih = ih
+link_from-has before (x ∷ xs) k = grind (arith, link_from-has (Some x) xs k)
 
 -- What a link says
 
 -- of two cases, the first key of the list has the link, or a later one
 link_from-cases : (before : Option ℕ) (x : ℕ) (xs : List ℕ) (k : ℕ) (link : Link) → link_from before (x ∷ xs) k ≡ Some link →
     ((x ≡ k) × (record { before = before; after = first_of xs } ≡ link)) ⊎ ((x ≢ k) × (link_from (Some x) xs k ≡ Some link))
-link_from-cases before x xs k link = go (x == k) refl
-  where
-    go : (b : Bool) → (x == k) ≡ b → (if b then Some (record { before = before; after = first_of xs }) else link_from (Some x) xs k) ≡ Some link →
-        ((x ≡ k) × (record { before = before; after = first_of xs } ≡ link)) ⊎ ((x ≢ k) × (link_from (Some x) xs k ≡ Some link))
-    go true e found = inl (eqb-true x k e, cc)
-    go false e found = inr (λ s. true≢false (sym (eq-eqb x k s) ∙ e), found)
+link_from-cases before x xs k link = grind (arith, eqb-true, true≢false, eq-eqb)
 
 pub before-among : (before : Option ℕ) (xs : List ℕ) (k : ℕ) (link : Link) (j : ℕ) → link_from before xs k ≡ Some link →
     is_key link.before j ≡ true → (is_key before j ≡ true) ⊎ Among j xs
@@ -118,18 +98,12 @@ last-other x y ys n = false_from_ne_true _ (λ e. ⊎_elim (λ s. n (inl (eqb-tr
 push-first : (before : Option ℕ) (x : ℕ) (xs : List ℕ) (key : ℕ) → ¬ (Among x xs) →
     Some (record { before = before; after = first_of (xs ++ key ∷ []) }) ≡
     changed_at (last_or (Some x) xs) (with_after (Some key)) x (Some (record { before = before; after = first_of xs }))
-push-first before x [] key n = rw (eq-eqb x x refl) refl
-push-first before x (y ∷ ys) key n = rw (last-other x y ys n) refl
+push-first before x xs key n = grind (arith, eq-eqb, last-other)
 
 pub link_from-push : (before : Option ℕ) (xs : List ℕ) (key k : ℕ) → AllDiffer xs → ¬ (Among key xs) → is_key before key ≡ false →
     link_from before (xs ++ key ∷ []) k ≡
     changed_at (last_or before xs) (with_after (Some key)) k (if key == k then Some (record { before = last_or before xs; after = None }) else link_from before xs k)
-link_from-push before [] key k d n apart = go (key == k) refl
-  where
-    go : (b : Bool) → (key == k) ≡ b → (if b then Some (record { before = before; after = None }) else None) ≡
-        changed_at before (with_after (Some key)) k (if b then Some (record { before = before; after = None }) else None)
-    go true e = let same : key ≡ k = eqb-true key k e in rw (← same, apart) refl
-    go false e = sym (changed_at-none before (with_after (Some key)) k)
+link_from-push before [] key k d n apart = grind (arith, changed_at, eqb-true, changed_at-none)
 link_from-push before (x ∷ xs) key k d n apart = go (link_from-push (Some x) xs key k d.1 (λ m. n (inr m)) (ne_eqb x key (λ e. n (inl e)))) (x == k) refl
   where
     alone : Option Link
@@ -169,29 +143,16 @@ abbrev pub closed_over : Link → ℕ → Option Link → Option Link
 closed_over left k link = changed_at left.after (with_before left.before) k (changed_at left.before (with_after left.after) k link)
 
 pub closed_over-none : (left : Link) (k : ℕ) → closed_over left k None ≡ None
-closed_over-none left k =
-    ap (changed_at left.after (with_before left.before) k) (changed_at-none left.before (with_after left.after) k) ∙ changed_at-none left.after (with_before left.before) k
+closed_over-none left k = search (changed_at-none)
 
 -- another key before the list
 other-before : (before other : Option ℕ) (xs : List ℕ) (k : ℕ) → link_from before xs k ≡ changed_at (first_of xs) (with_before before) k (link_from other xs k)
-other-before before other [] k = refl
-other-before before other (x ∷ xs) k = go (x == k)
-  where
-    go : (b : Bool) → (if b then Some (record { before = before; after = first_of xs }) else link_from (Some x) xs k) ≡
-        (if b then option_map (with_before before) (if b then Some (record { before = other; after = first_of xs }) else link_from (Some x) xs k)
-        else (if b then Some (record { before = other; after = first_of xs }) else link_from (Some x) xs k))
-    go true = refl
-    go false = refl
+other-before before other xs k = grind arith
 
 -- the first key leaves
 first-left : (before : Option ℕ) (key : ℕ) (xs : List ℕ) (k : ℕ) → ((j : ℕ) → is_key before j ≡ true → ¬ (Among j xs)) →
     link_from before xs k ≡ closed_over (record { before = before; after = first_of xs }) k (link_from (Some key) xs k)
-first-left before key xs k apart = go (is_key before k) refl
-  where
-    go : (b : Bool) → is_key before k ≡ b → link_from before xs k ≡
-        changed_at (first_of xs) (with_before before) k (if b then option_map (with_after (first_of xs)) (link_from (Some key) xs k) else link_from (Some key) xs k)
-    go true e = rw (link_from-absent before xs k (apart k e), link_from-absent (Some key) xs k (apart k e), changed_at-none (first_of xs) (with_before before) k) refl
-    go false e = other-before before (Some key) xs k
+first-left before key xs k apart = grind (arith, changed_at, link_from-absent, changed_at-none, other-before)
 
 -- a later key leaves: what the first key sees
 later-left : (before : Option ℕ) (x : ℕ) (xs : List ℕ) (key : ℕ) (left : Link) → ¬ (Among x xs) → AllDiffer xs → link_from (Some x) xs key ≡ Some left →

@@ -1,12 +1,11 @@
--- THE LINK THAT AN ELEMENT KEEPS, place by place.
-use Rattle.std.specs.Prelude.{Option, Some, None}
+-- THE LINK THAT AN ELEMENT KEEPS: whether it has one, whether a key stands on each side, and these keys.
+use Rattle.std.specs.Prelude.{ℕ, Bool, Option, Some, None, if◌then◌else◌}
 use Rattle.cc_chain.specs.declared.link.Link.{Link}
-use Rattle.cc_chain.specs.declared.neighbours.Place.{Place}
-use Rattle.cc_chain.specs.declared.neighbours.Place.TheVariants.{Nowhere, Alone, First, Last, Between}
 
-abbrev pub link_of : Place → Option Link
-link_of Nowhere = None
-link_of Alone = Some (record { before = None; after = None })
-link_of (First after) = Some (record { before = None; after = Some after })
-link_of (Last before) = Some (record { before = Some before; after = None })
-link_of (Between before after) = Some (record { before = Some before; after = Some after })
+-- a key that is there, or none
+abbrev pub key_if : Bool → ℕ → Option ℕ
+key_if there key = if there then Some key else None
+
+abbrev pub link_of : Bool → Bool → Bool → ℕ → ℕ → Option Link
+link_of linked has_before has_after before after =
+    if linked then Some (record { before = key_if has_before before; after = key_if has_after after }) else None

@@ -1,24 +1,20 @@
 //! The link of a key, as the element at that key keeps it.
 ghost use Rattle.std.specs.Prelude.{◌≡◌};
+ghost use Rattle.cc_chain.specs.Neighbours.{key_if};
 
 use crate::link::Link;
 use std::marker::Model;
 
-/// A key's place in a list, with the keys beside it.
-#[derive(Drop)]
-enum Place {
-    /// In no list.
-    Nowhere,
-    /// The only key.
-    Alone,
-    First { after: u32 },
-    Last { before: u32 },
-    Between { before: u32, after: u32 },
-}
-
 /// The neighbours of a key in a list, or that it is in none: an `Option<Link>` in 12 bytes, for a store to keep.
 #[derive(Drop)]
-pub struct Neighbours(Place);
+pub struct Neighbours {
+    is_linked: bool,
+    // whether there is one before it and one behind it; where there is none, its key says nothing
+    has_before: bool,
+    has_after: bool,
+    before: u32,
+    after: u32,
+}
 
 impl Model for Neighbours {
     ghost use Rattle.std.specs.Prelude.{Option};
@@ -27,7 +23,7 @@ impl Model for Neighbours {
 
     ghost Value = { Option Link };
 
-    ghost view = { λ n. link_of n.0 };
+    ghost view = { λ n. link_of n.is_linked n.has_before n.has_after n.before n.after };
 }
 
 impl Neighbours {
@@ -35,28 +31,41 @@ impl Neighbours {
     pub fn of(link: Option<Link>) -> Neighbours
         ensures { result ≡ link }
     {
-        let Some(link) = link else {
-            return Neighbours(Place::Nowhere);
-        };
-        Neighbours(match (link.before, link.after) {
-            (None, None) => Place::Alone,
-            (None, Some(after)) => Place::First { after },
-            (Some(before), None) => Place::Last { before },
-            (Some(before), Some(after)) => Place::Between { before, after },
-        })
+        match link {
+            Some(link) => Neighbours {
+                is_linked: true,
+                has_before: link.before.is_some(),
+                has_after: link.after.is_some(),
+                before: link.before.unwrap_or(0),
+                after: link.after.unwrap_or(0),
+            },
+            None => Neighbours {
+                is_linked: false,
+                has_before: false,
+                has_after: false,
+                before: 0,
+                after: 0,
+            },
+        }
     }
 
     /// The link; none of a key in no list.
     pub fn link(&self) -> Option<Link>
         ensures { result ≡ self.now }
     {
-        let (before, after) = match self.0 {
-            Place::Nowhere => return None,
-            Place::Alone => (None, None),
-            Place::First { after } => (None, Some(after)),
-            Place::Last { before } => (Some(before), None),
-            Place::Between { before, after } => (Some(before), Some(after)),
-        };
-        Some(Link { before, after })
+        if !self.is_linked {
+            return None;
+        }
+        Some(Link {
+            before: key_if(self.has_before, self.before),
+            after: key_if(self.has_after, self.after),
+        })
     }
+}
+
+/// A key, where there is one.
+fn key_if(there: bool, key: u32) -> Option<u32>
+    ensures { result ≡ key_if there key }
+{
+    if there { Some(key) } else { None }
 }

@@ -1,5 +1,5 @@
 -- WHAT SLICES, COLLECTIONS AND `gc` COME TO, by what their units did and told.
-use Rattle.std.proofs.Common.{◌≡◌, ◌≢◌, ℕ, ◌+◌, ◌<◌, Bool, true, false, List, [], ◌++◌, Option, Some, None, is_some, refl, sym, ap, ◌∙◌, subst, arith}
+use Rattle.std.proofs.Common.{◌≡◌, ◌≢◌, ℕ, ◌+◌, ◌<◌, Bool, true, List, [], ◌++◌, Option, None, is_some, refl, sym, ap, ◌∙◌, subst, arith}
 use Rattle.cc_lists.proofs.Held.{is_some-none}
 use Rattle.cc_model.specs.declared.item.Event.{Event}
 use Rattle.cc_model.specs.Telling.{Telling, TellsEvents}
@@ -28,18 +28,11 @@ still-told v c w d t t₁ t₂ told u =
 -- what units came to, said in other words
 led-by : (d : UnitsDone) (old new : Machine) (events : List Event) (p : Progress) (t t₁ : Telling) → d ≡ units_came (with_memory new []) events p → SparesInEachGraph old.heap d.events →
     UnitsSpare old.heap d → TellsEvents t t₁ events → LedTo d old new p t t₁
-led-by d old new events p t t₁ is spares unreached told = record {
-  same = record { heap = ap (λ (e : UnitsDone). e.machine.heap) is; snapshot = ap (λ (e : UnitsDone). e.machine.snapshot) is };
-  came_to = ap (λ (e : UnitsDone). e.progress) is;
-  told = subst (TellsEvents t t₁) (sym (ap (λ (e : UnitsDone). e.events) is)) told;
-  spares = spares;
-  unreached = subst (λ (k : Heap). SparesWhatIsReached old.heap k d.events) (ap (λ (e : UnitsDone). e.machine.heap) is) unreached.spares;
-}
+led-by d old new events p t t₁ is spares unreached told = grind arith
 
 -- a running collection has a snapshot
 some-runs : (h : Heap) (c : Option Built) → is_some c ≡ true → is_some (machine_of h c).snapshot ≡ true
-some-runs h None e = cc
-some-runs h (Some b) e = refl
+some-runs h c e = grind arith
 
 -- Slices
 
@@ -115,20 +108,7 @@ module _ (v : Keyed) (c : Option Built) (r : RunsIn v c) where
 
   -- so it is after a running one was finished, if any
   pub collected : (m w : Keyed) (p : Progress) (t t₁ t₂ : Telling) → HasFinished v c m t t₁ → HasDoneAll m None w p t₁ t₂ → IsCollected (machine_of v.heap c) (machine_of w.heap None) p t t₂
-  collected m w p t t₁ t₂ f b = go (is_some c) refl
-    where
-      alone : is_some c ≡ false → IsCollected (machine_of v.heap c) (machine_of w.heap None) p t t₂
-      alone e =
-          let none : c ≡ None = is_some-none c e in
-          let i = f.idle e in
-          collected-alone w p t t₂ none
-          (subst (λ (s : Telling). HasDoneAll v c w p s t₂) i.1
-          (subst (λ (u : Keyed). HasDoneAll u c w p t₁ t₂) i.0
-          (subst (λ (d : Option Built). HasDoneAll m d w p t₁ t₂) (sym none) b)))
-
-      go : (runs : Bool) → is_some c ≡ runs → IsCollected (machine_of v.heap c) (machine_of w.heap None) p t t₂
-      go true e = collected-both m w p t t₁ t₂ e (f.ran e) b
-      go false e = alone e
+  collected m w p t t₁ t₂ f b = grind (arith, is_some-none, collected-alone, collected-both, f.idle, f.ran)
 
   -- `gc`
 
@@ -165,17 +145,7 @@ module _ (v : Keyed) (c : Option Built) (r : RunsIn v c) where
   -- so it is after a running one was finished, if any,
   pub swept : (m w : Keyed) (t t₁ t₂ : Telling) → HasFinished v c m t t₁ → w.heap ≡ (collect_scripts m.heap).heap → TellsEvents t₁ t₂ (collect_scripts m.heap).events →
       IsSwept (machine_of v.heap c) (machine_of w.heap None) t t₂
-  swept m w t t₁ t₂ f heap told = go (is_some c) refl
-    where
-      alone : is_some c ≡ false → IsSwept (machine_of v.heap c) (machine_of w.heap None) t t₂
-      alone e =
-          let i = f.idle e in
-          swept-alone w t t₂ (is_some-none c e) (subst (λ (u : Keyed). w.heap ≡ (collect_scripts u.heap).heap) i.0 heap)
-          (subst (λ (s : Telling). TellsEvents s t₂ (collect_scripts v.heap).events) i.1 (subst (λ (u : Keyed). TellsEvents t₁ t₂ (collect_scripts u.heap).events) i.0 told))
-
-      go : (runs : Bool) → is_some c ≡ runs → IsSwept (machine_of v.heap c) (machine_of w.heap None) t t₂
-      go true e = swept-after m w at_end t t₁ t₂ e (f.ran e) heap told
-      go false e = alone e
+  swept m w t t₁ t₂ f heap told = grind (arith, swept-alone, is_some-none, swept-after, f.idle, f.ran)
 
   -- and after its end was refused
   pub swept-refused : (m w : Keyed) (t t₁ t₂ : Telling) → is_some c ≡ true → HasDoneAll v c m refused t t₁ → w.heap ≡ (collect_scripts m.heap).heap →

@@ -1,5 +1,5 @@
 -- WHAT SLICES AND COLLECTIONS LEAVE that were refused memory.
-use Rattle.std.proofs.Common.{ℕ, inl, inr, subst, ⊎_elim}
+use Rattle.std.proofs.Common.{ℕ, inl, inr, subst, ⊎_elim, arith}
 use Rattle.cc_model.specs.Telling.{Telling}
 use Rattle.cc_model.specs.End.{refused}
 use Rattle.cc_model.specs.Collecting.{Machine}
@@ -11,8 +11,7 @@ use Rattle.cc_collector.specs.Collected.{IsSliced, IsCollected, IsCollectGivenUp
 -- A slice
 pub sliced-given_up : (n : ℕ) (old new : Machine) (steps steps_now : ℕ) (t t₁ : Telling) → IsSliced n old new refused steps steps_now t t₁ →
     IsGivenUp old.heap old.snapshot new.heap
-sliced-given_up n old new steps steps_now t t₁ s = subst (IsGivenUp old.heap old.snapshot) s.led.same.heap
-    (slice-gives_up n (with_memory old s.memory) s.led.came_to).heap
+sliced-given_up n old new steps steps_now t t₁ s = grind (arith, slice-gives_up)
 
 -- A collection
 pub collected-given_up : (old new : Machine) (t t₁ : Telling) → IsCollected old new refused t t₁ → IsCollectGivenUp old new.heap

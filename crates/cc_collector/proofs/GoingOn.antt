@@ -1,11 +1,11 @@
 -- A RUNNING COLLECTION GOES ON over changed heaps.
-use Rattle.std.proofs.Common.{◌≡◌, ℕ, ◌≤◌, false, [], Option, Some, None, refl, sym, subst, ⊎_elim, arith}
+use Rattle.std.proofs.Common.{◌≡◌, ℕ, ◌≤◌, [], Option, Some, refl, sym, subst, ⊎_elim, arith}
 use Rattle.cc_lists.specs.Members.{Among}
 use Rattle.cc_lists.proofs.Members.{Among-map}
 use Rattle.cc_names.specs.declared.name.Name.{Name}
 use Rattle.cc_names.specs.declared.name.Name.TheVariants as name
-use Rattle.cc_names.specs.Names.{native, is_native}
-use Rattle.cc_model.specs.WellFormed.{native_names, script_names}
+use Rattle.cc_names.specs.Names.{native}
+use Rattle.cc_model.specs.WellFormed.{native_names}
 use Rattle.cc_model.specs.Fresh.{IsNode}
 use Rattle.cc_laws_snapshot.specs.Kinds.{IsFreshIn}
 use Rattle.cc_laws_snapshot.proofs.Face.{named-there}
@@ -42,18 +42,7 @@ module _ (old new : Keyed) (b : Built) (r : RunsIn old (Some b)) (m : MayComeBet
   made n i = was-made n.name (is-node n i)
 
   built : IsBuilt b new
-  built = record {
-    distinct = g.built.distinct;
-    made = made;
-    few = made-few new.heap b.graph.nodes g.built.distinct made;
-    behind = g.built.behind;
-    first = g.built.first;
-    closed = g.built.closed;
-    mapped = g.built.mapped;
-    no_blacks = g.built.no_blacks;
-    unsampled = g.built.unsampled;
-    uncounted = g.built.uncounted;
-  }
+  built = search (made, made-few)
 
   -- it has the key that it had
   has-key : (x : Name) (key : Held) → WasMade old.heap x → WasMade new.heap x → HasKey old x key → HasKey new x key
@@ -66,12 +55,7 @@ module _ (old new : Keyed) (b : Built) (r : RunsIn old (Some b)) (m : MayComeBet
           (λ there. m.keys.natives key.0 k (has.1 k e there) i)
           (λ later. absurd (omega (arith, later, earlier.1)))
           (none-back old.heap new.heap r.order.sound r.colours m.order.sound m.fresh k i)
-  has-key x (held.Script key) was is has = (has.0, m.keys.scripts key.0 x has.1 (script x has.0 is))
-    where
-      script : (x : Name) → is_native x ≡ false → WasMade new.heap x → Among x (script_names new.heap)
-      script (name.Native k) e is = cc
-      script (name.Script k) e is = is
-      script (name.Reflector k) e is = is
+  has-key x (held.Script key) was is has = grind (arith, m.keys.scripts)
 
   are-held : AreHeld b.graph (HasKey new)
   are-held n i = has-key n.name n.held (g.built.made n i) (made n i) (g.held n i)
@@ -81,8 +65,7 @@ module _ (old new : Keyed) (b : Built) (r : RunsIn old (Some b)) (m : MayComeBet
 
 -- THE LAW
 pub RunsIn-between : (old new : Keyed) (c : Option Built) → RunsIn old c → MayComeBetween old new → RunsIn new c
-RunsIn-between old new None r m = record { order = m.order; colours = m.colours; goes_on = tt }
-RunsIn-between old new (Some b) r m = record { order = m.order; colours = m.colours; goes_on = goes-on old new b r m }
+RunsIn-between old new c r m = grind (arith, goes-on)
 
 -- So it does over heaps that kept all,
 pub RunsIn-kept : (old new : Keyed) (c : Option Built) → RunsIn old c → KeepsAll old new → RunsIn new c

@@ -13,7 +13,7 @@ use Rattle.cc_model.specs.Suspected.{IsSuspected}
 use Rattle.cc_model.specs.Sweep.{collect_scripts}
 use Rattle.cc_model.specs.Snapshot.{Snapshot, white_natives}
 use Rattle.cc_model.specs.Units.{begun, with_empty_buffer, first_untraversed}
-use Rattle.cc_model.specs.End.{went_on, at_end, refused, UnitDone, unit, may_be_refused, take_away, give_back, granted, abandoned, node_or_end, going_on}
+use Rattle.cc_model.specs.End.{went_on, at_end, refused, unit, may_be_refused, take_away, give_back, granted, abandoned, node_or_end, going_on}
 use Rattle.cc_model.proofs.Tellings.{Tells-nil}
 use Rattle.cc_laws_heap.specs.Ending.{TakesAway}
 use Rattle.cc_laws_heap.specs.Rounds.{is_not_among, FreesNames}
@@ -36,14 +36,7 @@ use Rattle.cc_collector.specs.Units.{unit_came, Keeps, HasDoneUnit}
 
 -- nothing done
 pub Keeps-nothing : (v : Keyed) (c : Option Built) → RunsIn v c → Keeps v c v c
-Keeps-nothing v c r = record {
-  runs = r;
-  stands = λ g well stands. stands;
-  suspected = λ s. s;
-  natives_left = λ x m. m;
-  scripts_left = λ x m. m;
-  kept = kept-alone v v r.order r.order (KeepsKeys-same v) (λ colours. colours);
-}
+Keeps-nothing v c r = search (kept-alone, KeepsKeys-same)
 
 -- one after the other
 pub Keeps-then : (v : Keyed) (c : Option Built) (w : Keyed) (d : Option Built) (u : Keyed) (e : Option Built) → Keeps v c w d → Keeps w d u e → Keeps v c u e
@@ -87,21 +80,13 @@ KeepsKeys-swept v c w u a heap keys = record {
 
 -- the snapshot of the running collection is fresh
 pub RunsIn-fresh : (v : Keyed) (c : Option Built) → RunsIn v c → IsFreshNow v.heap (running_snapshot c)
-RunsIn-fresh v None r = tt
-RunsIn-fresh v (Some b) r = r.goes_on.fresh
+RunsIn-fresh v c r = grind arith
 
 -- Each unit
 
 unit-granted : (h : Heap) (s : Option Snapshot) → unit h s true ≡ granted h s
 unfolding unit
-unit-granted h s = go (may_be_refused h s)
-  where
-    by_refusal : Bool → UnitDone
-    by_refusal b = elim b [ true ↦ abandoned h s | false ↦ granted h s ]
-
-    go : (b : Bool) → by_refusal (b && false) ≡ granted h s
-    go true = refl
-    go false = refl
+unit-granted h s = grind arith
 
 unit-refused : (h : Heap) (s : Option Snapshot) → may_be_refused h s ≡ true → unit h s false ≡ abandoned h s
 unfolding unit

@@ -1,5 +1,5 @@
 -- A CHANGE THAT KEEPS EVERY SNAPSHOT FRESH brings no native back: there is a snapshot that notes one of them as gone.
-use Rattle.std.proofs.Common.{◌≡◌, ℕ, ◌<◌, ◌≤◌, Bool, true, false, [], ◌∷◌, Option, Some, None, refl, sym, ◌∙◌, ap, subst, inl, inr, ◌⊎◌, ⊎_elim, arith, count_by}
+use Rattle.std.proofs.Common.{◌≡◌, ℕ, ◌<◌, ◌≤◌, Bool, true, false, [], ◌∷◌, Option, refl, sym, ◌∙◌, ap, subst, inl, inr, ◌⊎◌, ⊎_elim, arith, count_by}
 use Rattle.std.specs.Prelude.{nat_le}
 use Rattle.std.proofs.lemmas.Bool.{leb-true, leb-false, true≢false}
 use Rattle.cc_lists.specs.Members.{Among, has}
@@ -33,14 +33,10 @@ module _ (h : Heap) (sound : IsSound [] h) (coloured : HasColourInvariant (view 
 
   -- it was no node
   no-node : ¬ (IsNode (begun h) (native k))
-  no-node i = ⊎_elim dead (λ s. native-no_script (script_names-named h sound.well_formed (native k) (named-there h (native k) s))) (node-cases h sound coloured (native k) i)
-    where
-      native-no_script : is_script (native k) ≡ true → ⊥
-      native-no_script e = cc
+  no-node i = grind (arith, script_names-named, named-there, node-cases)
 
   members-too : (m : Option Name) → MemberIsNode (begun h) m → MemberIsNode with_gone m
-  members-too None i = tt
-  members-too (Some x) i = inr i
+  members-too m i = grind arith
 
   -- a node of another state was one before
   other-state : (x : Name) (a : NodeState) → (gone ≡ a → ⊥) → Among (node x a) with_gone.nodes → Among (node x a) (begun h).nodes

@@ -1,12 +1,11 @@
 -- A COLLECTION THAT IS REFUSED RIGHT AFTER `gc` takes nothing away, so a script collection would free nothing.
-use Rattle.std.proofs.Common.{◌≡◌, ◌≢◌, Bool, true, false, List, [], ◌∷◌, length, Option, Some, None, refl, sym, ◌∙◌, ap, subst, inl, inr, ◌⊎◌, ⊎_elim}
+use Rattle.std.proofs.Common.{◌≡◌, ◌≢◌, Bool, List, [], Option, Some, None, refl, sym, ◌∙◌, ap, subst, inl, inr, ◌⊎◌, ⊎_elim, arith}
 use Rattle.cc_lists.proofs.ListWrites.{map-unchanged}
 use Rattle.cc_names.specs.declared.name.Name.{Name}
-use Rattle.cc_names.specs.declared.kind.Colour.{Colour}
 use Rattle.cc_model.specs.Telling.{Telling}
-use Rattle.cc_model.specs.Heap.{Heap, HeapScript, Buffered, Outcome, silently, after}
-use Rattle.cc_model.specs.Colours.{marked, HasColours, with_colour}
-use Rattle.cc_model.specs.Sweep.{unmarked, without_dead_entries, sweep_each, sweep, sweeps, rounds, collect_scripts}
+use Rattle.cc_model.specs.Heap.{Heap, Buffered, silently}
+use Rattle.cc_model.specs.Colours.{marked, HasColours}
+use Rattle.cc_model.specs.Sweep.{unmarked, without_dead_entries, sweep_each, sweep, rounds, collect_scripts}
 use Rattle.cc_model.specs.Snapshot.{Snapshot}
 use Rattle.cc_model.specs.Units.{first_untraversed}
 use Rattle.cc_model.specs.End.{Progress, went_on, at_end, refused, abandoned, node_or_end, granted, unit}
@@ -27,8 +26,7 @@ use Rattle.cc_collector.proofs.UnitsSpare.{gc-swept}
 -- marking changes nothing where the colours are those of marking
 marked-same : (h : Heap) → HasColours h → marked h ≡ h
 unfolding marked
-marked-same h c = ap (λ (os : List HeapScript). record h { scripts = os })
-    (map-unchanged (as_marked h) h.scripts (λ o m. ap (λ (k : Colour). with_colour k o) (sym (c o m))))
+marked-same h c = grind (arith, map-unchanged, as_marked)
 
 -- a sweep of nothing tells nothing
 sweep-silent : (h : Heap) → unmarked h ≡ [] → (sweep h).events ≡ []
@@ -38,15 +36,7 @@ sweep-silent h none = ap (λ (dead : List Name). (sweep_each dead (silently (wit
 -- where the colours are those of marking and nothing is unmarked a script collection frees nothing
 collected-silent : (h : Heap) → HasColours h → unmarked h ≡ [] → (collect_scripts h).events ≡ []
 unfolding collect_scripts rounds
-collected-silent h c none = subst (λ (m : Heap). (by_test m (sweeps m)).events ≡ []) (sym (marked-same h c))
-    (subst (λ (b : Bool). (by_test h b).events ≡ []) (sym rests) (sweep-silent h none))
-  where
-    by_test : Heap → Bool → Outcome
-    by_test m true = rounds (length h.scripts) (after [] (sweep m))
-    by_test m false = after [] (sweep m)
-
-    rests : sweeps h ≡ false
-    rests = ap (λ (dead : List Name). elim dead [ [] ↦ false | x ∷ xs ↦ true ]) none
+collected-silent h c none = grind (arith, marked-same, sweep-silent)
 
 -- So it frees nothing where the buffer alone changed after a script collection.
 silent-after : (h : Heap) (bs : List Buffered) → (collect_scripts (with_buffer (collect_scripts h).heap bs)).events ≡ []
@@ -91,11 +81,7 @@ units-wait m = units_done-keep (λ d. IsWaiting m.heap d.machine.heap d.progress
 
 -- A COLLECTION THAT IS REFUSED changes the buffer alone, where none ran.
 collect-waits : (m : Machine) → m.snapshot ≡ None → (collect m).progress ≡ refused → (bs : List Buffered) × ((collect m).machine.heap ≡ with_buffer m.heap bs)
-collect-waits m none = subst (λ (d : UnitsDone). d.progress ≡ refused → (bs : List Buffered) × (d.machine.heap ≡ with_buffer m.heap bs)) (sym (collect-none m none))
-    (λ e. ⊎_elim (λ k. k) (λ f. absurd (apart (sym f ∙ e))) (units-wait m))
-  where
-    apart : at_end ≢ refused
-    apart f = cc
+collect-waits m none = grind (arith, with_buffer, collect-none, units-wait)
 
 -- RIGHT AFTER `gc` IT LEAVES NOTHING that a script collection would free.
 pub unsettled-silent : (v : Keyed) (c : Option Built) (new : Machine) (t t₁ : Telling) → RunsIn v c → IsUnsettled (machine_of v.heap c) new t t₁ →

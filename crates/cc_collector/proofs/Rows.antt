@@ -1,12 +1,12 @@
 -- UNITS ONE AFTER THE OTHER make slices and collections, for one list of memory's answers.
-use Rattle.std.proofs.Common.{◌≡◌, ◌≢◌, ℕ, zero, suc, ◌+◌, ◌<◌, ◌-◌, Bool, true, false, ◌&&◌, not, List, [], ◌∷◌, ◌++◌, Option, Some, None, is_some, refl, sym, ap, ◌∙◌, subst, arith, zero-add}
+use Rattle.std.proofs.Common.{◌≡◌, ◌≢◌, ℕ, zero, suc, ◌+◌, ◌<◌, ◌-◌, Bool, true, false, List, [], ◌∷◌, ◌++◌, Option, Some, None, is_some, refl, sym, ap, ◌∙◌, subst, arith, zero-add}
 use Rattle.std.proofs.lemmas.List.{append_assoc}
 use Rattle.cc_names.specs.declared.name.Name.{Name}
 use Rattle.cc_model.specs.declared.item.Event.{Event}
 use Rattle.cc_model.specs.Snapshot.{Snapshot}
 use Rattle.cc_model.specs.Units.{first_untraversed}
-use Rattle.cc_model.specs.End.{Progress, went_on, at_end, refused, UnitDone, unit, may_be_refused, abandoned, granted, node_or_end}
-use Rattle.cc_model.specs.Collecting.{Machine, UnitsDone, no_units, one_unit, units_done, next_answer, later_answers, slice, collect, gc, to_the_end, enough_units, finish_running, unless_stopped, then_scripts}
+use Rattle.cc_model.specs.End.{Progress, went_on, at_end, refused, UnitDone, unit, may_be_refused, granted, node_or_end}
+use Rattle.cc_model.specs.Collecting.{Machine, UnitsDone, no_units, one_unit, units_done, next_answer, slice, collect, gc, to_the_end, enough_units, finish_running, then_scripts}
 use Rattle.cc_model.proofs.UnitsEnd.{units_done-done, units_done-to_the_end}
 use Rattle.cc_laws_run.specs.Memory.{with_memory}
 use Rattle.cc_laws_run.proofs.Face.{unit-cases}
@@ -26,24 +26,7 @@ answers_for m answer rest = by_asks (may_be_refused m.heap m.snapshot) answer re
 unit-first : (old new : Machine) (events : List Event) (progress : Progress) (u : IsUnit old new events progress) (rest : List Bool) →
     one_unit (with_memory old (answers_for old u.memory rest)) [] ≡ units_came (with_memory new rest) events progress
 unfolding unit
-unit-first old new events progress u rest = go (may_be_refused old.heap old.snapshot) ∙ ap led_to u.is
-  where
-    led_to : UnitDone → UnitsDone
-    led_to d = record { machine = record { heap = d.heap; snapshot = d.snapshot; memory = rest }; events = d.events; progress = d.progress }
-
-    by_refusal : Bool → UnitDone
-    by_refusal b = elim b [ true ↦ abandoned old.heap old.snapshot | false ↦ granted old.heap old.snapshot ]
-
-    later_by : Bool → List Bool → List Bool
-    later_by asks memory = elim asks [ true ↦ later_answers memory | false ↦ memory ]
-
-    led_with : UnitDone → List Bool → UnitsDone
-    led_with d memory = record { machine = record { heap = d.heap; snapshot = d.snapshot; memory = memory }; events = [] ++ d.events; progress = d.progress }
-
-    go : (b : Bool) → led_with (by_refusal (b && not (next_answer (by_asks b u.memory rest)))) (later_by b (by_asks b u.memory rest))
-        ≡ led_to (by_refusal (b && not u.memory))
-    go true = refl
-    go false = refl
+unit-first old new events progress u rest = grind arith
 
 -- a unit that goes on tells nothing
 pub IsUnit-silent : (old new : Machine) (events : List Event) (progress : Progress) → IsUnit old new events progress → progress ≡ went_on → events ≡ []
@@ -223,23 +206,19 @@ finish-running m e = ap (λ (b : Bool). elim b [ true ↦ to_the_end (no_units m
 pub collect-alone : (before now : Machine) (events : List Event) (p : Progress) (s : HasStopped before now events p) → before.snapshot ≡ None →
     collect (with_memory before (s.memory [])) ≡ units_came (with_memory now []) events p
 unfolding collect
-collect-alone before now events p s none =
-    ap unless_stopped (finish-none (with_memory before (s.memory [])) none) ∙ to_the_end-stopped before now events p s []
+collect-alone before now events p s none = search (finish-none, to_the_end-stopped)
 
 -- where ending the running one is refused, no other begins
 pub collect-refused : (before now : Machine) (events : List Event) (s : HasStopped before now events refused) → is_some before.snapshot ≡ true →
     collect (with_memory before (s.memory [])) ≡ units_came (with_memory now []) events refused
 unfolding collect
-collect-refused before now events s runs =
-    ap unless_stopped (finish-running (with_memory before (s.memory [])) runs ∙ to_the_end-stopped before now events refused s [])
+collect-refused before now events s runs = search (finish-running, to_the_end-stopped)
 
 -- after a running one
 pub collect-both : (before mid now : Machine) (first second : List Event) (p : Progress) (s : HasStopped before mid first at_end) (t : HasStopped mid now second p) →
     is_some before.snapshot ≡ true → collect (with_memory before (s.memory (t.memory []))) ≡ units_came (with_memory now []) (first ++ second) p
 unfolding collect
-collect-both before mid now first second p s t runs =
-    ap unless_stopped (finish-running (with_memory before (s.memory (t.memory []))) runs ∙ to_the_end-stopped before mid first at_end s (t.memory []))
-    ∙ to_the_end-later mid now first second p t []
+collect-both before mid now first second p s t runs = search (finish-running, to_the_end-stopped, to_the_end-later)
 
 -- `gc`
 pub gc-alone : (before : Machine) → before.snapshot ≡ None → gc (with_memory before []) ≡ then_scripts (no_units (with_memory before []))

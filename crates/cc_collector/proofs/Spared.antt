@@ -1,10 +1,8 @@
 -- WHAT A SLICE, A COLLECTION AND `gc` FREE OR UNLINK is reached in no graph that the heaps stand for.
-use Rattle.std.proofs.Common.{◌≡◌, ℕ, Bool, not, List, [], ◌∷◌, ◌++◌, Option, refl, sym, ap, ◌∙◌, subst, inl, inr, ◌⊎◌, ⊎_elim}
-use Rattle.std.specs.List.{filter}
+use Rattle.std.proofs.Common.{◌≡◌, ℕ, Bool, List, [], ◌∷◌, Option, refl, subst, inl, inr, ◌⊎◌, ⊎_elim, arith}
 use Rattle.std.proofs.lemmas.Bool.{not-true}
 use Rattle.cc_lists.specs.Members.{Among}
 use Rattle.cc_names.specs.declared.name.Name.{Name}
-use Rattle.cc_names.specs.Names.{is_native, is_script}
 use Rattle.cc_model.specs.declared.command.Command.{Command}
 use Rattle.cc_model.specs.declared.command.Command.TheVariants.{Slice, Collect, Gc}
 use Rattle.cc_model.specs.declared.item.Event.{Event}
@@ -13,7 +11,7 @@ use Rattle.cc_model.specs.Graph.{Graph}
 use Rattle.cc_model.specs.Reached.{Reached}
 use Rattle.cc_model.specs.StandsFor.{StandsFor}
 use Rattle.cc_model.specs.Heap.{Heap}
-use Rattle.cc_model.specs.WellFormed.{IsWellFormed, native_names, script_names, names_there}
+use Rattle.cc_model.specs.WellFormed.{IsWellFormed, names_there}
 use Rattle.cc_model.specs.Listed.{census_order, after_event}
 use Rattle.cc_model.specs.Lawful.{MayBe, EachMayBe}
 use Rattle.cc_model.specs.Collecting.{slice, collect, gc}
@@ -30,20 +28,11 @@ use Rattle.cc_collector.proofs.Keeping.{RunsIn-fresh}
 
 -- what is there, natives and then script objects, is in census order
 listed-there : (h : Heap) → IsWellFormed h → census_names h ≡ census_order (names_there h)
-listed-there h w =
-    ap (λ l. l ++ script_names h) (sym (filter-first is_native (native_names h) (script_names h) (native-name_of h) (λ x m. not-true (is_native x) (script_names-named h w x m))))
-    ∙ ap (λ l. filter is_native (names_there h) ++ l)
-    (sym (filter-second is_script (native_names h) (script_names h) (λ x m. ap not (native-name_of h x m)) (script_names-named h w)))
+listed-there h w = grind (arith, filter-first, native-name_of, not-true, script_names-named, filter-second)
 
 -- Heaps with a running collection run beside each graph that they stand for
 runs-on : (v : Keyed) (c : Option Built) (g : Graph) → RunsIn v c → StandsFor v.heap g → RunsOn g (names_there v.heap) v.heap (machine_of v.heap c).snapshot
-runs-on v c g r stands = record {
-  sound = r.order.sound;
-  colours = r.colours;
-  fresh = RunsIn-fresh v c r;
-  stands = stands;
-  listed = listed-there v.heap r.order.sound.well_formed;
-}
+runs-on v c g r stands = search (RunsIn-fresh, listed-there)
 
 -- events that may be told spare what is reached
 each-spares : (g : Graph) (names : List Name) (c : Command) (es : List Event) → EachMayBe g names c es → (x : Name) → Among (Freed x) es ⊎ Among (Unlinked x) es → ¬ (Reached g x)

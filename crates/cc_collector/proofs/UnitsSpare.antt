@@ -1,22 +1,19 @@
 -- UNITS OF A COLLECTION SPARE WHAT IS REACHED: those of a slice, of a whole collection, and those that `gc` ends first.
-use Rattle.std.proofs.Common.{◌≡◌, ◌≢◌, ℕ, Bool, true, false, List, [], ◌∷◌, Option, Some, None, is_some, refl, sym, ap, subst, ⊎_elim}
+use Rattle.std.proofs.Common.{◌≡◌, ◌≢◌, ℕ, Bool, true, false, List, [], ◌∷◌, Option, Some, None, is_some, refl, sym, subst, arith}
 use Rattle.std.proofs.lemmas.Bool.{true≢false}
-use Rattle.cc_lists.specs.Members.{Among}
 use Rattle.cc_names.specs.declared.name.Name.{Name}
-use Rattle.cc_names.specs.declared.name.Name.TheVariants as name
 use Rattle.cc_model.specs.declared.item.Event.{Event}
-use Rattle.cc_model.specs.declared.item.Event.TheVariants.{Unlinked, Freed, Abandoned}
+use Rattle.cc_model.specs.declared.item.Event.TheVariants.{Abandoned}
 use Rattle.cc_model.specs.Telling.{Telling}
 use Rattle.cc_model.specs.Heap.{Heap, Buffered}
 use Rattle.cc_model.specs.View.{view}
 use Rattle.cc_model.specs.WellFormed.{IsWellFormed, names_there}
 use Rattle.cc_model.specs.Colours.{HasColourInvariant}
 use Rattle.cc_model.specs.StandsFor.{shape_at}
-use Rattle.cc_model.specs.Snapshot.{Snapshot, white_natives}
+use Rattle.cc_model.specs.Snapshot.{Snapshot}
 use Rattle.cc_model.specs.Units.{first_untraversed}
 use Rattle.cc_model.specs.Sweep.{collect_scripts}
 use Rattle.cc_model.specs.End.{Progress, went_on, at_end, refused, UnitDone, abandoned, node_or_end, granted, unit, give_back}
-use Rattle.cc_model.specs.Fresh.{IsTraversed}
 use Rattle.cc_model.specs.Collecting.{Machine, UnitsDone, no_units, next_answer, one_unit, units_done, enough_units, to_the_end, finish_running, slice, starting_anew, collect, gc}
 use Rattle.cc_model.proofs.UnitsEnd.{to_the_end-stops}
 use Rattle.cc_laws_heap.specs.Sound.{IsSound}
@@ -39,9 +36,7 @@ use Rattle.cc_collector.proofs.EndSpares.{take_away-keeps_reached, take_away-spa
 
 -- the shape of an object does not read the buffer
 shape-buffer : (h : Heap) (bs : List Buffered) (x : Name) → shape_at (with_buffer h bs) x ≡ shape_at h x
-shape-buffer h bs (name.Native k) = refl
-shape-buffer h bs (name.Script k) = refl
-shape-buffer h bs (name.Reflector k) = refl
+shape-buffer h bs x = search
 
 -- nor does what is reached
 keeps-buffer : (h : Heap) (bs : List Buffered) → IsWellFormed h → KeepsWhatIsReached h (with_buffer h bs)
@@ -60,14 +55,7 @@ give_back-is h ks = give_back-buffer ks h h.buffer
 
 -- An abandonment frees and unlinks nothing.
 spares-abandoned : (h k : Heap) → names_there k ≡ names_there h → SparesWhatIsReached h k (Abandoned ∷ [])
-spares-abandoned h k e = record {
-  unlinked = λ x m. absurd (none (Unlinked x) (λ f. cc) m);
-  freed = λ x m. absurd (none (Freed x) (λ f. cc) m);
-  left = λ x. (λ m. (subst (Among x) e m, none (Freed x) (λ f. cc)), λ p. subst (Among x) (sym e) p.0);
-}
-  where
-    none : (f : Event) → Abandoned ≢ f → ¬ (Among f (Abandoned ∷ []))
-    none f other m = ⊎_elim (λ same. other same) (λ n. n) m
+spares-abandoned h k e = grind arith
 
 -- One unit
 
@@ -95,48 +83,13 @@ module _ (h : Heap) (sound : IsSound [] h) (colours : HasColourInvariant (view h
 
   -- an abandonment
   abandoned-spares : (s : Option Snapshot) → UnitSpares h (abandoned h s)
-  abandoned-spares None = record {
-    sound = sound;
-    colours = colours;
-    fresh = tt;
-    stopped = λ d. refl;
-    keeps = keeps-same h sound.well_formed;
-    spares = spares-abandoned h h refl;
-  }
-  abandoned-spares (Some s) =
-      let bs : List Buffered = given_back s.candidates h h.buffer in
-      let same : with_buffer h bs ≡ give_back s.candidates h = sym (give_back-is h s.candidates) in
-      record {
-        sound = subst (IsSound []) same (with_buffer-sound bs (given s.candidates));
-        colours = subst (λ k. HasColourInvariant (view k)) same (HasColourInvariant-buffer h bs colours);
-        fresh = tt;
-        stopped = λ d. refl;
-        keeps = subst (KeepsWhatIsReached h) same (keeps-buffer h bs sound.well_formed);
-        spares = spares-abandoned h (give_back s.candidates h) (ap names_there (give_back-is h s.candidates));
-      }
+  abandoned-spares None = grind (arith, keeps-same, spares-abandoned)
+  abandoned-spares (Some s) = search (give_back-is, with_buffer-sound, given, HasColourInvariant-buffer, keeps-buffer, spares-abandoned)
 
   -- the unit of a node, or the end
   node_or_end-spares : (s : Snapshot) → IsFreshNow h (Some s) → (o : Option Name) → first_untraversed s.nodes ≡ o → UnitSpares h (node_or_end h s o)
-  node_or_end-spares s fresh None e =
-      let all : IsTraversed s = traversed-none s.nodes e in
-      let there = (white_natives-there h s sound).there in
-      let out = white_natives-unreached h s sound fresh all in
-      record {
-        sound = taking_white-sound h s sound fresh all;
-        colours = taking_white-colours h s sound fresh all;
-        fresh = tt;
-        stopped = λ d. refl;
-        keeps = take_away-keeps_reached h (white_natives h s) sound there out;
-        spares = take_away-spares h (white_natives h s) sound there out;
-      }
-  node_or_end-spares s fresh (Some x) e = record {
-    sound = sound;
-    colours = colours;
-    fresh = after_node-fresh h s x sound fresh e;
-    stopped = λ d. absurd (d refl);
-    keeps = keeps-same h sound.well_formed;
-    spares = spares-nothing h h refl;
-  }
+  node_or_end-spares s fresh o e =
+      grind (arith, traversed-none, white_natives-there, white_natives-unreached, taking_white-sound, taking_white-colours, take_away-keeps_reached, take_away-spares, after_node-fresh, keeps-same, spares-nothing)
 
   -- a unit that has its memory
   granted-spares : (s : Option Snapshot) → IsFreshNow h s → UnitSpares h (granted h s)
@@ -182,14 +135,7 @@ units_done-spare g = units_done-keep (UnitsSpare g) (one_unit-spares g)
 module _ (m : Machine) (sound : IsSound [] m.heap) (colours : HasColourInvariant (view m.heap)) (fresh : IsFreshNow m.heap m.snapshot) where
   -- none
   no_units-spare : UnitsSpare m.heap (no_units m)
-  no_units-spare = record {
-    sound = sound;
-    colours = colours;
-    fresh = fresh;
-    stopped = λ d. absurd (d refl);
-    keeps = keeps-same m.heap sound.well_formed;
-    spares = spares-nothing m.heap m.heap refl;
-  }
+  no_units-spare = grind (arith, keeps-same, spares-nothing)
 
   -- THOSE OF A SLICE
   pub slice-spare : (n : ℕ) → UnitsSpare m.heap (slice n m)

@@ -1,5 +1,5 @@
 -- WHAT IS WHITE IN A GRAPH IS WHITE IN THE SNAPSHOT that it holds.
-use Rattle.std.specs.Prelude.{IfSome, IsTrue, ◌↔◌, ◌<◌, slice_get, nat_lt, not, ◌||◌, option_map, option_to_list}
+use Rattle.std.specs.Prelude.{IsTrue, ◌↔◌, ◌<◌, slice_get, not, ◌||◌, option_map, option_to_list}
 use Rattle.std.proofs.Common.{◌≡◌, ℕ, Bool, true, false, List, ◌++◌, length, map, filter, Option, Some, None, refl, sym, ◌∙◌, ap, subst, inr, ◌⊎◌, ⊎_elim, arith, ◌==◌}
 use Rattle.std.proofs.lemmas.Bool.{false≢true, and_parts, and_from, or_cases, or_left, or_right}
 use Rattle.std.proofs.lemmas.List.{map-append}
@@ -11,11 +11,11 @@ use Rattle.cc_lists.proofs.Closure.{closure-decides}
 use Rattle.cc_lists.proofs.Least.{derive-root, derive-along, derive-jointly, derived-within}
 use Rattle.cc_lists.proofs.Places.{among-place, place-among}
 use Rattle.cc_names.specs.declared.name.Name.{Name}
-use Rattle.cc_names.specs.Names.{native, is_native, same_name}
+use Rattle.cc_names.specs.Names.{native, same_name}
 use Rattle.cc_names.proofs.NameTests.{same_name-exact}
 use Rattle.cc_model.specs.Heap.{HeapNative}
 use Rattle.cc_model.specs.View.{View, view, counted, scripts_there, is_there}
-use Rattle.cc_model.specs.Snapshot.{traversed, Mapping, Node, Snapshot, node_names, noted_to, is_above, is_seed, seeds, mapping_joint, black_in_rules, BlackIn, black_in, is_white, white_names, white_natives}
+use Rattle.cc_model.specs.Snapshot.{Mapping, Node, Snapshot, node_names, noted_to, is_above, is_seed, seeds, mapping_joint, BlackIn, black_in, is_white, white_names, white_natives}
 use Rattle.cc_lists.proofs.Numbers.{number-exact}
 use Rattle.cc_lists.proofs.Filtering.{filter-agree}
 use Rattle.cc_graph.specs.Shown.{Vertex, Edge, Hyperedge, Shown, number_of, edges_to, is_black}
@@ -31,8 +31,7 @@ use Rattle.cc_builder.proofs.NodesByName.{name-at, node-at, distinct-number, IsN
 use Rattle.cc_heaps.proofs.Reaching.{same-tests}
 
 above-exceeds : (s : Snapshot) (x : Name) (noted : ℕ) (sampled : Option ℕ) → noted_to s x ≡ noted → is_above s x (state_by_sample sampled) ≡ exceeds noted sampled
-above-exceeds s x noted None e = refl
-above-exceeds s x noted (Some n) e = ap (λ c. nat_lt c n) e
+above-exceeds s x noted sampled e = grind arith
 
 or-none : (b : Bool) → b ≡ (b || false)
 or-none true = refl
@@ -40,21 +39,12 @@ or-none false = refl
 
 -- a node is black by itself where it is touched, or more references were sampled than are noted: of a native alone
 seed-of : (v : View) (s : Snapshot) (w : Vertex) (noted : ℕ) → noted_to s w.name ≡ noted → HasNoSample w → is_seed v s (node_behind w) ≡ (is_touched v w.name || exceeds noted w.sampled)
-seed-of v s w noted e uncounted = go (is_native w.name) uncounted
-  where
-    go : (t : Bool) → (t ≡ false → w.sampled ≡ None) →
-        elim t as (λ _. Bool) [
-          | true ↦ has same_name v.buffer w.name || is_above s w.name (elim t [ true ↦ state_by_sample w.sampled | false ↦ traversed None ])
-          | false ↦ has same_name v.black w.name
-        ] ≡ (elim t [ true ↦ has same_name v.buffer w.name | false ↦ has same_name v.black w.name ] || exceeds noted w.sampled)
-    go true f = ap (λ z. has same_name v.buffer w.name || z) (above-exceeds s w.name noted w.sampled e)
-    go false f = or-none (has same_name v.black w.name) ∙ ap (λ o. has same_name v.black w.name || exceeds noted o) (sym (f refl))
+seed-of v s w noted e uncounted = grind (arith, above-exceeds, or-none)
 
 -- roots that others derive derive no more than these
 derived-from : {X : Type 0} (edges : List (X × X)) (entries : List (List X × X)) (xs ys : List X) → ((x : X) → Among x xs → Least (system ys edges entries) x) →
     (x : X) → Least (system xs edges entries) x → Least (system ys edges entries) x
-derived-from edges entries xs ys f = derived-within xs edges entries (Least (system ys edges entries)) f
-    (λ x y e d. derive-along ys edges entries x y e d) (λ ps x m g. derive-jointly ys edges entries ps x m g)
+derived-from edges entries xs ys f = search (derived-within, derive-along, derive-jointly)
 
 -- The members of a mapping that together give its value
 
@@ -63,16 +53,11 @@ premises m = (hyperedge_rule m).0
 
 -- their names are those by names
 option-names : (f : ℕ → Name) (o : Option ℕ) → option_to_list (option_map f o) ≡ map f (option_to_list o)
-option-names f None = refl
-option-names f (Some i) = refl
+option-names f o = grind arith
 
 -- each is a node
 within-all : (count : ℕ) (m : Hyperedge) → IsHyperedgeWithin count m → (i : ℕ) → Among i (premises m) → i < count
-within-all count m within i h = ⊎_elim (λ l. option-within m.the_map within.the_map l) (λ r. option-within m.key within.key r) (Among-append i (option_to_list m.the_map) (option_to_list m.key) h)
-  where
-    option-within : (o : Option ℕ) → IfSome o (λ j. j < count) → Among i (option_to_list o) → i < count
-    option-within None below h = absurd h
-    option-within (Some j) below h = ⊎_elim (λ (e : j ≡ i). subst (λ k. k < count) e below) (λ none. absurd none) h
+within-all count m within i h = grind (arith, Among-append)
 
 module _ (b : Built) (v : Keyed) (built : IsBuilt b v) (all : b.next ≡ length b.graph.nodes) where
   abbrev ns : List Vertex
@@ -128,16 +113,11 @@ module _ (b : Built) (v : Keyed) (built : IsBuilt b v) (all : b.next ≡ length 
 
   -- the seeds of the snapshot are the roots' names
   seed-there : (i : ℕ) (w : Vertex) → slice_get ns i ≡ Some w → is_seed (view v.heap) s (node_behind w) ≡ true → Among w.name (seeds (view v.heap) s)
-  seed-there i w at seed = Among-map (λ (n : Node). n.name) (node_behind w) (filter (is_seed (view v.heap) s) s.nodes)
-      (Among-filter (is_seed (view v.heap) s) (node_behind w) s.nodes
-      (subst (Among (node_behind w)) (sym the_nodes) (Among-map node_behind w ns (place-among w ns i at))) seed)
+  seed-there i w at seed = grind (arith, Among-map, node_behind, Among-filter, the_nodes, place-among)
 
   -- the names of a mapping's members
   premises-named : (m : Hyperedge) → (mapping_joint (mapping_of ns m)).0 ≡ map (vertex_name ns) (premises m)
-  premises-named m =
-      ap (λ xs. xs ++ option_to_list (option_map (vertex_name ns) m.key)) (option-names (vertex_name ns) m.the_map)
-      ∙ ap (λ xs. map (vertex_name ns) (option_to_list m.the_map) ++ xs) (option-names (vertex_name ns) m.key)
-      ∙ sym (map-append (vertex_name ns) (option_to_list m.the_map) (option_to_list m.key))
+  premises-named m = search (option-names, map-append)
 
   -- A node that is reached from the roots is black in the snapshot,
   record IsBlackNode (i : ℕ) : Type 0 where
@@ -268,16 +248,7 @@ module _ (b : Built) (v : Keyed) (built : IsBuilt b v) (all : b.next ≡ length 
 
   -- Black in the snapshot is reached from the roots.
   black-node : (i : ℕ) (w : Vertex) → slice_get ns i ≡ Some w → BlackIn (view v.heap) s w.name ↔ IsFromRoots i
-  black-node i w at = (
-    λ d.
-        let h = black-reached w.name d in
-        subst IsFromRoots (distinct-number ns built.distinct h.number i h.node w h.there at h.name) h.reached,
-    λ r.
-        let h = reached-black i r in
-        let both : Some h.node ≡ Some w = sym h.there ∙ at in
-        let same : h.node ≡ w = cc in
-        subst (λ (z : Vertex). BlackIn (view v.heap) s z.name) same h.black,
-  )
+  black-node i w at = grind (arith, black-reached, distinct-number, reached-black)
 
   module _ (g m : Shown) (nodes : g.nodes ≡ b.graph.nodes) (m_nodes : m.nodes ≡ b.graph.nodes) (m_edges : m.edges ≡ b.graph.edges) (m_hyperedges : m.hyperedges ≡ b.graph.hyperedges)
       (touched_first : (i : ℕ) → IsTrue (is_black m i) ↔ Among i (touched b.graph v.heap))
@@ -290,9 +261,7 @@ module _ (b : Built) (v : Keyed) (built : IsBuilt b v) (all : b.next ≡ length 
 
     -- what the scan derives, over the graph that was built
     rules-same : scan_rules m ≡ system m_roots (map edge_pair es) js
-    rules-same =
-        ap (λ l. system m_roots (map edge_pair l) (map hyperedge_rule m.hyperedges)) m_edges
-        ∙ ap (λ l. system m_roots (map edge_pair es) (map hyperedge_rule l)) m_hyperedges
+    rules-same = search
 
     black-reached_in : (i : ℕ) → IsTrue (is_black g i) ↔ IsFromRoots i
     black-reached_in i = (
@@ -316,9 +285,7 @@ module _ (b : Built) (v : Keyed) (built : IsBuilt b v) (all : b.next ≡ length 
 
     -- a node is black in the graph where its name is black in the snapshot
     tests-alike : (i : ℕ) (w : Vertex) → slice_get ns i ≡ Some w → has same_name (black_in (view v.heap) s) w.name ≡ is_black g i
-    tests-alike i w at = same-tests (has same_name (black_in (view v.heap) s) w.name) (is_black g i)
-        (λ e. (black-reached_in i).1 ((black-node i w at).0 ((closure-decides same_name same_name-exact (black_in_rules (view v.heap) s) w.name).0 e)))
-        (λ e. (closure-decides same_name same_name-exact (black_in_rules (view v.heap) s) w.name).1 ((black-node i w at).1 ((black-reached_in i).0 e)))
+    tests-alike i w at = grind (arith, same-tests, black-reached_in, black-node, closure-decides, same_name-exact)
 
     -- a native is white in the graph where it is white in the snapshot
     white-alike : (n : HeapNative) → Among n v.heap.natives → has same_name (white_names (view v.heap) s) (native n.number) ≡ is_white_in g n
@@ -365,8 +332,7 @@ module _ (b : Built) (v : Keyed) (built : IsBuilt b v) (all : b.next ≡ length 
     -- THE LAW
     pub whites-are : whites_of g v.heap ≡ white_natives v.heap (snapshot_of b)
     unfolding white_natives
-    whites-are = ap (map (λ (n : HeapNative). n.number)) (filter-agree (is_white_in g) (λ n. has same_name (white_names (view v.heap) s) (native n.number)) v.heap.natives
-        (λ n there. sym (white-alike n there)))
+    whites-are = grind (arith, filter-agree, white-alike)
 
 -- After what is touched became black in a graph that was built, and then what the scan makes black, what is white in it is
 -- white in its snapshot.

@@ -1,16 +1,21 @@
 //! A site of collections: the build that stands there, and the room that the last one left.
 //!
 //! A collector reaches its collections through a site alone, and has no memory to build with elsewhere.
-ghost use Rattle.std.specs.Prelude.{◌≡◌, ◌<◌, ◌↔◌, ℕ, [], length, None, Some, IfSome, IsTrue, is_some};
+ghost use Rattle.std.specs.Prelude.{◌≡◌, ◌<◌, ◌↔◌, ℕ, [], ◌∷◌, length, None, Some, IfSome, IsTrue, is_some, true};
 ghost use Rattle.cc_lists.specs.Least.{Least};
 ghost use Rattle.cc_model.specs.Snapshot.{white_natives};
 ghost use Rattle.cc_model.specs.Units.{first_untraversed};
-ghost use Rattle.cc_model.specs.End.{at_end, refused};
+ghost use Rattle.cc_model.specs.declared.item.Event.TheVariants.{Abandoned};
+ghost use Rattle.cc_model.specs.Telling.{TellsEvents};
+ghost use Rattle.cc_model.specs.View.{view};
+ghost use Rattle.cc_model.specs.Suspected.{IsSuspected};
+ghost use Rattle.cc_model.specs.End.{at_end, give_back, refused};
 ghost use Rattle.cc_graph.specs.Held.{AreHeld};
 ghost use Rattle.cc_graph.specs.Shown.{is_black};
 ghost use Rattle.cc_scan.specs.Scanning.{scan_rules};
-ghost use Rattle.cc_heaps.specs.Keyed.{IsInOrder};
+ghost use Rattle.cc_heaps.specs.Keyed.{IsInOrder, changed_to};
 ghost use Rattle.cc_heaps.specs.HasKey.{HasKey};
+ghost use Rattle.cc_builder.specs.Beginning.{IsUnseen};
 ghost use Rattle.cc_builder.specs.Building.{IsBuilt, snapshot_of};
 ghost use Rattle.cc_unlink.specs.Whites.{whites_of};
 ghost use Rattle.cc_collector.specs.Kept.{RunsIn};
@@ -86,23 +91,51 @@ impl Site {
             Some(build) => build.step(heaps),
         };
         let Ok(step) = stepped else {
-            let Some(build) = self.running.take() else {
-                unreachable!()
-            };
-            build.abandon(heaps);
-            out.tell(Item::Event(Event::Abandoned));
+            self.abandon_running(heaps, out);
             return Err(NoMemory);
         };
         match step {
             Step::Traversed | Step::Gone => Ok(Ended::No),
             Step::Complete => {
-                let Some(build) = self.running.take() else {
-                    unreachable!()
-                };
-                self.end(build, heaps, out);
+                self.end_running(heaps, out);
                 Ok(Ended::Yes)
             }
         }
+    }
+
+    /// Abandons the collection that runs, which is told.
+    // a unit has no place for a build, so that the many that only step pay for none
+    fn abandon_running<N: Notices>(&mut self, heaps: &mut Heaps, out: &mut N)
+        requires running { is_some self.old.running ≡ true }
+        requires built { IfSome self.old.running (λ b. IsBuilt b heaps.old) }
+        requires held { IfSome self.old.running (λ b. AreHeld b.graph (HasKey heaps.old)) }
+        requires order { IsInOrder [] heaps.old }
+        ensures heap { IfSome self.old.running (λ b. heaps.new ≡ changed_to heaps.old (give_back (snapshot_of b).candidates heaps.old.heap)) }
+        ensures suspected { IfSome self.old.running (λ b. IsSuspected (view heaps.old.heap) (snapshot_of b).candidates → IsSuspected (view heaps.new.heap) []) }
+        ensures unseen { IsUnseen heaps.old heaps.new }
+        ensures told { TellsEvents (N.telling out.old) (N.telling out.new) (Abandoned ∷ []) }
+        ensures over { self.new ≡ record { running = None; room = self.old.room } }
+    {
+        let Some(build) = self.running.take() else {
+            unreachable!()
+        };
+        build.abandon(heaps);
+        out.tell(Item::Event(Event::Abandoned));
+    }
+
+    /// Ends the collection that runs, all of whose nodes are traversed or gone. Its room stays.
+    fn end_running<N: Notices>(&mut self, heaps: &mut Heaps, out: &mut N)
+        requires running { is_some self.old.running ≡ true }
+        requires runs { RunsIn heaps.old self.old.running }
+        requires traversed { IfSome self.old.running (λ b. first_untraversed (snapshot_of b).nodes ≡ None) }
+        requires behind { IfSome self.old.running (λ b. b.next ≡ length b.graph.nodes) }
+        ensures done { HasDoneUnit heaps.old self.old.running heaps.new self.new.running at_end (N.telling out.old) (N.telling out.new) }
+        ensures left { IfSome self.old.running (λ b. Leaves b.graph self.new.room) }
+    {
+        let Some(build) = self.running.take() else {
+            unreachable!()
+        };
+        self.end(build, heaps, out);
     }
 
     /// Begins a collection in the room that waits, or in a new one where none does.

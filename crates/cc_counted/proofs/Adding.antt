@@ -16,9 +16,7 @@ counts_with ns bs ks rs = record { natives = ns; buffer = bs; keys = ks; reflect
 
 -- counts are the same where their lists are
 pub counts-same : (ns ms : List HeapNative) (bs cs : List Buffered) (ks js rs ss : List (Option ℕ)) → ns ≡ ms → bs ≡ cs → ks ≡ js → rs ≡ ss → counts_with ns bs ks rs ≡ counts_with ms cs js ss
-counts-same ns ms bs cs ks js rs ss n b k r =
-    ap (λ xs. counts_with xs bs ks rs) n
-    ∙ (ap (λ ys. counts_with ms ys ks rs) b ∙ (ap (λ zs. counts_with ms cs zs rs) k ∙ ap (λ ws. counts_with ms cs js ws) r))
+counts-same ns ms bs cs ks js rs ss n b k r = search
 
 module _ (l : Lists) (p : IsPlaced l) (key : ℕ) (c : Placed) (at : cell_at l.cells key ≡ Some c) where
   abbrev number : ℕ
@@ -49,9 +47,7 @@ module _ (l : Lists) (p : IsPlaced l) (key : ℕ) (c : Placed) (at : cell_at l.c
 
   -- a mark alone
   pub counts-suspected : counts_of (record l { marks = with_mark true key l.marks }) ≡ with_heap (counts_of l) (suspect (heap_of (counts_of l)) (the_number (counts_of l) key))
-  counts-suspected =
-      counts-same _ _ _ _ _ _ _ _ refl (buffer-with_mark l p key c at true l.marks p.marked) refl refl
-      ∙ ap (λ k. with_heap (counts_of l) (suspect (heap_of (counts_of l)) k)) (sym same_number)
+  counts-suspected = search (counts-same, buffer-with_mark, same_number)
 
   pub placed-marked : (purple : Bool) → IsPlaced (record l { marks = with_mark purple key l.marks })
   placed-marked purple = record {

@@ -64,19 +64,12 @@ module _ (c : Counts) (distinct : HasDistinctNumbers (heap_of c)) (owned : List 
 
   -- What callers own is balanced.
   pub balanced-owned : IsBalanced owned (at_rest (heap_of c))
-  balanced-owned = record {
-    distinct = distinct;
-    counts = counts;
-    queue = λ k. sym (none-wait k);
-    buffer = buffer;
-  }
+  balanced-owned = search (counts, none-wait, buffer)
 
 module _ (c : Counts) (owned : List ℕ) (b : IsBalanced owned (at_rest (heap_of c))) where
   -- a native that is there does not wait
   living-above : (n : HeapNative) → Among n c.natives → 1 ≤ n.count
-  living-above n m =
-      let found : native_at (heap_of c) n.number ≡ Some n = native_at-member (heap_of c) b.distinct n m in
-      above-one_at_zero n.count (sym (ap waiting found) ∙ sym (b.queue n.number))
+  living-above n m = search (native_at-member, above-one_at_zero, b.queue)
 
   -- what stands in the buffer is there
   buffered-there : (e : Buffered) → Among e c.buffer → Among (native e.number) (native_names (heap_of c))

@@ -1,5 +1,5 @@
 -- THE BUFFER READ by keys and by numbers.
-use Rattle.std.proofs.Common.{◌≡◌, ℕ, List, [], ◌∷◌, drop, map, Option, Some, None, option_map, option_and_then, is_some, IfSome, MatchOption, Bool, true, false, refl, sym, ◌∙◌, ap, subst, inl, inr, ◌==◌}
+use Rattle.std.proofs.Common.{◌≡◌, ℕ, List, [], ◌∷◌, drop, map, Option, Some, None, option_map, option_and_then, is_some, IfSome, MatchOption, Bool, true, false, refl, sym, ◌∙◌, ap, subst, inl, inr, ◌==◌, arith}
 use Rattle.cc_lists.specs.Members.{Among}
 use Rattle.cc_lists.specs.Walks.{first_of}
 use Rattle.cc_names.specs.declared.number.NKey.{NKey}
@@ -75,19 +75,11 @@ module _ (l : Lists) (p : IsPlaced l) (key : ℕ) (c : Placed) (at : cell_at l.c
 
 -- a key that is found is one of the marks
 first-there : (ms : List Marked) (j : ℕ) → first_key ms ≡ Some j → (m : Marked) × Among m ms × (m.key ≡ j)
-first-there [] j e = absurd (cc)
-first-there (m ∷ ms) j e = (m, inl refl, cc)
+first-there ms j e = grind arith
 
 after-there : (key : ℕ) (ms : List Marked) (j : ℕ) → key_after ms key ≡ Some j → (m : Marked) × Among m ms × (m.key ≡ j)
 after-there key [] j e = absurd (cc)
-after-there key (m ∷ ms) j e = go (after-there key ms j) (m.key == key) e
-  where
-    after : Bool → Option ℕ
-    after b = elim b [ true ↦ first_key ms | false ↦ key_after ms key ]
-
-    go : (key_after ms key ≡ Some j → (n : Marked) × Among n ms × (n.key ≡ j)) → (b : Bool) → after b ≡ Some j → (n : Marked) × Among n (m ∷ ms) × (n.key ≡ j)
-    go ih true f = let k = first-there ms j f in (k.0, inr k.1, k.2)
-    go ih false f = let k = ih f in (k.0, inr k.1, k.2)
+after-there key (m ∷ ms) j e = grind (arith, first-there, after-there key ms j)
 
 live-mark : (l : Lists) → IsPlaced l → (o : Option NKey) (k : Option ℕ) → option_map (λ (a : NKey). a.0) o ≡ k → ((j : ℕ) → k ≡ Some j → (m : Marked) × Among m l.marks × (m.key ≡ j)) →
     IfSome o (λ a. is_some (number_at (counts_of l) a.0) ≡ true)
@@ -128,20 +120,7 @@ placed-front old new p e = subst IsPlaced (sym e) (record {
 
 front-taken : (old new : Lists) (o : Option (NKey × Bool)) → option_map (λ (front : NKey × Bool). marked_as front.0.0 front.1) o ≡ first_of old.marks → new ≡ record old { marks = drop 1 old.marks } →
     MatchOption o ((old.marks ≡ []) × (counts_of new ≡ counts_of old)) (λ front. old ≡ record new { marks = marked_as front.0.0 front.1 ∷ new.marks })
-front-taken old new o f e = go old.marks refl o f
-  where
-    left : (ms : List Marked) → old.marks ≡ ms → new ≡ record old { marks = drop 1 ms }
-    left ms m = e ∙ ap (λ (xs : List Marked). record old { marks = drop 1 xs }) m
-
-    go : (ms : List Marked) → old.marks ≡ ms → (o : Option (NKey × Bool)) → option_map (λ (front : NKey × Bool). marked_as front.0.0 front.1) o ≡ first_of ms →
-        MatchOption o ((old.marks ≡ []) × (counts_of new ≡ counts_of old)) (λ front. old ≡ record new { marks = marked_as front.0.0 front.1 ∷ new.marks })
-    go [] m None g = (m, ap (λ (l : Lists). counts_of l) (left [] m ∙ ap (λ (xs : List Marked). record old { marks = xs }) (sym m)))
-    go [] m (Some front) g = absurd (cc)
-    go (x ∷ xs) m None g = absurd (cc)
-    go (x ∷ xs) m (Some front) g =
-        let same : marked_as front.0.0 front.1 ≡ x = cc in
-        ap (λ (ys : List Marked). record old { marks = ys }) (m ∙ ap (λ (y : Marked). y ∷ xs) (sym same))
-        ∙ ap (λ (l : Lists). record l { marks = marked_as front.0.0 front.1 ∷ l.marks }) (sym (left (x ∷ xs) m))
+front-taken old new o f e = grind arith
 
 -- what is known once the front was taken out, by whether there was one
 pub selected : (old new : Lists) → IsPlaced old → (o : Option (NKey × Bool)) →

@@ -1,5 +1,5 @@
 -- THE QUEUE DRAINED: what is left to drain leads where all of it does, and each step takes a native out.
-use Rattle.std.proofs.Common.{◌≡◌, ℕ, suc, ◌-◌, ◌<◌, ◌≤◌, List, [], ◌∷◌, ◌++◌, map, length, refl, sym, ◌∙◌, ap, subst, inr, arith}
+use Rattle.std.proofs.Common.{◌≡◌, ℕ, suc, ◌-◌, ◌<◌, ◌≤◌, List, [], ◌∷◌, ◌++◌, length, refl, sym, ◌∙◌, ap, subst, inr, arith}
 use Rattle.cc_names.specs.Names.{native}
 use Rattle.cc_model.specs.declared.item.Event.{Event}
 use Rattle.cc_model.specs.declared.item.Event.TheVariants.{Freed}
@@ -9,8 +9,8 @@ use Rattle.cc_model.proofs.Tellings.{Tells-nil, TellsEvents-trans}
 use Rattle.cc_model.proofs.Draining.{drain-done}
 use Rattle.cc_laws_heap.specs.Balance.{IsBalanced}
 use Rattle.cc_laws_heap.proofs.Face.{IsBalanced-free_front, free_front-fewer}
-use Rattle.cc_counted.specs.Counts.{the_number, heap_of, left_with}
-use Rattle.cc_counted.specs.Lists.{Lists, keyed, counts_of, draining_of, IsPlaced, LeavesCells}
+use Rattle.cc_counted.specs.Counts.{heap_of, left_with}
+use Rattle.cc_counted.specs.Lists.{Lists, counts_of, draining_of, IsPlaced, LeavesCells}
 use Rattle.cc_counted.specs.Steps.{GivesUp, FreesFront, Drains, ComesTo}
 use Rattle.cc_counted.proofs.Balanced.{resting}
 use Rattle.cc_counted.proofs.Places.{length-natives}
@@ -41,14 +41,7 @@ DrainsSoFar-start start before p b = record {
 }
 
 pub DrainsSoFar-done : (start now : Lists) (before after : Telling) → DrainsSoFar start now before after → now.queue ≡ [] → Drains start now before after
-DrainsSoFar-done start now before after s e = record {
-  events = s.events;
-  draining = sym (drain-done s.steps (draining_of now s.events) (ap (map (the_number (keyed now.cells))) e)) ∙ s.rest;
-  emptied = e;
-  placed = s.placed;
-  leaves = s.leaves;
-  told = s.told;
-}
+DrainsSoFar-done start now before after s e = grind (arith, drain-done)
 
 -- a step of a drain
 drain-step : (n : ℕ) (d : Draining) (k : ℕ) (ks : List ℕ) → d.queue ≡ k ∷ ks → drain (suc n) d ≡ drain n (free_front d k ks)

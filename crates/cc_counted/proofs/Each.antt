@@ -1,5 +1,5 @@
 -- THE REFERENCES IN SLOTS GIVEN UP one after another: what is left to give up leads where all of it does.
-use Rattle.std.proofs.Common.{◌≡◌, ℕ, ◌+◌, ◌<◌, true, List, [], ◌∷◌, ◌++◌, length, drop, drop-cons, get_or, Option, Some, None, option_map, is_some, refl, sym, ◌∙◌, ap, subst, add-one}
+use Rattle.std.proofs.Common.{◌≡◌, ℕ, ◌+◌, ◌<◌, true, List, [], ◌∷◌, ◌++◌, length, drop, drop-cons, get_or, Option, Some, None, option_map, is_some, refl, sym, ◌∙◌, ap, subst, add-one, arith}
 use Rattle.std.proofs.lemmas.List.Elements.{Contains-get_or}
 use Rattle.cc_lists.specs.Members.{Among}
 use Rattle.cc_lists.proofs.Members.{Among-contains}
@@ -82,15 +82,7 @@ module _ (start : Lists) (slots : List (Option Held)) where
 
       -- and its reference is in hand
       pub balanced-next : (owned : List ℕ) × (c : Placed) × (cell_at now.cells key ≡ Some c) × IsBalanced (c.number ∷ owned) (draining_of now [])
-      balanced-next =
-          let c = cell-next in
-          let same : the_number (keyed start.cells) key ≡ c.0.number = ap (λ n. the_number n key) (sym r.keys) ∙ the_number-cell now.cells key c.0 c.1 in (
-            numbers_in (keyed start.cells) (drop (i + 1) slots) ++ r.balanced.0,
-            c.0,
-            c.1,
-            subst (λ k. IsBalanced (k ∷ numbers_in (keyed start.cells) (drop (i + 1) slots) ++ r.balanced.0) (draining_of now [])) same
-                (subst (λ ks. IsBalanced (ks ++ r.balanced.0) (draining_of now [])) numbers-next r.balanced.1),
-          )
+      balanced-next = grind (arith, cell-next, the_number-cell, numbers-next)
 
       pub GivesUpRest-some : (after : Lists) → GivesUp now after (the_number (keyed now.cells) key ∷ []) → GivesUpRest start after slots (i + 1)
       GivesUpRest-some after g =

@@ -13,7 +13,7 @@ use Rattle.cc_laws_heap.proofs.Face.{count_at-found, drained-balanced, native_at
 use Rattle.cc_laws_heap.specs.Balance.{IsBalanced}
 use Rattle.cc_counted.specs.declared.held.Held.{Held}
 use Rattle.cc_counted.specs.declared.held.Held.TheVariants as held
-use Rattle.cc_counted.specs.Counts.{number_at, number_or_none, the_number, name_of, is_live, numbers_held, native_held, heap_of}
+use Rattle.cc_counted.specs.Counts.{the_number, name_of, is_live, numbers_held, native_held, heap_of}
 use Rattle.cc_counted.specs.Lists.{Placed, Lists, cell_at, with_slot, reflector_placed, without_count, keyed, counts_of, draining_of, IsPlaced, LeavesCells}
 use Rattle.cc_counted.specs.Steps.{ComesTo, EmptiesSlot}
 use Rattle.cc_counted.proofs.Places.{number_at-cell, the_number-cell, native-key, one_key}
@@ -149,10 +149,7 @@ module _ (l : Lists) (p : IsPlaced l) (key : ℕ) (c : Placed) (at : cell_at l.c
           )
 
       name-held : name_of (keyed l.cells) content ≡ Some (native (the_number (keyed l.cells) j))
-      name-held =
-          let d = live-cell l.cells j (subst (λ x. is_live (keyed l.cells) x ≡ true) held_there content-there) in
-          let at_it : number_at (keyed l.cells) j ≡ Some d.0.number = number_at-cell l.cells j d.0 d.1 in
-          ap (name_of (keyed l.cells)) held_there ∙ (ap (option_map native) at_it ∙ ap (λ k. Some (native k)) (sym (ap number_or_none at_it)))
+      name-held = grind (arith, live-cell, content-there, number_at-cell)
 
       pub EmptiesSlot-some : (new : Lists) (before after : Telling) → l.queue ≡ [] →
           ComesTo emptied_lists new before after (cascade (heap_of (counts_of emptied_lists)) (the_number (keyed cells) j)) → EmptiesSlot l new key i before after

@@ -1,7 +1,8 @@
 -- THE FRONT OF THE QUEUE FREED: taken out at its key, and then what its slots held given up.
-use Rattle.std.proofs.Common.{◌≡◌, ℕ, true, List, [], ◌∷◌, ◌++◌, map, Option, Some, None, option_map, refl, sym, ◌∙◌, ap, subst, ⊎_elim, inl, inr, arith}
+use Rattle.std.proofs.Common.{◌≡◌, ℕ, true, List, [], ◌∷◌, ◌++◌, map, Option, Some, None, option_map, sym, ◌∙◌, ap, subst, ⊎_elim, inl, inr, arith}
 use Rattle.std.proofs.lemmas.Bool.Decides.{eqb_tells}
 use Rattle.std.proofs.lemmas.List.{length-set}
+use Rattle.cc_counted.proofs.Leaving.{stays-gone}
 use Rattle.cc_lists.specs.Members.{Among}
 use Rattle.cc_names.specs.Names.{native}
 use Rattle.cc_model.specs.declared.item.Event.{Event}
@@ -23,11 +24,6 @@ use Rattle.cc_counted.proofs.TakingOut.{count-zero, queue-numbers, cell-gone, ce
 -- a balance says nothing of what was told
 pub IsBalanced-events : (owned : List ℕ) (d : Draining) (es : List Event) → IsBalanced owned d → IsBalanced owned (record d { events = es })
 IsBalanced-events owned d es b = record { distinct = b.distinct; counts = b.counts; queue = b.queue; buffer = b.buffer }
-
--- where there is no native without its count, there is none
-stays-gone : (o : Option Placed) → option_map without_count o ≡ None → o ≡ None
-stays-gone None e = refl
-stays-gone (Some c) e = absurd (cc)
 
 module _ (l : Lists) (p : IsPlaced l) (owned : List ℕ) (b : IsBalanced owned (draining_of l [])) (key : ℕ) (ks : List ℕ) (c : Placed)
     (at : cell_at l.cells key ≡ Some c) (front : l.queue ≡ key ∷ ks) where

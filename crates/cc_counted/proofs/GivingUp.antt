@@ -1,13 +1,13 @@
 -- ONE REFERENCE GIVEN UP at a key is one given up by its number.
-use Rattle.std.proofs.Common.{◌≡◌, ℕ, zero, suc, ◌≤◌, true, List, [], ◌∷◌, ◌++◌, map, Some, refl, sym, ◌∙◌, ap, ⊎_elim, arith}
+use Rattle.std.proofs.Common.{◌≡◌, ℕ, ◌≤◌, true, List, [], ◌∷◌, ◌++◌, Some, refl, sym, ◌∙◌, ap, ⊎_elim, arith}
 use Rattle.std.proofs.lemmas.List.{map-append}
 use Rattle.cc_lists.proofs.Members.{Among-append}
 use Rattle.cc_model.specs.declared.item.Event.{Event}
 use Rattle.cc_model.specs.Heap.{HeapNative, Buffered, empty_heap}
 use Rattle.cc_model.specs.Cascade.{Draining, fallen, given_up, give_up}
 use Rattle.cc_laws_heap.proofs.Face.{lower_native}
-use Rattle.cc_counted.specs.Counts.{no_limits, the_number}
-use Rattle.cc_counted.specs.Lists.{Placed, Lists, cell_at, with_one_less, keyed, marked_number, draining_of, IsPlaced, suspected, waiting}
+use Rattle.cc_counted.specs.Counts.{no_limits}
+use Rattle.cc_counted.specs.Lists.{Placed, Lists, cell_at, with_one_less, draining_of, IsPlaced, suspected, waiting}
 use Rattle.cc_counted.proofs.Places.{native_at-cell, the_number-cell}
 use Rattle.cc_counted.proofs.Changing.{keyed-changed, IsPlaced-changed, natives-changed}
 use Rattle.cc_counted.proofs.Marking.{buffer-with_mark, buffer-without_key, with_mark-there, without_key-there}
@@ -19,8 +19,7 @@ draining_with ns bs ks es = record { heap = record (empty_heap no_limits) { nati
 -- they are the same where their lists are
 pub draining-same : (ns ms : List HeapNative) (bs cs : List Buffered) (ks js : List ℕ) (es : List Event) → ns ≡ ms → bs ≡ cs → ks ≡ js →
     draining_with ns bs ks es ≡ draining_with ms cs js es
-draining-same ns ms bs cs ks js es n b k =
-    ap (λ xs. draining_with xs bs ks es) n ∙ (ap (λ xs. draining_with ms xs ks es) b ∙ ap (λ xs. draining_with ms cs xs es) k)
+draining-same ns ms bs cs ks js es n b k = search
 
 module _ (l : Lists) (p : IsPlaced l) (key : ℕ) (c : Placed) (at : cell_at l.cells key ≡ Some c) where
   -- what is given up, by the count
@@ -29,33 +28,12 @@ module _ (l : Lists) (p : IsPlaced l) (key : ℕ) (c : Placed) (at : cell_at l.c
 
   -- not the last reference
   pub give_up-suspected : 2 ≤ c.count → (es : List Event) → draining_of (suspected l key c) es ≡ give_up (draining_of l es) c.number
-  give_up-suspected more es = go c.count refl more ∙ sym (given_up-cell es)
-    where
-      go : (n : ℕ) → c.count ≡ n → 2 ≤ n → draining_of (suspected l key c) es ≡ fallen (draining_of l es) c.number n
-      go zero e m = absurd (omega arith)
-      go (suc zero) e m = absurd (omega arith)
-      go (suc (suc n)) e m =
-          draining-same _ _ _ _ _ _ es
-          (natives-changed l p key c (with_one_less c) at refl lower_native refl)
-          (ap (λ n. map (marked_number n) (suspected l key c).marks) (keyed-changed l p key c (with_one_less c) at refl)
-          ∙ buffer-with_mark l p key c at true l.marks p.marked)
-          (ap (λ n. map (the_number n) l.queue) (keyed-changed l p key c (with_one_less c) at refl))
+  give_up-suspected more es = grind (arith, given_up-cell, draining-same, natives-changed, lower_native, keyed-changed, buffer-with_mark)
 
   -- the last one
   pub give_up-waiting : c.count ≡ 1 → (es : List Event) → draining_of (waiting l key c) es ≡ give_up (draining_of l es) c.number
-  give_up-waiting one es = go c.count refl one ∙ sym (given_up-cell es)
-    where
-      go : (n : ℕ) → c.count ≡ n → n ≡ 1 → draining_of (waiting l key c) es ≡ fallen (draining_of l es) c.number n
-      go zero e m = absurd (omega arith)
-      go (suc zero) e m =
-          draining-same _ _ _ _ _ _ es
-          (natives-changed l p key c (with_one_less c) at refl lower_native refl)
-          (ap (λ n. map (marked_number n) (waiting l key c).marks) (keyed-changed l p key c (with_one_less c) at refl)
-          ∙ buffer-without_key l p key c at)
-          (ap (λ n. map (the_number n) (l.queue ++ key ∷ [])) (keyed-changed l p key c (with_one_less c) at refl)
-          ∙ (map-append (the_number (keyed l.cells)) l.queue (key ∷ [])
-          ∙ ap (λ k. map (the_number (keyed l.cells)) l.queue ++ k ∷ []) (the_number-cell l.cells key c at)))
-      go (suc (suc n)) e m = absurd (omega arith)
+  give_up-waiting one es =
+      grind (arith, given_up-cell, draining-same, natives-changed, lower_native, keyed-changed, buffer-without_key, map-append, the_number-cell)
 
   -- the lists fit together after it
   pub IsPlaced-suspected : IsPlaced (suspected l key c)

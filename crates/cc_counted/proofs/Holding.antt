@@ -1,5 +1,5 @@
 -- WHAT SLOTS HOLD, by keys and by names.
-use Rattle.std.proofs.Common.{◌≡◌, ℕ, true, false, List, [], ◌∷◌, ◌++◌, Option, Some, None, option_map, is_some, refl, sym, ◌∙◌, ap, inl, inr}
+use Rattle.std.proofs.Common.{◌≡◌, ℕ, true, false, List, [], ◌∷◌, ◌++◌, Option, Some, None, option_map, is_some, refl, sym, ◌∙◌, ap, inl, inr, arith}
 use Rattle.std.specs.List.{flat_map}
 use Rattle.cc_lists.specs.Members.{Among}
 use Rattle.cc_names.specs.declared.number.NKey.{NKey}
@@ -31,14 +31,7 @@ natives_of_slots-shown c (Some (held.Native key) ∷ slots) live = go (natives_o
 -- what a slot holds is the same where the number at its key is
 pub held-same : (c d : Counts) (x : Option Held) → ((k : ℕ) → x ≡ Some (held.Native (record { 0 = k })) → number_at d k ≡ number_at c k) →
     (name_of d x ≡ name_of c x) × (is_live d x ≡ is_live c x) × (numbers_held d x ≡ numbers_held c x)
-held-same c d None h = (refl, refl, refl)
-held-same c d (Some (held.Script key)) h = (refl, refl, refl)
-held-same c d (Some (held.Native key)) h =
-    let e : number_at d key.0 ≡ number_at c key.0 = h key.0 refl in (
-      ap (option_map native) e,
-      ap (λ o. is_some (option_map native o)) e,
-      ap (λ o. number_or_none o ∷ []) e,
-    )
+held-same c d x h = grind arith
 
 -- so what slots hold is the same
 pub names-same : (c d : Counts) (slots : List (Option Held)) → ((x : Option Held) → Among x slots → name_of d x ≡ name_of c x) → names_in d slots ≡ names_in c slots
@@ -51,18 +44,12 @@ numbers-same c d (x ∷ xs) h = ap (λ y. y ++ numbers_in d xs) (h x (inl refl))
 
 -- where a native is held, that is all that is held
 pub held-native : (x : Option Held) (key : NKey) → native_held x ≡ Some key → x ≡ Some (held.Native key)
-held-native None key e = absurd (cc)
-held-native (Some (held.Native k)) key e = ap (λ (j : NKey). Some (held.Native j)) (cc)
-held-native (Some (held.Script k)) key e = absurd (cc)
+held-native x key e = grind arith
 
 -- where none is, nothing is counted
 pub numbers-none : (c : Counts) (x : Option Held) → native_held x ≡ None → numbers_held c x ≡ []
-numbers-none c None e = refl
-numbers-none c (Some (held.Native k)) e = absurd (cc)
-numbers-none c (Some (held.Script k)) e = refl
+numbers-none c x e = grind arith
 
 -- and to give it up does nothing
 pub let_go-none : (c : Counts) (x : Option Held) (h : Heap) → native_held x ≡ None → let_go h (name_of c x) ≡ silently h
-let_go-none c None h e = refl
-let_go-none c (Some (held.Native k)) h e = absurd (cc)
-let_go-none c (Some (held.Script k)) h e = refl
+let_go-none c x h e = grind arith

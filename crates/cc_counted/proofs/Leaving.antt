@@ -33,15 +33,16 @@ LeavesKeys-then a b c p q = record {
 pub LeavesCells-same : (cells : List (Option Placed)) → LeavesCells cells cells
 LeavesCells-same cells = record { as_many = refl; each = λ key. inr refl }
 
+-- where there is no native without its count, there is none
+pub stays-gone : (o : Option Placed) → option_map without_count o ≡ None → o ≡ None
+stays-gone None e = refl
+stays-gone (Some d) e = absurd (cc)
+
 pub LeavesCells-then : (a b c : List (Option Placed)) → LeavesCells a b → LeavesCells b c → LeavesCells a c
 LeavesCells-then a b c p q = record {
   as_many = q.as_many ∙ p.as_many;
-  each = λ key. ⊎_elim (λ none. inl none) (λ same. ⊎_elim (λ none. inl (gone (cell_at c key) (same ∙ ap (option_map without_count) none))) (λ e. inr (same ∙ e)) (p.each key)) (q.each key);
+  each = λ key. ⊎_elim (λ none. inl none) (λ same. ⊎_elim (λ none. inl (stays-gone (cell_at c key) (same ∙ ap (option_map without_count) none))) (λ e. inr (same ∙ e)) (p.each key)) (q.each key);
 }
-  where
-    gone : (o : Option Placed) → option_map without_count o ≡ None → o ≡ None
-    gone None e = refl
-    gone (Some d) e = absurd (cc)
 
 -- natives that stay keep their numbers
 pub LeavesKeys-cells : (a b : List (Option Placed)) → LeavesCells a b → LeavesKeys a b

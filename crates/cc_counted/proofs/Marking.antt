@@ -1,5 +1,5 @@
 -- THE BUFFER BY KEYS AND BY NUMBERS: a mark that is set, a key that is taken out.
-use Rattle.std.proofs.Common.{◌≡◌, ℕ, Bool, true, false, not, List, [], ◌∷◌, map, Some, refl, sym, ◌∙◌, ap, subst, ⊎_elim, inl, inr, ◌==◌}
+use Rattle.std.proofs.Common.{◌≡◌, ℕ, Bool, true, false, not, List, [], ◌∷◌, map, Some, refl, sym, ◌∙◌, ap, subst, ⊎_elim, inl, inr, ◌==◌, arith}
 use Rattle.std.specs.List.{filter}
 use Rattle.std.proofs.lemmas.Bool.{eq-eqb, ne_eqb}
 use Rattle.std.proofs.lemmas.Bool.Decides.{eqb_tells}
@@ -16,11 +16,7 @@ use Rattle.cc_counted.proofs.Places.{the_number-cell, one_key}
 module _ (l : Lists) (p : IsPlaced l) (key : ℕ) (c : Placed) (at : cell_at l.cells key ≡ Some c) where
   -- keys of natives are equal where their numbers are
   pub key-test : (k : ℕ) (b : Placed) → cell_at l.cells k ≡ Some b → (k == key) ≡ (the_number (keyed l.cells) k == c.number)
-  key-test k b e = ⊎_elim
-      (λ t. t.0 ∙ sym (eq-eqb (the_number (keyed l.cells) k) c.number (ap (the_number (keyed l.cells)) t.1 ∙ the_number-cell l.cells key c at)))
-      (λ t. t.0 ∙ sym (ne_eqb (the_number (keyed l.cells) k) c.number
-      (λ s. t.1 (one_key l p k key b c e at (sym (the_number-cell l.cells k b e) ∙ s)))))
-      (eqb_tells k key)
+  key-test k b e = grind (arith, eq-eqb, the_number-cell, ne_eqb, one_key, eqb_tells)
 
   pub mark-test : (ms : List Marked) → ((m : Marked) → Among m ms → (b : Placed) × (cell_at l.cells m.key ≡ Some b)) →
       (m : Marked) → Among m ms → (m.key == key) ≡ (the_number (keyed l.cells) m.key == c.number)
@@ -55,10 +51,7 @@ module _ (l : Lists) (p : IsPlaced l) (key : ℕ) (c : Placed) (at : cell_at l.c
 
   -- a key taken out
   pub buffer-without_key : map (marked_number (keyed l.cells)) (without_key key l.marks) ≡ filter (λ b. not (b.number == c.number)) (map (marked_number (keyed l.cells)) l.marks)
-  buffer-without_key =
-      ap (map (marked_number (keyed l.cells)))
-      (filter-agree (λ m. not (m.key == key)) (λ m. not (the_number (keyed l.cells) m.key == c.number)) l.marks (λ m n. ap not (mark-test l.marks p.marked m n)))
-      ∙ sym (filter-map (λ (b : heap.Buffered). not (b.number == c.number)) (marked_number (keyed l.cells)) l.marks)
+  buffer-without_key = grind (arith, filter-agree, mark-test, filter-map)
 
   -- what is marked after a mark is set: the key, or what was
   pub with_mark-there : (purple : Bool) (ms : List Marked) → ((m : Marked) → Among m ms → (b : Placed) × (cell_at l.cells m.key ≡ Some b)) →

@@ -1,23 +1,18 @@
 -- WHAT A WRITE TO A NODE LEAVES of the natives, the links and the marks.
-use Rattle.std.proofs.Common.{◌≡◌, ◌≢◌, ℕ, Bool, true, false, zero, suc, List, [], ◌∷◌, length, Option, Some, None, option_map, is_some, get_or, refl, sym, ◌∙◌, ap}
-use Rattle.std.specs.Prelude.{IsTrue, ◌==◌}
+use Rattle.std.proofs.Common.{◌≡◌, ◌≢◌, ℕ, Bool, true, false, zero, suc, List, [], ◌∷◌, Option, Some, None, option_map, is_some, get_or, refl, sym, ◌∙◌, ap}
+use Rattle.std.specs.Prelude.{IsTrue}
 use Rattle.std.specs.Option.{option_flatten, unwrap_or}
 use Rattle.std.proofs.Math.ListN.{set, get_or-map}
 use Rattle.std.proofs.Math.Seq.{map-set_same}
-use Rattle.std.proofs.lemmas.Bool.{true≢false}
 use Rattle.std.proofs.lemmas.List.{map-set}
-use Rattle.cc_lists.specs.Members.{Among}
-use Rattle.cc_lists.proofs.Members.{has-there}
-use Rattle.cc_lists.proofs.Numbers.{number-exact}
 use Rattle.cc_chain.specs.declared.link.Link.{Link}
 use Rattle.cc_chain.specs.declared.chain.Chain.{Chain}
-use Rattle.cc_chain.specs.Links.{AreBelow, Links, IsFree, is_live, is_linked}
+use Rattle.cc_chain.specs.Links.{Links}
 use Rattle.cc_chain.specs.Chains.{IsChain}
 use Rattle.cc_chain.specs.Stores.{slot_at}
 use Rattle.cc_chain.proofs.Links.{SameLinks-at}
-use Rattle.cc_chain.proofs.Stores.{slot_at-kept, slot_at-live}
-use Rattle.cc_chain.proofs.Rows.{link_from-absent}
-use Rattle.cc_chain.proofs.Chains.{chain-holds, chain-kept}
+use Rattle.cc_chain.proofs.Stores.{slot_at-kept}
+use Rattle.cc_chain.proofs.Chains.{chain-kept}
 use Rattle.cc_purple.specs.declared.buffer.Buffer.{Buffer}
 use Rattle.cc_purple.specs.Stores.{Marks}
 use Rattle.cc_purple.specs.Marks.{Marked, holds_key}
@@ -47,10 +42,6 @@ node-there slots key live = go (get_or slots key None) refl
 -- so its key is live in each list
 pub live-part : {Y : Type 0} (part : Node → Y) (slots : List (Option Node)) (key : ℕ) → is_some (cell_at (cells_of slots) key) ≡ true → IsTrue (is_some (slot_at part slots key))
 live-part part slots key live = let f = node-there slots key live in ap (λ o. is_some (option_map part o)) f.1
-
--- and live keys are places
-pub part-below : (part : Node → Option Link) (slots : List (Option Node)) → AreBelow (length slots) (slot_at part slots)
-part-below part slots key live = slot_at-live part slots key live
 
 module _ (slots : List (Option Node)) (key : ℕ) (n m : Node) (at : get_or slots key None ≡ Some n) where
   pub cells-written : cells_of (set slots key (Some m)) ≡ set (cells_of slots) key (Some m.cell)
@@ -88,18 +79,3 @@ pub vacated : {X : Type 0} (slots : List (Option X)) (key : ℕ) → get_or (set
 vacated [] key = refl
 vacated (x ∷ slots) zero = refl
 vacated (x ∷ slots) (suc key) = vacated slots key
-
-pub unlinked-absent : {R : Type 0} (links : Links) (chain : Chain R) (keys : List ℕ) → IsChain links chain keys → (key : ℕ) → ¬ (Among key keys) → option_flatten (links key) ≡ None
-unlinked-absent links chain keys c key absent = c.linked key ∙ link_from-absent None keys key absent
-
--- and a live key that is in no list is free
-pub free-absent : {R : Type 0} (links : Links) (chain : Chain R) (keys : List ℕ) → IsChain links chain keys → (key : ℕ) → IsTrue (is_live links key) → ¬ (Among key keys) → IsFree links key
-free-absent links chain keys c key live absent = go (links key) live (unlinked-absent links chain keys c key absent)
-  where
-    go : (o : Option (Option Link)) → is_some o ≡ true → option_flatten o ≡ None → o ≡ Some None
-    go None e f = absurd (true≢false (sym e))
-    go (Some l) e f = ap Some f
-
--- a key of a chain has a link
-pub linked-there : {R : Type 0} (links : Links) (chain : Chain R) (keys : List ℕ) → IsChain links chain keys → (key : ℕ) → Among key keys → IsTrue (is_linked links key)
-linked-there links chain keys c key m = chain-holds links chain keys c key ∙ has-there ◌==◌ number-exact keys key m

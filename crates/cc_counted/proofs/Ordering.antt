@@ -1,5 +1,5 @@
 -- THE NATIVES IN ORDER: the key behind a key is that of the native with the next greater number.
-use Rattle.std.proofs.Common.{◌≡◌, ℕ, List, [], ◌∷◌, ◌++◌, map, Option, Some, None, option_map, option_and_then, is_some, IfSome, Bool, true, false, if◌then◌else◌, refl, sym, ◌∙◌, ap, subst, inl, inr, arith, ◌==◌, nat_lt}
+use Rattle.std.proofs.Common.{◌≡◌, ℕ, List, [], ◌∷◌, ◌++◌, map, Option, Some, None, option_map, option_and_then, is_some, IfSome, true, refl, sym, ◌∙◌, ap, subst, inr, arith, ◌==◌, nat_lt}
 use Rattle.std.specs.List.{filter}
 use Rattle.std.proofs.lemmas.Bool.{eqb-true, eq-eqb}
 use Rattle.std.proofs.lemmas.List.{map-append}
@@ -19,27 +19,18 @@ use Rattle.cc_counted.proofs.Places.{number_at-cell, the_number-cell, shown-numb
 
 -- the first key of a list, and the key behind another
 first_of-key : (keys : List ℕ) → first_of keys ≡ first_key (λ k. k) keys
-first_of-key [] = refl
-first_of-key (k ∷ ks) = refl
+first_of-key keys = search
 
 behind-next_key : (keys : List ℕ) (key : ℕ) → first_of (behind key keys) ≡ next_key (λ k. k) keys key
 behind-next_key [] key = refl
-behind-next_key (k ∷ ks) key = go (behind-next_key ks key) (k == key)
-  where
-    go : first_of (behind key ks) ≡ next_key (λ k. k) ks key → (b : Bool) →
-        first_of (if b then ks else behind key ks) ≡ (elim b [ true ↦ first_key (λ k. k) ks | false ↦ next_key (λ k. k) ks key ])
-    go ih true = first_of-key ks
-    go ih false = ih
+behind-next_key (k ∷ ks) key = grind (arith, first_of-key, behind-next_key ks key)
 
 -- they stand in the list
 pub first-among : (keys : List ℕ) (key : ℕ) → first_of keys ≡ Some key → Among key keys
-first-among [] key e = absurd (cc)
-first-among (k ∷ ks) key e = let same : k ≡ key = cc in inl same
+first-among keys key e = grind arith
 
 pub behind-among : (keys : List ℕ) (key j : ℕ) → first_of (behind key keys) ≡ Some j → Among j keys
-behind-among keys key j e =
-    let f = next_key-among (λ (k : ℕ). k) keys key j (sym (behind-next_key keys key) ∙ e) in
-    subst (λ i. Among i keys) f.2 f.1
+behind-among keys key j e = grind (arith, next_key-among, behind-next_key)
 
 module _ (l : Lists) (p : IsPlaced l) where
   abbrev number : ℕ → ℕ
@@ -52,8 +43,7 @@ module _ (l : Lists) (p : IsPlaced l) where
   -- the first of some natives
   pub number-first : (keys : List ℕ) → ((key : ℕ) → Among key keys → (c : Placed) × (cell_at l.cells key ≡ Some c)) →
       option_and_then (number_at (counts_of l)) (first_of keys) ≡ first_number (map (shown_at l.cells) keys)
-  number-first [] there = refl
-  number-first (k ∷ ks) there = number-there k (there k (inl refl)) ∙ ap Some (sym (shown-number l.cells k))
+  number-first keys there = grind (arith, number-there, shown-number)
 
   -- no key stands twice in the order, since no number does
   keys-distinct : HasDistinctKeys (λ k. k) l.order

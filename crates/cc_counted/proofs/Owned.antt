@@ -23,10 +23,8 @@ use Rattle.cc_laws_heap.proofs.Face.{HasDistinctNumbers-change, IsCounted-add_re
 use Rattle.cc_counted.specs.declared.held.Held.{Held}
 use Rattle.cc_counted.specs.Counts.{Counts, number_at, the_number, is_live, numbers_held, heap_of, with_heap, with_reflector}
 use Rattle.cc_counted.specs.Owning.{AreOwned, Transfers, Makes}
-use Rattle.cc_counted.specs.Lists.{Placed, Lists, cell_at, with_slot, keyed, shown, counts_of, draining_of, IsPlaced}
+use Rattle.cc_counted.specs.Lists.{Placed, Lists, cell_at, with_slot, keyed, shown, counts_of, IsPlaced}
 use Rattle.cc_counted.proofs.Places.{the_number-cell, native_at-cell, natives-distinct}
-use Rattle.cc_counted.proofs.Reading.{is_live-keyed}
-use Rattle.cc_counted.proofs.Holding.{held-same}
 use Rattle.cc_counted.proofs.Balanced.{balanced-owned, owned-balanced, IsBalanced-owned, owned-lists}
 use Rattle.cc_counted.proofs.SlotBalance.{IsBalanced-written}
 use Rattle.cc_counted.proofs.Reflecting.{flagged}
@@ -105,14 +103,7 @@ module _ (l : Lists) (p : IsPlaced l) (key : ℕ) (f : (c : Placed) × (cell_at 
 pub owned-written : (l : Lists) (p : IsPlaced l) → l.queue ≡ [] → (key : ℕ) (c : Placed) (at : cell_at l.cells key ≡ Some c) (i : ℕ) → i < length c.slots →
     (x : Option Held) → is_live (counts_of l) x ≡ true → (cells : List (Option Placed)) → cells ≡ set l.cells key (Some (with_slot i x c)) →
     Transfers (numbers_held (counts_of l) x) (numbers_held (counts_of l) (get_or c.slots i None)) (counts_of l) (counts_of (record l { cells = cells }))
-owned-written l p none key c at i within x live cells e others o =
-    owned-lists (record l { cells = cells }) none (numbers_held (counts_of l) (get_or c.slots i None) ++ others)
-    (subst (λ ks. IsBalanced (ks ++ others) (draining_of (record l { cells = cells }) [])) (sym (same (get_or c.slots i None)))
-    (IsBalanced-written l p key c at i within x cells e (sym (is_live-keyed l x) ∙ live) others
-    (subst (λ ks. IsBalanced (ks ++ others) (draining_of l [])) (same x) (IsBalanced-owned l p none (numbers_held (counts_of l) x ++ others) o))))
-  where
-    same : (y : Option Held) → numbers_held (counts_of l) y ≡ numbers_held (keyed l.cells) y
-    same y = (held-same (keyed l.cells) (counts_of l) y (λ k e. refl)).2
+owned-written l p none key c at i within x live cells e others o = search (owned-lists, IsBalanced-written, IsBalanced-owned)
 
 -- Whether a reflector is preserved says nothing of what is owned.
 pub owned-flagged : (c : Counts) (k : ℕ) (on : Bool) → Transfers [] [] c (with_heap c (set_preserved (heap_of c) k on))
@@ -154,14 +145,7 @@ owned-flagged c k on others o = record {
 
 -- Nor does where it stands.
 pub owned-reflected : (c : Counts) (key : ℕ) (to : Option ℕ) → Transfers [] [] c (with_reflector c key to)
-owned-reflected c key to others o = record {
-  counts = o.counts;
-  none_zero = o.none_zero;
-  held_there = o.held_there;
-  owned_there = o.owned_there;
-  buffered = o.buffered;
-  buffered_once = o.buffered_once;
-}
+owned-reflected c key to others o = search
 
 -- the front of the buffer leaves
 owned-front : (old new : Counts) (b : Buffered) → old.buffer ≡ b ∷ new.buffer → new ≡ record old { buffer = new.buffer } → Transfers [] [] old new

@@ -1,5 +1,5 @@
 -- Natives by key and by number: each number stands at one key, and is found there.
-use Rattle.std.proofs.Common.{◌≡◌, ℕ, ◌≤◌, Bool, List, [], ◌∷◌, map, length, Option, Some, None, option_map, refl, sym, ◌∙◌, ap, subst, count_by, ◌==◌}
+use Rattle.std.proofs.Common.{◌≡◌, ℕ, ◌≤◌, Bool, List, map, length, Option, Some, None, option_map, refl, sym, ◌∙◌, ap, subst, count_by, ◌==◌}
 use Rattle.std.proofs.Math.ListN.{get_or-map}
 use Rattle.std.proofs.lemmas.Bool.{eq-eqb}
 use Rattle.std.proofs.lemmas.List.{length-map}
@@ -53,12 +53,7 @@ shown-number cells key = go (cell_at cells key) ∙ ap number_or_none (sym (numb
 
 -- the numbers of the natives are those at the keys of the order
 pub natives-numbers : (l : Lists) → map (λ n. n.number) (counts_of l).natives ≡ map (the_number (keyed l.cells)) l.order
-natives-numbers l = map-map (λ (n : HeapNative). n.number) (shown_at l.cells) l.order ∙ each l.order
-  where
-    each : (keys : List ℕ) → map (λ key. (shown_at l.cells key).number) keys ≡ map (the_number (keyed l.cells)) keys
-    each [] = refl
-    each (key ∷ keys) = ap (λ k. k ∷ map (λ key. (shown_at l.cells key).number) keys) (shown-number l.cells key)
-        ∙ ap (λ ks. the_number (keyed l.cells) key ∷ ks) (each keys)
+natives-numbers l = search (map-map, shown-number)
 
 pub length-natives : (l : Lists) → length (counts_of l).natives ≡ length l.order
 length-natives l = length-map l.order (shown_at l.cells)

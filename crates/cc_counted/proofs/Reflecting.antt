@@ -1,5 +1,5 @@
 -- THE REFLECTOR OF A NATIVE: where it stands and whether it is preserved, as they are written and read.
-use Rattle.std.proofs.Common.{◌≡◌, ◌<◌, ℕ, Bool, List, map, length, get_or, Option, Some, None, option_map, is_some, if◌then◌else◌, refl, sym, ◌∙◌, ap, subst, ⊎_elim}
+use Rattle.std.proofs.Common.{◌≡◌, ◌<◌, ℕ, Bool, List, map, length, get_or, Option, Some, None, option_map, refl, sym, ◌∙◌, ap, subst, arith}
 use Rattle.std.proofs.Math.ListN.{set}
 use Rattle.std.proofs.lemmas.Bool.Decides.{eqb_tells}
 use Rattle.std.proofs.lemmas.List.{map-set, get_or_push, get_or_append_left}
@@ -18,15 +18,7 @@ flagged on n = record n { preserved = on }
 
 -- a native that is there stays there
 key_left-flagged : (h : Heap) (k : ℕ) (on : Bool) (o : Option ℕ) → key_left (set_preserved h k on) o ≡ key_left h o
-key_left-flagged h k on None = refl
-key_left-flagged h k on (Some j) = ap (λ b. if b then Some j else None) (⊎_elim
-    (λ t. ap (λ i. is_some (native_at (set_preserved h k on) i)) t.1
-    ∙ (ap is_some (native_at-change_same h k (flagged on) (λ n. refl)) ∙ (go (native_at h k) ∙ ap (λ i. is_some (native_at h i)) (sym t.1))))
-    (λ t. ap is_some (native_at-change_other h k (flagged on) (λ n. refl) j t.1)) (eqb_tells j k))
-  where
-    go : (o : Option HeapNative) → is_some (option_map (flagged on) o) ≡ is_some o
-    go None = refl
-    go (Some n) = refl
+key_left-flagged h k on o = grind (arith, native_at-change_same, native_at-change_other, eqb_tells)
 
 -- so it says nothing of which keys and reflectors are left
 pub left-flagged : (c : Counts) (h : Heap) (k : ℕ) (on : Bool) → with_heap (left_with c h) (set_preserved h k on) ≡ left_with c (set_preserved h k on)
@@ -62,13 +54,7 @@ module _ (l : Lists) (p : IsPlaced l) (key : ℕ) (c : Placed) (at : cell_at l.c
     reflector-written = e ∙ ap (λ o. set l.cells key (option_map (reflected_by to) o)) at
 
     pub counts-reflected : counts_of (record l { cells = cells }) ≡ with_reflector (counts_of l) key to
-    counts-reflected =
-        ap (λ cs. counts_of (record l { cells = cs })) reflector-written
-        ∙ counts-same _ _ _ _ _ _ _ _
-        (natives-kept l p key c (reflected_by to c) at refl refl)
-        (ap (λ n. map (marked_number n) l.marks) (keyed-changed l p key c (reflected_by to c) at refl))
-        (ap (λ (n : Counts). n.keys) (keyed-changed l p key c (reflected_by to c) at refl))
-        (map-set reflector_placed l.cells key (Some (reflected_by to c)))
+    counts-reflected = grind (arith, reflector-written, counts-same, natives-kept, keyed-changed, map-set)
 
     pub placed-reflected : IsPlaced (record l { cells = cells })
     placed-reflected =
@@ -89,6 +75,4 @@ module _ (l : Lists) (p : IsPlaced l) (key : ℕ) (c : Placed) (at : cell_at l.c
 
   -- and the last is the reflector where it is preserved
   pub reference-last : (i : ℕ) → length (slots_of (counts_of l) key) ≡ i → preserved_reflector c.preserved c.reflector ≡ get_or (references_of (counts_of l) key) i None
-  reference-last i last =
-      sym (get_or_push (slots_of (counts_of l) key) (preserved_reflector (preserved_of (counts_of l) key) (reflector_at (counts_of l) key)) None i last
-      ∙ (ap (λ on. preserved_reflector on (reflector_at (counts_of l) key)) preserved_of-cell ∙ ap (preserved_reflector c.preserved) reflector_at-cell))
+  reference-last i last = search (get_or_push, preserved_of-cell, reflector_at-cell)

@@ -1,5 +1,5 @@
 -- THE BALANCE WHERE A SLOT IS WRITTEN: the reference to what is put in goes out of hand, that to what was there comes in.
-use Rattle.std.proofs.Common.{◌≡◌, ◌<◌, ◌+◌, ℕ, List, [], ◌∷◌, ◌++◌, map, length, get_or, Option, Some, None, option_map, is_some, true, refl, sym, ◌∙◌, ap, subst, ⊎_elim, arith, count_by}
+use Rattle.std.proofs.Common.{◌≡◌, ◌<◌, ◌+◌, ℕ, List, [], ◌++◌, map, length, get_or, Option, Some, None, option_map, true, refl, sym, ◌∙◌, ap, subst, ⊎_elim, arith, count_by}
 use Rattle.std.specs.Option.{option_to_list}
 use Rattle.std.proofs.Math.ListN.{set, get_or-map}
 use Rattle.std.proofs.lemmas.Bool.Decides.{eqb_tells}
@@ -13,8 +13,7 @@ use Rattle.cc_laws_heap.specs.Sound.{numbers_of}
 use Rattle.cc_laws_heap.specs.Balance.{waiting, living, IsBalanced, count_of, has_number}
 use Rattle.cc_laws_heap.proofs.Face.{HasDistinctNumbers-change, native_at-change_other, native_at-change_same, times-numbers_of}
 use Rattle.cc_counted.specs.declared.held.Held.{Held}
-use Rattle.cc_counted.specs.declared.held.Held.TheVariants as held
-use Rattle.cc_counted.specs.Counts.{Counts, number_at, number_or_none, the_number, name_of, is_live, numbers_held, heap_of}
+use Rattle.cc_counted.specs.Counts.{Counts, the_number, name_of, is_live, numbers_held, heap_of}
 use Rattle.cc_counted.specs.Lists.{Placed, Lists, cell_at, with_slot, keyed, names_in, shown, counts_of, draining_of, IsPlaced}
 use Rattle.cc_counted.proofs.Places.{the_number-cell, native_at-cell}
 use Rattle.cc_counted.proofs.Changing.{keyed-changed}
@@ -23,13 +22,7 @@ use Rattle.cc_counted.proofs.Writing.{slot-live, counts-written}
 
 -- the numbers in a name are those that are held
 numbers-held : (c : Counts) (x : Option Held) → is_live c x ≡ true → numbers_of (name_of c x) ≡ numbers_held c x
-numbers-held c None live = refl
-numbers-held c (Some (held.Script k)) live = refl
-numbers-held c (Some (held.Native k)) live = go (number_at c k.0) live
-  where
-    go : (o : Option ℕ) → is_some (option_map native o) ≡ true → numbers_of (option_map native o) ≡ number_or_none o ∷ []
-    go None f = absurd (cc)
-    go (Some n) f = refl
+numbers-held c x live = grind arith
 
 -- how often a native is owned where what is held is
 times-held : (c : Counts) (x : Option Held) → is_live c x ≡ true → (j : ℕ) (owned : List ℕ) →
@@ -56,10 +49,7 @@ module _ (l : Lists) (p : IsPlaced l) (key : ℕ) (c : Placed) (at : cell_at l.c
   keyed-written = ap keyed e ∙ keyed-changed l p key c (with_slot i x c) at refl
 
   pub heap-written : heap_of (counts_of (record l { cells = cells })) ≡ change_native h c.number (with_native_slot i (name_of (keyed l.cells) x))
-  heap-written =
-      ap heap_of (counts-written l p key c at i x cells e)
-      ∙ (ap (λ k. change_native h k (with_native_slot i (name_of (counts_of l) x))) (the_number-cell l.cells key c at)
-      ∙ ap (λ y. change_native h c.number (with_native_slot i y)) (name_of-keyed l x))
+  heap-written = grind (arith, counts-written, the_number-cell, name_of-keyed)
 
   found : native_at h c.number ≡ Some (shown (keyed l.cells) (Some c))
   found = native_at-cell l p key c at

@@ -1,10 +1,10 @@
 -- THE NATIVE IN FRONT OF THE QUEUE TAKEN OUT at its key, before its slots are given up: nothing holds it.
-use Rattle.std.proofs.Common.{◌≡◌, ◌≢◌, ℕ, zero, suc, ◌+◌, ◌<◌, ◌≤◌, Bool, true, not, List, ◌∷◌, map, Option, Some, None, option_map, refl, sym, ◌∙◌, ap, subst, inl, inr, arith, ◌==◌}
+use Rattle.std.proofs.Common.{◌≡◌, ◌≢◌, ℕ, zero, suc, ◌+◌, ◌≤◌, Bool, true, not, List, ◌∷◌, map, Option, Some, None, option_map, refl, sym, ◌∙◌, ap, subst, inl, inr, arith, ◌==◌}
 use Rattle.std.specs.List.{filter}
 use Rattle.std.specs.Option.{option_to_list}
 use Rattle.std.proofs.lemmas.Bool.{eq-eqb, ne_eqb, true≢false}
 use Rattle.std.proofs.lemmas.List.{get_or-set_same, get_or-set_other}
-use Rattle.cc_lists.specs.Members.{Among}
+use Rattle.cc_lists.specs.Members.{Among, without}
 use Rattle.cc_lists.proofs.Members.{Among-map, Among-filter, Among-filtered, Among-passes, Among-flat_map}
 use Rattle.cc_lists.proofs.Searching.{filter-map}
 use Rattle.cc_lists.proofs.Counting.{count_by-some}
@@ -16,12 +16,12 @@ use Rattle.cc_model.specs.Cascade.{Draining, told_free, without_native}
 use Rattle.cc_model.specs.Counts.{times, refs_to}
 use Rattle.cc_model.specs.WellFormed.{IsRising}
 use Rattle.cc_laws_heap.proofs.Face.{IsRising-filter, refs_to-slot, times-cons_same, times-some}
-use Rattle.cc_laws_heap.specs.Balance.{one_above_zero, one_at_zero, waiting as waits, living, IsBalanced, count_of, has_place, places}
+use Rattle.cc_laws_heap.specs.Balance.{one_at_zero, waiting as waits, IsBalanced, count_of}
 use Rattle.cc_purple.specs.Marks.{Marked}
 use Rattle.cc_counted.specs.declared.held.Held.{Held}
 use Rattle.cc_counted.specs.declared.held.Held.TheVariants as held
 use Rattle.cc_counted.specs.Counts.{Counts, number_at, number_or_none, the_number, name_of, is_live, numbers_held}
-use Rattle.cc_counted.specs.Lists.{Placed, Lists, cell_at, keyed, shown, shown_at, numbers_in, marked_number, draining_of, IsPlaced, without, taken_out}
+use Rattle.cc_counted.specs.Lists.{Placed, Lists, cell_at, keyed, shown, shown_at, numbers_in, marked_number, draining_of, IsPlaced, taken_out}
 use Rattle.cc_counted.proofs.Places.{cell_number, number_at-cells, number_at-cell, the_number-cell, shown-number, native_at-cell}
 use Rattle.cc_lists.proofs.ListWrites.{map-agree}
 use Rattle.cc_counted.proofs.Changing.{cell-within}
@@ -68,22 +68,11 @@ module _ (owned : List ℕ) (l : Lists) (es : List Event) (p : IsPlaced l) (b : 
 
   -- it waits only once
   pub not_behind : (k : ℕ) → Among k ks → k ≢ key
-  not_behind k m e =
-      let one : 1 ≤ times c.number (map (the_number numbers) ks) =
-      times-some c.number (map (the_number numbers) ks)
-      (subst (λ j. Among j (map (the_number numbers) ks)) (ap (the_number numbers) e ∙ the_number-cell l.cells key c at) (Among-map (the_number numbers) k ks m)) in
-      let zero_count : one_at_zero c.count ≡ 1 = ap one_at_zero count-zero in
-      omega (arith, waits_once, waits_by_count)
+  not_behind k m e = grind (arith, times-some, the_number-cell, Among-map, count-zero, waits_once, waits_by_count)
 
   -- and is not in the buffer
   pub not_marked : (m : Marked) → Among m l.marks → m.key ≢ key
-  not_marked m n e =
-      let same : (marked_number numbers m).number ≡ c.number = ap (the_number numbers) e ∙ the_number-cell l.cells key c at in
-      let one : 0 < places c.number d.heap.buffer =
-      count_by-some (has_place c.number) (marked_number numbers m) d.heap.buffer (Among-map (marked_number numbers) m l.marks n)
-      (eq-eqb (the_number numbers m.key) c.number same) in
-      let none : living (native_at d.heap c.number) ≡ 0 = ap living found ∙ ap one_above_zero count-zero in
-      omega (arith, b.buffer c.number)
+  not_marked m n e = grind (arith, the_number-cell, count_by-some, Among-map, eq-eqb, found, count-zero, b.buffer)
 
   -- no slot holds it
   not_held : (k : ℕ) (a : Placed) (x : Option Held) (j : ℕ) → cell_at l.cells k ≡ Some a → Among x a.slots → x ≡ Some (held.Native (record { 0 = j })) → j ≢ key
@@ -113,9 +102,7 @@ module _ (owned : List ℕ) (l : Lists) (es : List Event) (p : IsPlaced l) (b : 
 
   -- what is found after it is taken out was there before, at another key
   cell-left : (k : ℕ) (a : Placed) → cell_at left.cells k ≡ Some a → (k ≢ key) × (cell_at l.cells k ≡ Some a)
-  cell-left k a e =
-      let o : k ≢ key = λ s. let bad : None ≡ Some a = sym (ap (cell_at left.cells) s ∙ cell-gone) ∙ e in cc in
-      (o, sym (cell-other k o) ∙ e)
+  cell-left k a e = grind (arith, cell-gone, cell-other)
 
   still_there : (k : ℕ) → k ≢ key → (a : Placed) × (cell_at l.cells k ≡ Some a) → (a : Placed) × (cell_at left.cells k ≡ Some a)
   still_there k o f = (f.0, cell-other k o ∙ f.1)
@@ -136,16 +123,16 @@ module _ (owned : List ℕ) (l : Lists) (es : List Event) (p : IsPlaced l) (b : 
   others : ℕ → Bool
   others k = not (k == key)
 
-  other-key : (k : ℕ) → Among k (without key l.order) → k ≢ key
+  other-key : (k : ℕ) → Among k (without ◌==◌ key l.order) → k ≢ key
   other-key k m e = true≢false (sym (Among-passes (λ k. not (k == key)) k l.order m) ∙ ap not (eq-eqb k key e))
 
   order-test : (k : ℕ) → Among k l.order → not (k == key) ≡ not (the_number numbers k == c.number)
   order-test k m = let f = p.in_order k m in ap not (key-test l p key c at k f.0 f.1)
 
   -- the native is taken out by its number
-  natives-left : map (shown_at left.cells) (without key l.order) ≡ filter (λ n. not (n.number == c.number)) (map (shown_at l.cells) l.order)
+  natives-left : map (shown_at left.cells) (without ◌==◌ key l.order) ≡ filter (λ n. not (n.number == c.number)) (map (shown_at l.cells) l.order)
   natives-left =
-      map-agree (shown_at left.cells) (shown_at l.cells) (without key l.order) each
+      map-agree (shown_at left.cells) (shown_at l.cells) (without ◌==◌ key l.order) each
       ∙ (ap (map (shown_at l.cells))
       (filter-agree (λ k. not (k == key)) (λ k. not ((shown_at l.cells k).number == c.number)) l.order
       (λ k m. order-test k m ∙ ap (λ j. not (j == c.number)) (sym (shown-number l.cells k))))
@@ -155,15 +142,14 @@ module _ (owned : List ℕ) (l : Lists) (es : List Event) (p : IsPlaced l) (b : 
       shown-same k a e = ap (λ ys. record { number = a.number; slots = ys; preserved = a.preserved; count = a.count })
           (names-same numbers (keyed left.cells) a.slots (λ x m. (slot-same k a x e m).0))
 
-      each : (k : ℕ) → Among k (without key l.order) → shown_at left.cells k ≡ shown_at l.cells k
+      each : (k : ℕ) → Among k (without ◌==◌ key l.order) → shown_at left.cells k ≡ shown_at l.cells k
       each k m =
           let o = other-key k m in
           let f = p.in_order k (Among-filtered (λ k. not (k == key)) k l.order m) in
           ap (shown (keyed left.cells)) (cell-other k o ∙ f.1) ∙ (shown-same k f.0 f.1 ∙ ap (shown numbers) (sym f.1))
 
   buffer-left : map (marked_number (keyed left.cells)) l.marks ≡ map (marked_number numbers) l.marks
-  buffer-left = map-agree (marked_number (keyed left.cells)) (marked_number numbers) l.marks
-      (λ m n. ap (λ j. record { number = j; purple = m.purple }) (the_number-other m.key (not_marked m n)))
+  buffer-left = search (map-agree, the_number-other, not_marked)
 
   queue-left : map (the_number (keyed left.cells)) ks ≡ map (the_number numbers) ks
   queue-left = map-agree (the_number (keyed left.cells)) (the_number numbers) ks (λ k m. the_number-other k (not_behind k m))
@@ -185,9 +171,9 @@ module _ (owned : List ℕ) (l : Lists) (es : List Event) (p : IsPlaced l) (b : 
     marked = λ m n. still_there m.key (not_marked m n) (p.marked m n);
   }
     where
-      rising : IsRising (map (the_number (keyed left.cells)) (without key l.order))
+      rising : IsRising (map (the_number (keyed left.cells)) (without ◌==◌ key l.order))
       rising = subst IsRising (sym
-          (map-agree (the_number (keyed left.cells)) (the_number numbers) (without key l.order) (λ k m. the_number-other k (other-key k m))
+          (map-agree (the_number (keyed left.cells)) (the_number numbers) (without ◌==◌ key l.order) (λ k m. the_number-other k (other-key k m))
           ∙ (ap (map (the_number numbers)) (filter-agree (λ k. not (k == key)) (λ k. not (the_number numbers k == c.number)) l.order order-test)
           ∙ sym (filter-map (λ j. not (j == c.number)) (the_number numbers) l.order))))
           (IsRising-filter (λ j. not (j == c.number)) (map (the_number numbers) l.order) p.rising)

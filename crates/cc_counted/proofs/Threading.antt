@@ -1,9 +1,10 @@
 -- THE LISTS READ BACK: where the nodes have the links of some lists, those are the lists.
-use Rattle.std.proofs.Common.{◌≡◌, ◌≢◌, ℕ, true, false, List, [], ◌∷◌, ◌++◌, map, length, Option, Some, None, option_map, is_some, get_or, refl, sym, ◌∙◌, ap, subst, ◌==◌}
+use Rattle.std.proofs.Common.{◌≡◌, ◌≢◌, ℕ, true, false, List, [], ◌∷◌, ◌++◌, map, length, Option, Some, None, option_map, is_some, get_or, refl, sym, ◌∙◌, ap, subst, ◌==◌, arith}
 use Rattle.std.proofs.Math.ListN.{set}
 use Rattle.std.proofs.lemmas.Bool.{eq-eqb, ne_eqb, true≢false}
 use Rattle.std.proofs.lemmas.List.{get_or-set_other}
 use Rattle.std.specs.Option.{option_flatten}
+use Rattle.cc_chain.proofs.Slots.{slots-below}
 use Rattle.slab.specs.Slab.{Slab}
 use Rattle.cc_lists.specs.Members.{Among, without}
 use Rattle.cc_lists.proofs.Members.{Among-map_cases}
@@ -11,7 +12,7 @@ use Rattle.cc_chain.specs.declared.link.Link.{Link}
 use Rattle.cc_chain.specs.declared.chain.Chain.{Chain}
 use Rattle.cc_chain.specs.Chains.{AllDiffer, IsChain}
 use Rattle.cc_chain.specs.Stores.{slot_at}
-use Rattle.cc_chain.proofs.Rows.{without-leaves}
+use Rattle.cc_chain.proofs.Rows.{without-leaves, link_from-absent}
 use Rattle.cc_chain.proofs.Chains.{chain-bounded, chain-live}
 use Rattle.cc_purple.specs.declared.buffer.Buffer.{Buffer}
 use Rattle.cc_purple.specs.Stores.{Marks}
@@ -27,7 +28,7 @@ use Rattle.cc_counted.specs.Lists.{Placed, cell_at}
 use Rattle.cc_counted.specs.Stored.{Stored, Inserts, with_cell, with_queue, with_marks, without_cell}
 use Rattle.cc_counted.specs.Nodes.{Threads, beside_order, beside_queue, beside_suspects, without_marks, cells_of, order_links, queue_links, suspect_links, marks_in}
 use Rattle.cc_counted.specs.Natives.{slots_in, lists_of, stored_of, IsChained}
-use Rattle.cc_counted.proofs.Nodes.{cell_at-node, part-below, cells-written, cells-gone, links-kept, marks-kept, chain-beside, buffer-beside, vacated, unlinked-absent}
+use Rattle.cc_counted.proofs.Nodes.{cell_at-node, cells-written, cells-gone, links-kept, marks-kept, chain-beside, buffer-beside, vacated}
 
 -- the marks of distinct keys
 marks-read : (marks : Marks) (ms : List Marked) → AllDiffer (keys_of ms) → ((key : ℕ) → holds_key ms key ≡ true → marks key ≡ is_purple ms key) →
@@ -61,22 +62,21 @@ stored-are n s cells o q b capacity = (
 )
   where
     order : (lists_of n).order ≡ s.lists.order
-    order = chain-bounded (order_links (slots_in n)) n.order s.lists.order (length (slots_in n)) o (part-below (λ (n : Node). n.order) (slots_in n))
+    order = chain-bounded (order_links (slots_in n)) n.order s.lists.order (length (slots_in n)) o (slots-below (λ (n : Node). n.order) (slots_in n))
 
     queue : (lists_of n).queue ≡ s.lists.queue
-    queue = chain-bounded (queue_links (slots_in n)) n.queue s.lists.queue (length (slots_in n)) q (part-below (λ (n : Node). n.queue) (slots_in n))
+    queue = chain-bounded (queue_links (slots_in n)) n.queue s.lists.queue (length (slots_in n)) q (slots-below (λ (n : Node). n.queue) (slots_in n))
 
     marks : (lists_of n).marks ≡ s.lists.marks
     marks =
         ap (map (λ key. marked_as key (marks_in (slots_in n) key)))
-        (chain-bounded (suspect_links (slots_in n)) n.buffer.keys (keys_of s.lists.marks) (length (slots_in n)) b.keys (part-below (λ (n : Node). n.suspects) (slots_in n)))
+        (chain-bounded (suspect_links (slots_in n)) n.buffer.keys (keys_of s.lists.marks) (length (slots_in n)) b.keys (slots-below (λ (n : Node). n.suspects) (slots_in n)))
         ∙ marks-read (marks_in (slots_in n)) s.lists.marks b.keys.differ b.agree
 
 -- no natives
 pub chained-none : (n : Inside) → slots_in n ≡ [] → IsChain (order_links (slots_in n)) n.order [] → IsChain (queue_links (slots_in n)) n.queue [] →
     IsBuffer (suspect_links (slots_in n)) (marks_in (slots_in n)) n.buffer [] → IsChained n
-chained-none n none o q b =
-    (stored-are n (record { lists = record { cells = []; order = []; queue = []; marks = [] }; capacity = n.nodes.slab.capacity }) (ap cells_of none) o q b refl).1
+chained-none n none o q b = grind (arith, stored-are)
 
 -- THE NATIVES n WERE THESE
 module _ (n : Inside) (i : IsChained n) (s : Stored) (was : stored_of n ≡ s) where
@@ -108,9 +108,7 @@ module _ (n : Inside) (i : IsChained n) (s : Stored) (was : stored_of n ≡ s) w
     queue-beside = subst (λ l. IsChain l n.queue (lists_of n).queue) (sym (ap (λ (t : Threads). t.queue) rest)) i.queue
 
     pub buffer-beside_order : IsBuffer (suspect_links v.slab.slots) (marks_in v.slab.slots) n.buffer (lists_of n).marks
-    buffer-beside_order =
-        subst (λ l. IsBuffer l (marks_in v.slab.slots) n.buffer (lists_of n).marks) (sym (ap (λ (t : Threads). t.suspects) rest))
-        (subst (λ m. IsBuffer (suspect_links (slots_in n)) m n.buffer (lists_of n).marks) (sym (ap (λ (t : Threads). t.marks) rest)) i.buffer)
+    buffer-beside_order = grind arith
 
   -- or the queue,
   pub stored-queue : (v : Nodes) (q : Chain Queue) (change : List ℕ → List ℕ) → beside_queue v.slab ≡ beside_queue n.nodes.slab →
@@ -214,7 +212,7 @@ module _ (n : Inside) (i : IsChained n) (s : Stored) (was : stored_of n ≡ s) (
 
   absent : {R : Type 0} (part : Node → Option Link) (c : Chain R) (keys : List ℕ) → IsChain (slot_at part v.slab.slots) c keys → ¬ (Among key keys) →
       option_flatten (slot_at part u.slots key) ≡ option_flatten (slot_at part v.slab.slots key)
-  absent part c keys d a = ap (λ o. option_flatten (option_map part o)) nothing ∙ sym (unlinked-absent (slot_at part v.slab.slots) c keys d key a)
+  absent part c keys d a = ap (λ o. option_flatten (option_map part o)) nothing ∙ sym (d.linked key ∙ link_from-absent None keys key a)
 
   not-held : (j : ℕ) → holds_key (lists_of n).marks j ≡ true → j ≢ key
   not-held j h e =

@@ -1,5 +1,5 @@
 -- A NATIVE UNLINKED: its slots emptied one after another; what is left to empty leads where all of it does.
-use Rattle.std.proofs.Common.{◌≡◌, ◌<◌, ◌≤◌, ◌+◌, ℕ, suc, List, [], ◌∷◌, ◌++◌, length, drop, drop-cons, get_or, Option, Some, None, true, false, refl, sym, ◌∙◌, ap, subst, ⊎_elim, arith, add-one}
+use Rattle.std.proofs.Common.{◌≡◌, ◌<◌, ◌≤◌, ◌+◌, ℕ, suc, List, [], ◌∷◌, ◌++◌, length, drop, drop-cons, get_or, Option, Some, None, true, false, refl, sym, ◌∙◌, ap, subst, arith, add-one}
 use Rattle.std.proofs.Math.ListN.{set}
 use Rattle.std.proofs.lemmas.List.{length-set, drop_all, drop-set-lt}
 use Rattle.std.proofs.lemmas.List.Elements.{Contains-get_or}
@@ -9,13 +9,12 @@ use Rattle.cc_names.specs.Names.{native}
 use Rattle.cc_model.specs.declared.item.Event.{Event}
 use Rattle.cc_model.specs.declared.item.Event.TheVariants.{Unlinked}
 use Rattle.cc_model.specs.Telling.{Telling, TellsEvents}
-use Rattle.cc_model.specs.Heap.{Heap, Outcome, silently, after as told_before, native_at, set_preserved}
-use Rattle.cc_model.specs.End.{empty_slot, empty_each, slots_now, without_preservation, unlink}
+use Rattle.cc_model.specs.Heap.{Heap, Outcome, silently, after as told_before, set_preserved}
+use Rattle.cc_model.specs.End.{empty_slot, empty_each, unlink}
 use Rattle.cc_model.proofs.Tellings.{TellsEvents-trans}
 use Rattle.cc_laws_heap.specs.Balance.{IsBalanced}
 use Rattle.cc_counted.specs.declared.held.Held.{Held}
-use Rattle.cc_counted.specs.declared.held.Held.TheVariants as held
-use Rattle.cc_counted.specs.Counts.{Counts, number_at, the_number, name_of, is_live, heap_of, with_heap, left_with}
+use Rattle.cc_counted.specs.Counts.{Counts, the_number, name_of, is_live, heap_of, with_heap, left_with}
 use Rattle.cc_counted.specs.Lists.{Placed, Lists, cell_at, keyed, names_in, counts_of, draining_of, IsPlaced, LeavesKeys}
 use Rattle.cc_counted.specs.Steps.{EmptiesSlot, EmptiesEach}
 use Rattle.cc_counted.proofs.Places.{the_number-cell, native_at-cell}
@@ -44,30 +43,11 @@ pub record EmptiesSoFar (start now : Lists) (key i : ℕ) (before after : Tellin
   pub told : TellsEvents before after events
 
 pub EmptiesSoFar-done : (start now : Lists) (key i : ℕ) (before after : Telling) (s : EmptiesSoFar start now key i before after) → length s.was.slots ≤ i → EmptiesEach start now key before after
-EmptiesSoFar-done start now key i before after s past = record {
-  was = s.was;
-  was_there = s.was_there;
-  cell = s.cell;
-  there = s.there;
-  number = s.number;
-  placed = s.placed;
-  leaves = s.leaves;
-  balanced = s.keeps;
-  events = s.events;
-  outcome = sym s.rest ∙ ap (λ xs. empty_each s.was.number i (names_in (keyed start.cells) xs) (record { heap = heap_of (counts_of now); events = s.events })) (drop_all i s.was.slots past);
-  told = s.told;
-}
+EmptiesSoFar-done start now key i before after s past = grind (arith, drop_all)
 
 -- what was held where natives left, and is still there, has the same name
 name-kept : (a b : List (Option Placed)) → LeavesKeys a b → (x : Option Held) → is_live (keyed b) x ≡ true → name_of (keyed b) x ≡ name_of (keyed a) x
-name-kept a b left x live = (held-same (keyed a) (keyed b) x each).0
-  where
-    each : (k : ℕ) → x ≡ Some (held.Native (record { 0 = k })) → number_at (keyed b) k ≡ number_at (keyed a) k
-    each k e =
-        let d = live-cell b k (subst (λ y. is_live (keyed b) y ≡ true) e live) in
-        ⊎_elim
-        (λ none. let bad : None ≡ Some d.0.number = sym none ∙ number_at-cell b k d.0 d.1 in absurd (cc))
-        (λ same. same) (left.each k)
+name-kept a b left x live = grind (arith, held-same, live-cell, number_at-cell, left.each)
 
 -- lists that begin alike have the same rest
 same-tail : (x y : Option Held) (xs ys : List (Option Held)) → x ∷ xs ≡ y ∷ ys → (x ≡ y) × (xs ≡ ys)
@@ -92,8 +72,7 @@ module _ (start now next : Lists) (key i : ℕ) (before middle after : Telling) 
   dropped xs l = rw (drop-cons xs i None, add-one) refl
 
   parts : (get_or s.cell.slots i None ≡ content) × (drop (i + 1) s.cell.slots ≡ drop (i + 1) s.was.slots)
-  parts = same-tail (get_or s.cell.slots i None) content (drop (i + 1) s.cell.slots) (drop (i + 1) s.was.slots)
-      (sym (dropped s.cell.slots (omega (arith, s.long))) ∙ (s.later ∙ dropped s.was.slots within))
+  parts = grind (arith, same-tail, dropped)
 
   live-content : is_live (keyed now.cells) content ≡ true
   live-content =
@@ -145,12 +124,7 @@ module _ (start now next : Lists) (key i : ℕ) (before middle after : Telling) 
 unlinked : (old mid : Lists) (key : ℕ) (before after : Telling) → IsPlaced old → (e : EmptiesEach old mid key before after) →
     unlink (heap_of (counts_of old)) e.was.number ≡ record { heap = set_preserved (heap_of (counts_of mid)) e.was.number false; events = Unlinked (native e.was.number) ∷ e.events }
 unfolding unlink
-unlinked old mid key before after p e =
-    let h : Heap = heap_of (counts_of old) in
-    let k : ℕ = e.was.number in
-    let slots : slots_now (native_at h k) ≡ names_in (keyed old.cells) e.was.slots = ap slots_now (native_at-cell old p key e.was e.was_there) in
-    ap (λ xs. told_before (Unlinked (native k) ∷ []) (without_preservation k (empty_each k 0 xs (silently h)))) slots
-    ∙ ap (λ o. told_before (Unlinked (native k) ∷ []) (without_preservation k o)) e.outcome
+unlinked old mid key before after p e = grind (arith, native_at-cell)
 
 module _ (old mid : Lists) (key : ℕ) (before after : Telling) (p : IsPlaced old) (e : EmptiesEach old mid key before after) where
   -- so it is by the number at its key

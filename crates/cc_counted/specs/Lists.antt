@@ -1,6 +1,6 @@
 -- THE PARTS OF A COUNTED HEAP AS LISTS, by keys, and what they show by numbers.
-use Rattle.std.specs.Prelude.{◌≡◌, ◌⊎◌, ℕ, ◌+◌, ◌-◌, ◌≤◌, ◌==◌, Bool, true, false, not, List, [], ◌++◌, length, filter, ◌∷◌, map, flat_map, Option, Some, None, option_map, option_and_then, slice_index_or, slice_set}
-use Rattle.cc_lists.specs.Members.{Among}
+use Rattle.std.specs.Prelude.{◌≡◌, ◌⊎◌, ℕ, ◌+◌, ◌-◌, ◌≤◌, ◌==◌, Bool, true, false, List, [], ◌++◌, length, ◌∷◌, map, flat_map, Option, Some, None, option_map, option_and_then, slice_index_or, slice_set}
+use Rattle.cc_lists.specs.Members.{Among, without}
 use Rattle.cc_names.specs.Sizes.{most_slots}
 use Rattle.cc_model.specs.declared.item.Event.{Event}
 use Rattle.cc_model.specs.Slots.{Slots}
@@ -121,13 +121,9 @@ suspected l key c = record l { cells = slice_set l.cells key (Some (with_one_les
 abbrev pub waiting : Lists → ℕ → Placed → Lists
 waiting l key c = record l { cells = slice_set l.cells key (Some (with_one_less c)); queue = l.queue ++ key ∷ []; marks = without_key key l.marks }
 
--- the keys but for one
-abbrev pub without : ℕ → List ℕ → List ℕ
-without key keys = filter (λ k. not (k == key)) keys
-
 -- the native at a key, which waited in front of the keys ks, taken out
 abbrev pub taken_out : Lists → ℕ → List ℕ → Lists
-taken_out l key ks = record l { cells = slice_set l.cells key None; order = without key l.order; queue = ks }
+taken_out l key ks = record l { cells = slice_set l.cells key None; order = without ◌==◌ key l.order; queue = ks }
 
 -- a native without its count
 abbrev pub without_count : Placed → Placed

@@ -1,7 +1,8 @@
 -- THE NATIVES AS THEY STAND IN MEMORY: their lists, and how many have room at their keys.
-use Rattle.std.specs.Prelude.{◌≡◌, ◌≢◌, ℕ, List, [], ◌∷◌, ◌++◌, Some, None, option_map, slice_set}
+use Rattle.std.specs.Prelude.{◌≡◌, ◌≢◌, ℕ, ◌==◌, List, [], ◌∷◌, ◌++◌, Some, None, option_map, slice_set}
+use Rattle.cc_lists.specs.Members.{without}
 use Rattle.cc_purple.specs.Marks.{Marked}
-use Rattle.cc_counted.specs.Lists.{Placed, Lists, cell_at, without}
+use Rattle.cc_counted.specs.Lists.{Placed, Lists, cell_at}
 
 pub record Stored : Type 0 where
   pub lists : Lists
@@ -25,7 +26,7 @@ with_marks change s = record s { lists = record s.lists { marks = change s.lists
 
 -- the native at a key leaves it and the order
 abbrev pub without_cell : ℕ → Stored → Stored
-without_cell key s = record s { lists = record s.lists { cells = slice_set s.lists.cells key None; order = without key s.lists.order } }
+without_cell key s = record s { lists = record s.lists { cells = slice_set s.lists.cells key None; order = without ◌==◌ key s.lists.order } }
 
 -- a native came to stand at a key that held nothing, and last in the order
 pub record Inserts (old new : Lists) (key : ℕ) (cell : Placed) : Type 0 where

@@ -27,6 +27,7 @@ use std::alloc::Global;
 impl Population {
     /// Gives up one reference to the native at a key: it is suspected where its count stays above zero; where that falls
     /// to zero it leaves the buffer and waits.
+    #[inline(always)]
     fn give_up(&mut self, key: NKey)
         requires placed { IsPlaced self.old.lists }
         requires balanced { (owned : List ℕ) × (c : Placed) × (cell_at self.old.lists.cells key.0 ≡ Some c) × IsBalanced (c.number ∷ owned) (draining_of self.old.lists []) }

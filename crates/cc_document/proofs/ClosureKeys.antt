@@ -19,6 +19,7 @@ use Rattle.cc_laws_heap.proofs.Face.{found-among}
 use Rattle.cc_counted.specs.Counts.{reflector_at}
 use Rattle.cc_script.specs.Objects.{Object, is_there, name_at}
 use Rattle.cc_script.specs.Objects as objects
+use Rattle.cc_script.proofs.PlacesOf.{slot-place}
 use Rattle.cc_heaps.specs.Keyed.{Keyed, IsInOrder, Reflects, counts_of, named_object, name_held, number_at, the_number, reflector_key}
 use Rattle.cc_heaps.specs.Changes.{native_name}
 use Rattle.cc_heaps.proofs.ContentNames.{object-there, key-of_name}
@@ -56,7 +57,7 @@ module _ (v : Keyed) (order : IsInOrder [] v) where
   slot-there key q there e =
       let o = object-at v.scripts key there in
       order.whole o.0 q (find-among (λ (p : Object). p.key == key) v.scripts o.0 o.1)
-      (among-get o.0.slots 0 q (sym (ap (λ (f : Option Object). get_or (objects.slots_or_none f) 0 None) o.1) ∙ e))
+      (slot-place o.0 q (among-get o.0.slots 0 q (sym (ap (λ (f : Option Object). get_or (objects.slots_or_none f) 0 None) o.1) ∙ e)))
 
   -- Data
 

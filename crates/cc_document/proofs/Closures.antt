@@ -205,7 +205,7 @@ module _ (g k : Graph) (w : IsWellMade g) (v : IsWellMade k) (d : IsDocument k) 
       let value : register h (S 1) ≡ x = t.others 1 (λ e. cc) ∙ c.closure in
       let p = preserve h (Some (reflector a)) in
       let q = preserve-alike h (Some (reflector a)) in
-      let l : Graph = record p { entries = with_entry h.entries (object m) (reflector a) (object (length g.scripts + 1)) } in
+      let l : Graph = record p { entries = with_entry h.entries (object m) (reflector a) None (object (length g.scripts + 1)) } in
       let is : entering h ≡ l = ap (λ y. set_entry h y (register h (S 2)) (register h (S 1))) the_map
       ∙ (ap (λ y. set_entry h (Some (object m)) y (register h (S 1))) key ∙ ap (set_entry h (Some (object m)) (Some (reflector a))) value) in
       let es : h.entries ≡ g.entries = t.entries ∙ c.alike.entries in
@@ -219,10 +219,10 @@ module _ (g k : Graph) (w : IsWellMade g) (v : IsWellMade k) (d : IsDocument k) 
       λ e. ap (λ r. value_at (objects_of g) r (Some (reflector e))) dg.map_held in
       subst (λ j. HasData (objects_of g) (objects_of (without 1 (without 2 j))) a b) (sym is) (record {
         now = ap (λ r. spoken_of (objects_of n) (value_at (objects_of n) r (Some (reflector a)))) map-now
-            ∙ (ap (spoken_of (objects_of n)) (value-own h.entries (object m) (reflector a) (object (length g.scripts + 1)))
+            ∙ (ap (spoken_of (objects_of n)) (value-own h.entries (object m) (reflector a) None (object (length g.scripts + 1)))
             ∙ (spoken-now x ∙ c.spoken));
         others = λ e ne. ap (λ r. spoken_of (objects_of n) (value_at (objects_of n) r (Some (reflector e)))) map-now
-            ∙ (ap (spoken_of (objects_of n)) (value-other h.entries (object m) (reflector a) (object (length g.scripts + 1)) (object m) (reflector e) (λ s. let both : Some a ≡ Some e = ap (λ y. element_of (native_of (Some y))) s in let same : e ≡ a = cc in ne same)
+            ∙ (ap (spoken_of (objects_of n)) (value-other h.entries (object m) (reflector a) None (object (length g.scripts + 1)) (object m) (reflector e) (λ s. let both : Some a ≡ Some e = ap (λ y. element_of (native_of (Some y))) s in let same : e ≡ a = cc in ne same)
             ∙ (ap (λ (y : List Entry). value_in y (object m) (reflector e)) es ∙ sym (before e)))
             ∙ (spoken-now (value_at (objects_of g) (register g (S 0)) (Some (reflector e)))
             ∙ c.alike.spoken (value_at (objects_of g) (register g (S 0)) (Some (reflector e))) (value-not_next g w (register g (S 0)) (reflector e))));

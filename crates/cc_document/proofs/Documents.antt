@@ -11,7 +11,7 @@ use Rattle.cc_model.specs.declared.item.Refusal.{Refusal}
 use Rattle.cc_model.specs.Slots.{empty_slots}
 use Rattle.cc_model.specs.Entries.{Entry, with_entry, without_entry}
 use Rattle.cc_model.specs.Checks.{refusal_of}
-use Rattle.cc_model.specs.Graph.{Graph, GraphNative, GraphScript, plain_object, native_in, script_in, objects_of, set_register, set_native, set_script, set_slot, with_slot, with_reflector_slot, with_script_slot, with_native, with_script, wrapped, preserve, set_entry, changed, unless_refused}
+use Rattle.cc_model.specs.Graph.{Graph, GraphNative, GraphScript, delegate_in, plain_object, native_in, script_in, objects_of, set_register, set_native, set_script, set_slot, with_slot, with_reflector_slot, with_script_slot, with_native, with_script, wrapped, preserve, set_entry, changed, unless_refused}
 use Rattle.cc_laws_heap.proofs.Face.{change_numbered, numbered-change, numbered-change_other, numbered-push_cases, numbered-push_old, set_native-is, set_script-is}
 use Rattle.cc_document.specs.Words.{element_slots}
 use Rattle.cc_document.specs.Shown.{IsDocument, made_in, without, making_closure}
@@ -80,4 +80,4 @@ module _ (g : Graph) (d : IsDocument g) where
   set_entry-document None k v = d
   set_entry-document (Some m) None v = d
   set_entry-document (Some m) (Some k) None = entries-document g (without_entry g.entries m k) d
-  set_entry-document (Some m) (Some k) (Some v) = entries-document (preserve g (Some k)) (with_entry g.entries m k v) (preserve-document g d (Some k))
+  set_entry-document (Some m) (Some k) (Some v) = entries-document (preserve g (Some k)) (with_entry g.entries m k (delegate_in g k) v) (preserve-document g d (Some k))

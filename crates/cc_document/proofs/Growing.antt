@@ -78,10 +78,10 @@ emptied-none_came h k r is y there = subst (λ z. Among y (names_there z)) is th
 names-push : (h : Heap) (o : HeapScript) (x : Name) → Among x (script_names h) → Among x (map (λ (p : HeapScript). p.name) (h.scripts ++ o ∷ []))
 names-push h o x i = subst (Among x) (sym (map-append (λ (p : HeapScript). p.name) h.scripts (o ∷ []))) (Among-left x (script_names h) (o.name ∷ []) i)
 
-pub grows-plain : (h : Heap) (r n : ℕ) → Grows 1 h (make_object h r Plain n)
+pub grows-plain : (h : Heap) (r n : ℕ) → Grows 1 h (make_object h r Plain n None)
 grows-plain h r n = record {
   natives = refl;
-  scripts = names-push h (record { name = object (h.scripts_made + 1); kind = Plain; slots = empty_slots n; colour = Black });
+  scripts = names-push h (record { name = object (h.scripts_made + 1); kind = Plain; slots = empty_slots n; delegate = None; colour = Black });
   made = record { natives_made = omega arith; scripts_made = refl; limits = refl };
 }
 
@@ -90,12 +90,12 @@ pub grows-wrapped : (h : Heap) (k : ℕ) → Grows 0 h (wrapped h (Some (native 
 grows-wrapped h k = go (has_reflector h k)
   where
     one : HeapScript
-    one = record { name = reflector k; kind = Reflector; slots = empty_slots reflector_slots; colour = Black }
+    one = record { name = reflector k; kind = Reflector; slots = empty_slots reflector_slots; delegate = None; colour = Black }
 
     go : (b : Bool) → Grows 0 h (elim b as (λ _. Heap) [ true ↦ exposed h (Some (reflector k)) | false ↦ with_reflector h k ])
     go true = grows-exposed h (Some (reflector k))
     go false = record {
-      natives = native_names-change (with_script h (reflector k) Reflector reflector_slots) k (λ n. record n { count = n.count + 1 }) (λ n. refl);
+      natives = native_names-change (with_script h (reflector k) Reflector reflector_slots None) k (λ n. record n { count = n.count + 1 }) (λ n. refl);
       scripts = names-push h one;
       made = record { natives_made = omega arith; scripts_made = omega arith; limits = refl };
     }

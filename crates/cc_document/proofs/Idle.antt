@@ -1,5 +1,5 @@
 -- SCRIPT REGISTERS AFTER EACH CALL hold what they held, or nothing; so no closure stays in one.
-use Rattle.std.proofs.Common.{◌≡◌, ◌≢◌, ℕ, zero, suc, ◌⊎◌, List, [], ◌∷◌, length, set, get_or, Option, Some, None, refl, ◌∙◌, inl, inr, ⊎_elim, arith}
+use Rattle.std.proofs.Common.{◌≡◌, ◌≢◌, ℕ, zero, suc, ◌⊎◌, List, [], ◌∷◌, length, set, get_or, Option, Some, None, refl, sym, ◌∙◌, inl, inr, ⊎_elim, arith}
 use Rattle.std.proofs.lemmas.Bool.Decides.{eqb_tells}
 use Rattle.std.proofs.lemmas.List.{length-set, get_or-set_other}
 use Rattle.cc_names.specs.declared.name.Name.{Name}

@@ -13,7 +13,4 @@ stopped-by P r d i p e is = grind (arith, err_from_is_err_and)
 
 -- the same error is answered
 pub stopped-alike : {T E : Type 0} (P : E → Type 0) (r : Result T E) (d : E) → r ≡ Err d → P d → (e : E) → r ≡ Err e → P e
-stopped-alike P r d at p e is =
-    let both : Err d ≡ Err e = sym at ∙ is in
-    let same : d ≡ e = cc in
-    subst P same p
+stopped-alike P r d at p e is = grind arith

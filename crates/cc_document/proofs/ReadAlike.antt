@@ -1,9 +1,8 @@
 -- THE HEAPS READ AS THE GRAPH DOES, of what a variable holds: its listener and its data too.
-use Rattle.std.proofs.Common.{◌≡◌, ℕ, Bool, true, false, List, [], ◌∷◌, Option, Some, None, is_some, IsTrue, refl, sym, ◌∙◌, ap, subst, inl, arith}
+use Rattle.std.proofs.Common.{◌≡◌, ℕ, Bool, true, false, List, get_or, Option, Some, None, is_some, IsTrue, option_map, refl, sym, ◌∙◌, ap, subst}
 use Rattle.std.specs.Option.{option_and_then}
 use Rattle.std.proofs.lemmas.Bool.{and_parts, false≢true}
 use Rattle.cc_lists.specs.Members.{Among}
-use Rattle.cc_lists.proofs.Members.{Among-right}
 use Rattle.cc_names.specs.declared.name.Name.{Name}
 use Rattle.cc_names.specs.declared.name.Name.TheVariants as name
 use Rattle.cc_names.specs.declared.register.Reg.TheVariants.{N, S}
@@ -64,7 +63,7 @@ module _ (v : Keyed) (c : Option Built) (g : Graph) (s : Shows (parts v c) g) wh
           }
 
       unwrapped : (o : Option Slots) → n.reflector ≡ o → n.preserved ≡ false → IsNoKey g (reflector k)
-      unwrapped (Some slots) r p = (s.stands.blank k n slots is p r).1
+      unwrapped (Some slots) r p = (s.stands.blank k n slots is p r).1.0
       unwrapped None r p = λ e i t.
           let made = (and_parts (is_script e.key) (was_made g e.key) (s.well.entries e i).key).1 in
           let now : IsTrue (was_made g (reflector k)) = subst (λ x. IsTrue (was_made g x)) t made in

@@ -1,17 +1,18 @@
 -- WHAT IS REACHED STAYS AS IT WAS, where heaps hold nothing more and what is reached keeps what it holds.
 use Rattle.std.proofs.Common.{◌≡◌, List, [], ◌++◌, Some, refl, sym, ◌∙◌, ap, subst, ⊎_elim}
 use Rattle.cc_lists.specs.Members.{Among}
-use Rattle.cc_lists.proofs.Members.{Among-map, Among-map_cases, Among-left, Among-right, Among-append}
-use Rattle.cc_lists.proofs.Least.{derive-root, derive-along, derive-jointly, derived-within}
+use Rattle.cc_lists.proofs.Members.{Among-left, Among-right, Among-append}
+use Rattle.cc_lists.proofs.Least.{derive-root, derive-along}
 use Rattle.cc_names.specs.declared.name.Name.{Name}
 use Rattle.cc_names.specs.Names.{native}
 use Rattle.cc_model.specs.declared.item.Event.{Event}
 use Rattle.cc_model.specs.declared.item.Event.TheVariants.{Unlinked, Freed}
-use Rattle.cc_model.specs.Entries.{Entry, joint, joints}
+use Rattle.cc_model.specs.Entries.{Entry, joints, rules_of}
 use Rattle.cc_model.specs.Heap.{Heap, HeapNative, HeapScript}
 use Rattle.cc_model.specs.View.{view, ReachedIn}
 use Rattle.cc_model.specs.WellFormed.{IsWellFormed, names_there}
 use Rattle.cc_model.specs.StandsFor.{Shape, native_shape, shape_at, shape_of_held_script}
+use Rattle.cc_model.proofs.Joints.{derive-joint, derived-by_joints, gives-joint, joint-cases}
 use Rattle.cc_laws_heap.specs.Freeing.{Uncounted}
 use Rattle.cc_laws_heap.proofs.Face.{IsOf, shape_at-native, shape_at-script}
 use Rattle.cc_laws_snapshot.proofs.Face.{reached-there}
@@ -27,13 +28,12 @@ pub record HoldsNoMore (h k : Heap) : Type 0 where
 
 -- what they reach the first reach
 pub no_more-reached : (h k : Heap) → HoldsNoMore h k → (x : Name) → ReachedIn (view k) x → ReachedIn (view h) x
-no_more-reached h k t = derived-within (view k).registers (view k).edges (joints k.entries) (ReachedIn (view h))
-    (λ x m. derive-root (view h).registers (view h).edges (joints h.entries) x (t.registers x m))
-    (λ x y e d. derive-along (view h).registers (view h).edges (joints h.entries) x y (t.edges x y e) d)
-    (λ ps y e d.
-    let f = Among-map_cases joint k.entries (ps, y) e in
-    derive-jointly (view h).registers (view h).edges (joints h.entries) ps y
-    (subst (λ p. Among p (joints h.entries)) f.2 (Among-map joint f.0 h.entries (t.entries f.0 f.1))) d)
+no_more-reached h k t = derived-by_joints (view k).registers (view k).edges (joints k.entries) (ReachedIn (view h))
+    (λ x m. derive-root (view h).registers (view h).edges (rules_of (joints h.entries)) x (t.registers x m))
+    (λ x y e d. derive-along (view h).registers (view h).edges (rules_of (joints h.entries)) x y (t.edges x y e) d)
+    (λ j m a b.
+    let f = joint-cases k.entries j m in
+    derive-joint (view h).registers (view h).edges (joints h.entries) j (gives-joint h.entries f.0 j (t.entries f.0 f.1) f.2) a b)
 
 -- Shapes
 

@@ -59,11 +59,11 @@ impl Numbers {
         ensures err { OnErr result ((x : Name) → number_at self.new x ≡ number_at self.old x) }
         ensures absent { OnErr result (number_at self.old name ≡ None) }
     {
-        if let Some(found) = self.get(&name) {
-            return Ok(found);
+        match name {
+            Name::Native(k) => self.natives.get_or_insert(k.0, number),
+            Name::Script(k) => self.scripts.get_or_insert(k.0, number),
+            Name::Reflector(k) => self.reflectors.get_or_insert(k.0, number),
         }
-        self.add(name, number)?;
-        Ok(number)
     }
 
     /// A name has no number from now on.
@@ -88,18 +88,6 @@ impl Numbers {
         match next {
             Some((number, node)) => Some((NativeNo(number), node)),
             None => None,
-        }
-    }
-
-    /// A name has this number from now on. `NoMemory` leaves all numbers as they were.
-    fn add(&mut self, name: Name, number: u32) -> Result<(), NoMemory>
-        ensures added { OnOk result ((x : Name) → number_at self.new x ≡ (if same_name name x then Some number else number_at self.old x)) }
-        ensures err { OnErr result ((x : Name) → number_at self.new x ≡ number_at self.old x) }
-    {
-        match name {
-            Name::Native(k) => self.natives.insert(k.0, number),
-            Name::Script(k) => self.scripts.insert(k.0, number),
-            Name::Reflector(k) => self.reflectors.insert(k.0, number),
         }
     }
 }

@@ -7,10 +7,9 @@ use Rattle.std.specs.Option.{is_some, option_to_list}
 use Rattle.cc_lists.specs.Members.{Among}
 use Rattle.cc_lists.proofs.Members.{Among-left, Among-right, Among-map}
 use Rattle.cc_names.specs.declared.name.Name.{Name}
-use Rattle.cc_names.specs.declared.name.Name.TheVariants as name
 use Rattle.cc_names.specs.declared.number.NKey.{NKey}
 use Rattle.cc_names.specs.declared.number.SKey.{SKey}
-use Rattle.cc_names.specs.Names.{native, is_native, object}
+use Rattle.cc_names.specs.Names.{native, is_native}
 use Rattle.cc_model.specs.Heap.{Heap, silently}
 use Rattle.cc_model.specs.Cascade.{take_up, let_go}
 use Rattle.cc_model.specs.WellFormed.{native_names, script_names, names_there, FitsName}

@@ -4,9 +4,7 @@ use Rattle.cc_heaps.proofs.ObjectsKept.{named-there}
 use Rattle.cc_heaps.proofs.Keys.{named-object}
 use Rattle.cc_lists.proofs.Held.{is_some-map}
 use Rattle.cc_laws_heap.proofs.Face.{IsIn, IsIn-no_native, option_map-found}
-use Rattle.std.proofs.Common.{arith, ◌≡◌, ℕ, ◌==◌, List, Option, Some, None, is_some, option_map, option_and_then, IsTrue, refl, sym, ◌∙◌, ap, subst, inl}
-use Rattle.std.specs.List.{find}
-use Rattle.std.proofs.lemmas.Bool.{false≢true}
+use Rattle.std.proofs.Common.{arith, ◌≡◌, ℕ, ◌==◌, List, Option, Some, None, option_map, option_and_then, IsTrue, refl, sym, ◌∙◌, ap, subst, inl}
 use Rattle.cc_lists.specs.Members.{Among}
 use Rattle.cc_lists.proofs.Members.{Among-map}
 use Rattle.cc_lists.proofs.Filtering.{find-among, find-passes}

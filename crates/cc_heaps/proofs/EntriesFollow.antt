@@ -11,7 +11,7 @@ use Rattle.cc_lists.proofs.Members.{Among-filtered}
 use Rattle.cc_lists.proofs.Filtering.{count_by-filter-le}
 use Rattle.cc_names.specs.declared.name.Name.{Name}
 use Rattle.cc_names.specs.declared.name.Name.TheVariants as name
-use Rattle.cc_names.specs.declared.kind.Kind.TheVariants.{Reflector, Map}
+use Rattle.cc_names.specs.declared.kind.Kind.TheVariants.{Map}
 use Rattle.cc_names.specs.Names.{object, is_script}
 use Rattle.cc_model.specs.Entries.{Entry, entry, is_entry_of, with_entry, without_entry}
 use Rattle.cc_model.specs.Graph as graph
@@ -23,7 +23,7 @@ use Rattle.cc_model.proofs.Joints.{joint-cases, gives-joint}
 use Rattle.std.proofs.lemmas.Bool.{and_parts}
 use Rattle.cc_model.specs.Effects.{set_entry}
 use Rattle.cc_model.specs.WellFormed.{HasMembers, script_names}
-use Rattle.cc_model.specs.StandsFor.{StandsFor, kind_in, kind_of, reflector_kind}
+use Rattle.cc_model.specs.StandsFor.{StandsFor, kind_in}
 use Rattle.cc_laws_heap.specs.Sound.{IsSound}
 use Rattle.cc_laws_snapshot.proofs.Face.{AreGentle, entry_written-suspected, fresh-coloured, not_gray-held, set_entry-gentle}
 use Rattle.cc_script.specs.Objects.{is_there, kind_at, name_at}

@@ -3,9 +3,9 @@
 use Rattle.cc_lists.proofs.Held.{through-test, of-test, of-one}
 use Rattle.std.proofs.Common.{arith, ◌≡◌, ◌↔◌, ℕ, ◌==◌, true, false, not, ◌&&◌, List, [], ◌∷◌, Option, Some, None, option_map, refl, sym, ◌∙◌, ap, subst, inl, inr, ⊎_elim}
 use Rattle.std.specs.Prelude.{IsTrue}
-use Rattle.std.specs.Option.{is_none, is_some, option_and_then}
+use Rattle.std.specs.Option.{is_some, option_and_then}
 use Rattle.std.specs.List.{find}
-use Rattle.std.proofs.lemmas.Bool.{eqb-true, eq-eqb, false≢true}
+use Rattle.std.proofs.lemmas.Bool.{eqb-true, eq-eqb}
 use Rattle.cc_lists.specs.Members.{Among}
 use Rattle.cc_lists.proofs.Filtering.{filter-agree}
 use Rattle.cc_lists.proofs.Members.{Among-filtered, Among-map}
@@ -13,15 +13,13 @@ use Rattle.cc_lists.proofs.Searching.{filter-map, find-map, find-only}
 use Rattle.cc_names.specs.declared.name.Name.{Name}
 use Rattle.cc_names.specs.declared.name.Name.TheVariants as name
 use Rattle.cc_names.specs.declared.number.SKey.{SKey}
-use Rattle.cc_names.specs.declared.kind.Kind.{Kind}
-use Rattle.cc_names.specs.declared.kind.Kind.TheVariants.{Plain, Reflector, Map, Proxy}
+use Rattle.cc_names.specs.declared.kind.Kind.TheVariants.{Map}
 use Rattle.cc_names.specs.Names.{same_name}
 use Rattle.cc_names.proofs.NameTests.{same_name-true, same_name-refl}
 use Rattle.cc_model.specs.Entries as model
 use Rattle.cc_model.specs.Entries.{Entry}
-use Rattle.cc_model.specs.Slots.{Slots}
 use Rattle.cc_model.specs.Checks.{is_map_in, value_at}
-use Rattle.cc_model.specs.Heap.{HeapScript, objects_of, script_at, slots_in, slots_of_kind, slots_of_script}
+use Rattle.cc_model.specs.Heap.{HeapScript, objects_of, script_at, slots_in, slots_of_script}
 use Rattle.cc_model.specs.WellFormed.{script_names}
 use Rattle.cc_laws_heap.proofs.Face.{is_some-found, native-no_script}
 use Rattle.cc_script.specs.Objects.{Object, is_there, kind_at, name_at, object_at}

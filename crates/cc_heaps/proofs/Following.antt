@@ -3,9 +3,9 @@
 use Rattle.cc_heaps.proofs.ObjectsKept.{there-named}
 use Rattle.cc_lists.proofs.Held.{held-is, of-one}
 use Rattle.cc_heaps.proofs.Keys.{name-in, script_name-in}
-use Rattle.std.proofs.Common.{◌≡◌, ℕ, ◌+◌, ◌<◌, ◌≤◌, ◌==◌, true, List, ◌++◌, length, get_or, Option, Some, None, option_map, refl, sym, ◌∙◌, ap, subst, inl, inr, ⊎_elim, arith}
+use Rattle.std.proofs.Common.{◌≡◌, ℕ, ◌+◌, ◌<◌, ◌≤◌, true, List, ◌++◌, length, get_or, Option, Some, None, option_map, refl, sym, ◌∙◌, ap, subst, inl, inr, ⊎_elim, arith}
 use Rattle.std.specs.Prelude.{IsTrue, IfSome}
-use Rattle.std.specs.Option.{option_and_then, option_to_list}
+use Rattle.std.specs.Option.{option_to_list}
 use Rattle.std.proofs.lemmas.Bool.{lt-ltb, le-leb, lt-leb}
 use Rattle.std.proofs.lemmas.List.{length-map}
 use Rattle.cc_lists.specs.Members.{Among}
@@ -38,9 +38,8 @@ use Rattle.cc_laws_snapshot.proofs.Face.{AreGentle, AreGentle-then, AreTaken, Is
 use Rattle.cc_counted.specs.Counts.{slots_of}
 use Rattle.cc_counted.specs.Counts as counts
 use Rattle.cc_counted.specs.declared.held.Held.{Held}
-use Rattle.cc_counted.specs.declared.held.Held.TheVariants as held
 use Rattle.cc_script.specs.Objects.{Object, colour_at, is_there, name_at, object_at}
-use Rattle.cc_heaps.specs.Keyed.{Keyed, keyed_name, keyed_native, IsInOrder, counts_of, left_with, named_object, the_number}
+use Rattle.cc_heaps.specs.Keyed.{Keyed, IsInOrder, counts_of, left_with, named_object, the_number}
 use Rattle.cc_heaps.specs.Making.{MayBeMade, delegate_name, kind_to_make, slots_to_make}
 use Rattle.cc_heaps.specs.declared.heaps.to_make.ToMake.{ToMake}
 use Rattle.cc_heaps.specs.declared.heaps.to_make.ToMake.TheVariants.{Plain, Map, Proxy}

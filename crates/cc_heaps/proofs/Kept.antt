@@ -1,5 +1,5 @@
 -- WHAT A CHANGE KEEPS, put together: where nothing changed, and of fewer words from more.
-use Rattle.std.proofs.Common.{◌≡◌, ℕ, ◌+◌, List, [], ◌∷◌, Option, Some, None, get_or, refl, sym, ◌∙◌, ap, subst, inl, arith}
+use Rattle.std.proofs.Common.{◌≡◌, ℕ, ◌+◌, List, [], ◌∷◌, None, get_or, refl, sym, ◌∙◌, ap, subst, inl, arith}
 use Rattle.cc_lists.proofs.Members.{Among-map_cases}
 use Rattle.cc_names.specs.Names.{native, natives_in}
 use Rattle.cc_model.specs.Heap.{Heap, HeapNative}

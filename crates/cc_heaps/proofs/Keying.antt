@@ -2,17 +2,16 @@
 -- their names and gave them back for their keys.
 use Rattle.cc_heaps.proofs.Reaching.{object_at-found}
 use Rattle.cc_laws_heap.proofs.Face.{is_some-found}
-use Rattle.std.proofs.Common.{arith, ◌≡◌, ℕ, ◌≤◌, List, [], ◌∷◌, map, count_by, Option, Some, None, IsTrue, option_map, refl, sym, ◌∙◌, ap, inl, inr}
+use Rattle.std.proofs.Common.{arith, ◌≡◌, ℕ, ◌≤◌, List, [], ◌∷◌, map, count_by, Option, Some, None, IsTrue, option_map, refl, sym, ap, inl, inr}
 use Rattle.std.specs.Option.{option_and_then}
 use Rattle.cc_lists.specs.Members.{Among}
 use Rattle.cc_lists.proofs.Searching.{find-only}
 use Rattle.cc_names.specs.declared.name.Name.{Name}
-use Rattle.cc_names.specs.declared.name.Name.TheVariants as name
 use Rattle.cc_names.proofs.NameTests.{same_name-refl}
 use Rattle.cc_names.specs.Names.{object, same_name}
 use Rattle.cc_model.specs.Slots.{Slots, contents}
 use Rattle.cc_model.specs.Heap.{HeapNative}
-use Rattle.cc_script.specs.Objects.{Object, object_at, is_there, name_at}
+use Rattle.cc_script.specs.Objects.{Object, is_there, name_at}
 use Rattle.cc_heaps.specs.Keyed.{keyed_name, keyed_native, key_of, counts_of}
 use Rattle.cc_heaps.specs.Named.{IsHeldThere, named_native}
 use Rattle.cc_heaps.specs.Fields.{IsLinked, keyed_of}

@@ -18,7 +18,7 @@ use Rattle.cc_names.specs.declared.name.Name.{Name}
 use Rattle.cc_names.specs.declared.name.Name.TheVariants as name
 use Rattle.cc_names.specs.Names.{native, reflector, same_name, object}
 use Rattle.cc_names.proofs.NameTests.{same_name-true}
-use Rattle.cc_model.specs.Heap.{Heap, HeapNative, HeapScript, Buffered, native_at, change_native}
+use Rattle.cc_model.specs.Heap.{Heap, HeapNative, Buffered, native_at, change_native}
 use Rattle.cc_model.specs.WellFormed.{IsRising, IsWellFormed, native_names, script_names}
 use Rattle.cc_counted.specs.Counts.{Counts, key_left, number_at, heap_of}
 use Rattle.cc_counted.specs.Counts as counts

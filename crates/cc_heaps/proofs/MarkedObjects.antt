@@ -1,12 +1,12 @@
 -- A MARKING BY KEYS is the marking of the definitions: it gives each object the same colour, and changes nothing else.
-use Rattle.std.proofs.Common.{arith, ◌≡◌, ℕ, List, ap, refl}
+use Rattle.std.proofs.Common.{arith, ◌≡◌, ℕ, List, refl}
 use Rattle.cc_lists.specs.Members.{Among}
 use Rattle.cc_model.specs.Colours as names
 use Rattle.cc_model.specs.Colours.{black_names, marked_names, marked}
-use Rattle.cc_laws_heap.proofs.Face.{IsSound-marked, as_marked, colour_of}
+use Rattle.cc_laws_heap.proofs.Face.{IsSound-marked, colour_of}
 use Rattle.cc_script.specs.Objects.{Object, with_colour, colour_by}
 use Rattle.cc_marking.specs.Marking.{black_keys, marked_keys, marked_from}
-use Rattle.cc_heaps.specs.Keyed.{IsInOrder, named_object}
+use Rattle.cc_heaps.specs.Keyed.{IsInOrder}
 use Rattle.cc_heaps.specs.Changes.{KeepsKeys}
 use Rattle.cc_heaps.specs.Fields.{heap_of, keyed_of, IsLinked}
 use Rattle.cc_heaps.specs.declared.heaps.Heaps.TheInside.{Inside}

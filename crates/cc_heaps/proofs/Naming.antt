@@ -1,6 +1,6 @@
 -- THE COUNTED HEAP UNDER ITS NAMES, with the rest of the heaps beside it: whatever is done to its natives and its buffer
 -- comes to the same before and after script objects get their names, and tells the same.
-use Rattle.std.proofs.Common.{arith, ◌≡◌, ℕ, zero, suc, ◌+◌, ◌-◌, ◌==◌, Bool, true, false, not, List, [], ◌∷◌, ◌++◌, map, length, count_by, if◌then◌else◌, Option, Some, None, option_map, refl, sym, ◌∙◌, ap}
+use Rattle.std.proofs.Common.{arith, ◌≡◌, ℕ, zero, suc, ◌==◌, Bool, false, not, List, [], ◌∷◌, ◌++◌, map, length, count_by, Option, Some, None, option_map, refl, sym, ◌∙◌, ap}
 use Rattle.std.specs.Option.{option_to_list, option_and_then}
 use Rattle.std.specs.List.{flat_map}
 use Rattle.std.proofs.lemmas.Grind.{flat_map-append}
@@ -14,8 +14,8 @@ use Rattle.cc_names.specs.declared.name.Name.TheVariants as name
 use Rattle.cc_names.specs.Names.{native, same_name, is_native, natives_in}
 use Rattle.cc_model.specs.declared.item.Event.TheVariants.{Unlinked}
 use Rattle.cc_model.specs.Slots.{Slots, contents}
-use Rattle.cc_model.specs.Heap.{Heap, HeapNative, Outcome, native_at, silently, after, change_native, with_native_slot, set_slot, set_preserved, touch, suspect, forget}
-use Rattle.cc_model.specs.Cascade.{Draining, add_ref, lower, fallen, given_up, give_up, give_up_each, removed, natives_of_slots, told_free, without_native, free_front, drain, at_rest, drained, cascade, let_go}
+use Rattle.cc_model.specs.Heap.{Heap, HeapNative, Outcome, native_at, silently, after, change_native, set_slot, set_preserved}
+use Rattle.cc_model.specs.Cascade.{Draining, add_ref, lower, give_up, give_up_each, removed, natives_of_slots, told_free, without_native, free_front, drain, at_rest, drained, cascade, let_go}
 use Rattle.cc_model.specs.Counts.{slots_of_natives, times}
 use Rattle.cc_model.specs.End.{empty_slot, empty_each, slots_now, without_preservation, unlink}
 use Rattle.cc_model.specs.WellFormed.{native_names}

@@ -1,11 +1,10 @@
 -- NO OBJECT IS WHITE: none is swept then, all stay, and nothing is told.
 use Rattle.cc_laws_heap.proofs.Face.{is_some-found}
-use Rattle.std.proofs.Common.{arith, ◌≡◌, ℕ, Bool, true, false, not, ◌&&◌, List, [], map, ◌↔◌, IsTrue, refl, sym, ◌∙◌, ap, subst}
-use Rattle.std.proofs.lemmas.Bool.{true≢false}
+use Rattle.std.proofs.Common.{arith, ◌≡◌, ℕ, Bool, true, false, not, List, [], map, ◌↔◌, IsTrue, sym, ap, subst}
 use Rattle.cc_lists.specs.Members.{Among}
 use Rattle.cc_lists.proofs.Filtering.{filter-each, filter-nothing}
 use Rattle.cc_names.specs.declared.kind.Colour.{Colour}
-use Rattle.cc_names.specs.declared.kind.Colour.TheVariants.{White, Gray, Black}
+use Rattle.cc_names.specs.declared.kind.Colour.TheVariants.{White}
 use Rattle.cc_model.specs.Heap.{is_white_colour}
 use Rattle.cc_model.specs.Telling.{Telling, TellsEvents}
 use Rattle.cc_model.proofs.Tellings.{Tells-nil}

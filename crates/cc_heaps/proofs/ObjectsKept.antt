@@ -1,5 +1,5 @@
 -- OBJECTS BY THEIR KEYS: what keeps its name stays there, and so do the names of entries.
-use Rattle.std.proofs.Common.{arith, ◌≡◌, ℕ, false, List, [], ◌∷◌, Option, Some, None, option_map, refl, sym, ◌∙◌, ap, subst, inl, inr}
+use Rattle.std.proofs.Common.{◌≡◌, ℕ, false, List, ◌∷◌, Option, Some, None, option_map, refl, sym, ◌∙◌, ap, subst, inl, inr}
 use Rattle.std.specs.Prelude.{IsTrue}
 use Rattle.std.specs.Option.{is_some, option_to_list}
 use Rattle.cc_laws_heap.proofs.Face.{is_some-found, option_map-found}

@@ -6,7 +6,7 @@ use Rattle.std.specs.Option.{option_and_then}
 use Rattle.std.proofs.lemmas.Bool.{true≢false}
 use Rattle.std.proofs.lemmas.Simd.{map-map}
 use Rattle.cc_lists.proofs.Held.{map-held}
-use Rattle.cc_lists.specs.Members.{Among, has}
+use Rattle.cc_lists.specs.Members.{Among}
 use Rattle.cc_lists.proofs.Members.{Among-map, Among-map_cases, Among-filter, Among-filtered, Among-passes, has-there, has-among}
 use Rattle.cc_lists.proofs.Filtering.{count_by-filter-le, filter-agree}
 use Rattle.cc_lists.proofs.Searching.{filter-map}
@@ -16,7 +16,7 @@ use Rattle.cc_names.specs.declared.number.SKey.{SKey}
 use Rattle.cc_names.specs.Names.{object, same_name}
 use Rattle.cc_names.proofs.NameTests.{same_name-refl, same_name-exact}
 use Rattle.cc_model.specs.Slots.{contents}
-use Rattle.cc_model.specs.Heap.{HeapNative, HeapScript, is_white_colour}
+use Rattle.cc_model.specs.Heap.{HeapNative, HeapScript}
 use Rattle.cc_model.specs.Colours.{IsMarked, HasColours}
 use Rattle.cc_model.specs.Sweep.{unmarked}
 use Rattle.cc_laws_heap.proofs.Face.{black-register, is_spared, marked-black, marked-native_slot, marked-not_unmarked, marked-other, marked-place}

@@ -1,5 +1,5 @@
 -- WHO OWNS THE REFERENCES OF THE COUNTED HEAP: the native registers, the reflectors, and those who own some besides.
-use Rattle.std.proofs.Common.{◌≡◌, ℕ, ◌≤◌, List, [], ◌∷◌, ◌++◌, map, refl, sym, ◌∙◌, subst, ⊎_elim, arith, count_by}
+use Rattle.std.proofs.Common.{◌≡◌, ℕ, ◌≤◌, List, [], ◌∷◌, ◌++◌, map, refl, subst, ⊎_elim, arith, count_by}
 use Rattle.std.specs.List.{flat_map}
 use Rattle.cc_lists.specs.Members.{Among}
 use Rattle.cc_lists.proofs.Members.{Among-append, Among-map}
@@ -17,8 +17,7 @@ use Rattle.cc_counted.specs.Counts.{Counts}
 use Rattle.cc_counted.specs.Counts as counts
 use Rattle.cc_counted.specs.Owning.{AreOwned, CallersOwn}
 use Rattle.cc_heaps.specs.declared.heaps.Heaps.TheInside.{Inside}
-use Rattle.cc_script.specs.Objects.{Object}
-use Rattle.cc_heaps.specs.Keyed.{IsInOrder, named_object}
+use Rattle.cc_heaps.specs.Keyed.{IsInOrder}
 use Rattle.cc_heaps.specs.Named.{named_native}
 use Rattle.cc_heaps.specs.Fields.{heap_of, keyed_of}
 use Rattle.cc_heaps.proofs.Fit.{IsFit}

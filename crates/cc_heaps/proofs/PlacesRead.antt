@@ -49,6 +49,10 @@ use Rattle.cc_heaps.specs.Places.{places_at}
 use Rattle.cc_heaps.proofs.Content.{held-named}
 use Rattle.cc_heaps.proofs.Naming.{name_in}
 
+-- a script object has at most 64 slots: a reflector has four
+pub fits-few : (x : Name) (kind : Kind) (slots : Slots) → FitsName x kind slots → length slots ≤ most_slots
+fits-few x kind slots f = grind arith
+
 -- what is there stands at its key
 pub native-live : {v w : Keyed} {x : Held} {key : NKey} → w ≡ v → x ≡ held.Native key → IsThere v (Some x) → is_some (number_at w key.0) ≡ true
 native-live {v} {w} {x} {key} e is there = subst (λ y. IsThere w (Some y)) is (subst (λ u. IsThere u (Some x)) (sym e) there)
@@ -188,7 +192,7 @@ module _ (p : Inside) (owned : List ℕ) (l : IsLinked p) (o : IsInOrder owned (
     pub script_slots-few : length own_slots ≤ most_slots
     script_slots-few = omega (
       arith,
-      fit q.name q.kind (map (name_held p.scripts) q.slots) (o.sound.well_formed.kinds (named_object p.scripts q) (Among-map (named_object p.scripts) q p.scripts q-there)),
+      fits-few q.name q.kind (map (name_held p.scripts) q.slots) (o.sound.well_formed.kinds (named_object p.scripts q) (Among-map (named_object p.scripts) q p.scripts q-there)),
       length-map q.slots (name_held p.scripts),
       ap length slots-are,
     )

@@ -2,7 +2,7 @@
 -- reflector. Preserved it is reached, and else it is blank.
 use Rattle.cc_lists.proofs.Held.{option_and_then-found}
 use Rattle.cc_laws_heap.proofs.Face.{Follows, Follows-made, IsIn, IsMade, IsOfNone, delegate_in-shape, shape_in-reflector, Made, MadeScript, OfSome, contents-empty_none, further_of, option_map-found, stands-follows}
-use Rattle.std.proofs.Common.{arith, ◌≡◌, ℕ, true, false, [], ◌∷◌, Option, Some, None, refl, sym, ◌∙◌, ap, subst, inl, inr, ◌⊎◌, ⊎_elim, is_some}
+use Rattle.std.proofs.Common.{arith, ◌≡◌, ℕ, true, false, [], ◌∷◌, Option, Some, None, refl, sym, ◌∙◌, ap, subst, inl, inr, ◌⊎◌, ⊎_elim}
 use Rattle.std.proofs.lemmas.Bool.{cases_Bool}
 use Rattle.cc_lists.specs.Members.{Among}
 use Rattle.cc_lists.proofs.Members.{Among-map_cases, Among-right, Among-append}
@@ -11,12 +11,12 @@ use Rattle.cc_names.specs.declared.name.Name.TheVariants as name
 use Rattle.cc_names.specs.Names.{native, object, reflector}
 use Rattle.cc_model.specs.Slots.{Slots, contents, empty_slots, reflector_slots}
 use Rattle.cc_model.specs.Entries.{Entry}
-use Rattle.cc_model.specs.Graph.{Graph, native_in, script_in}
+use Rattle.cc_model.specs.Graph.{Graph}
 use Rattle.cc_model.specs.Reached.{Reached}
 use Rattle.cc_model.specs.WellMade.{IsWellMade}
 use Rattle.cc_model.specs.Heap.{Heap, HeapScript}
 use Rattle.cc_model.specs.WellFormed.{IsWellFormed, FitsName, script_names}
-use Rattle.cc_model.specs.StandsFor.{Shape, shape_in, shape_of_object, shape_of_reflector, shape_of_held_script, script_shape, IsKept, StandsFor, shape_of_native}
+use Rattle.cc_model.specs.StandsFor.{Shape, shape_in, shape_of_held_script, script_shape, IsKept, StandsFor}
 
 -- what has a shape in the graph was made
 pub shape-made : (g : Graph) (x : Name) (s : Shape) → shape_in g x ≡ Some s → Made g x

@@ -1,10 +1,10 @@
 -- A REFLECTOR MADE, OR EXPOSED WHERE IT IS THERE: the heaps stand for the graph in which the native is wrapped, the colour
 -- invariant stays, every snapshot that was fresh is fresh, and no unreached native is forgotten.
-use Rattle.std.proofs.Common.{arith, ◌≡◌, ℕ, Bool, true, false, List, [], ◌∷◌, ◌++◌, Option, Some, None, refl, sym, ap, subst, ⊎_elim}
+use Rattle.std.proofs.Common.{arith, ◌≡◌, ℕ, Bool, true, false, List, [], ◌∷◌, Option, Some, None, refl, sym, ap, subst, ⊎_elim}
 use Rattle.std.specs.List.{flat_map}
 use Rattle.cc_lists.specs.Members.{Among}
 use Rattle.cc_lists.proofs.Members.{Among-left, Among-append, Among-flat_map_cases}
-use Rattle.cc_lists.proofs.ListWrites.{changed_where, changed_where-either, flat_map-kept}
+use Rattle.cc_lists.proofs.ListWrites.{changed_where-either, flat_map-kept}
 use Rattle.cc_names.specs.declared.name.Name.{Name}
 use Rattle.cc_names.specs.declared.kind.Kind.TheVariants.{Reflector}
 use Rattle.cc_names.specs.Names.{native, reflector}
@@ -15,12 +15,12 @@ use Rattle.cc_model.proofs.Places.{script_place-cases}
 use Rattle.cc_model.specs.Heap.{Heap, has_reflector}
 use Rattle.cc_model.specs.View.{view, native_edges, script_edges, ReachedIn}
 use Rattle.cc_model.specs.Cascade.{add_ref}
-use Rattle.cc_model.specs.Exposure.{exposed, exposed_names, as_black}
+use Rattle.cc_model.specs.Exposure.{exposed}
 use Rattle.cc_model.specs.Effects.{with_reflector, wrapped}
 use Rattle.cc_model.specs.WellFormed.{IsWellFormed, native_names}
 use Rattle.cc_model.specs.StandsFor.{StandsFor}
 use Rattle.cc_laws_heap.specs.Sound.{IsSound}
-use Rattle.cc_laws_heap.proofs.Face.{AreColoured-from_view, AreColoured-push, Follows-wrapped, HasColourInvariant-from, HoldsTheSame-add_ref, IsWellMade-change_native, KeepsNative-wrapped, blank, contents-empty_none, exposed-sound, follows-stands, in-reached, is_one_of, with_reflector-sound}
+use Rattle.cc_laws_heap.proofs.Face.{AreColoured-from_view, AreColoured-push, Follows-wrapped, HasColourInvariant-from, HoldsTheSame-add_ref, IsWellMade-change_native, KeepsNative-wrapped, blank, contents-empty_none, exposed-sound, follows-stands, in-reached, with_reflector-sound}
 use Rattle.cc_laws_snapshot.proofs.Face.{edges-alike, reached-kept, reflector_made-fresh, reflector_made-suspected, script-edge}
 use Rattle.cc_heaps.specs.Standing.{IsReached, StandsAfter, KeepsFresh, KeepsSuspected, KeepsColours}
 

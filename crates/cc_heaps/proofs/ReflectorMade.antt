@@ -2,7 +2,7 @@
 -- together once all three are done.
 use Rattle.cc_heaps.proofs.ReflectorLists.{reflectors-set, within-read}
 use Rattle.std.proofs.Common.{arith, IsTrue, ◌≡◌, ◌≢◌, ℕ, ◌+◌, true, false, List, [], ◌∷◌, ◌++◌, set, Option, Some, None, is_some, option_map, refl, sym, ◌∙◌, ap, subst}
-use Rattle.std.specs.Option.{option_and_then, option_or}
+use Rattle.std.specs.Option.{option_or}
 use Rattle.std.specs.List.{find}
 use Rattle.std.proofs.lemmas.Bool.{eq-eqb, ne_eqb}
 use Rattle.std.proofs.lemmas.List.Folds.{find-append}
@@ -22,7 +22,7 @@ use Rattle.cc_counted.specs.Counts.{Counts, number_or_none, with_heap}
 use Rattle.cc_counted.specs.Counts as counts
 use Rattle.cc_script.specs.Objects.{Object, is_there, name_at, reflector_object}
 use Rattle.cc_heaps.specs.declared.heaps.Heaps.TheInside.{Inside}
-use Rattle.cc_heaps.specs.Keyed.{Keyed, IsInOrder, Reflects, key_of, named_objects, number_at, reflector_key, reflectors_by, the_number}
+use Rattle.cc_heaps.specs.Keyed.{Keyed, IsInOrder, Reflects, key_of, named_objects, number_at, reflectors_by, the_number}
 use Rattle.cc_heaps.specs.Changes.{KeepsKeys}
 use Rattle.cc_heaps.specs.Fields.{heap_of, keyed_of, IsLinked}
 use Rattle.cc_heaps.proofs.Calls.{Changes, changed-keyed, changed-linked, number-there, root-changes}

@@ -2,8 +2,8 @@
 use Rattle.cc_heaps.proofs.Keys.{key_left-there}
 use Rattle.cc_lists.proofs.Held.{map-held, map-replicate}
 use Rattle.cc_laws_heap.proofs.Face.{is_some-found, named-found}
-use Rattle.std.proofs.Common.{arith, ◌≡◌, ◌≢◌, ℕ, zero, suc, List, [], ◌∷◌, map, true, Option, Some, None, option_map, get_or, replicate, length, refl, sym, ◌∙◌, ap, subst, inl, inr, ⊎_elim}
-use Rattle.std.specs.Option.{is_some, option_to_list}
+use Rattle.std.proofs.Common.{arith, ◌≡◌, ◌≢◌, ℕ, zero, suc, List, [], ◌∷◌, map, Option, Some, None, option_map, get_or, replicate, length, refl, sym, ◌∙◌, ap, subst, inl, inr, ⊎_elim}
+use Rattle.std.specs.Option.{option_to_list}
 use Rattle.std.proofs.Math.ListN.{get_or-map}
 use Rattle.std.proofs.lemmas.List.{length-replicate}
 use Rattle.cc_lists.specs.Members.{Among}

@@ -1,5 +1,5 @@
 -- THE WALKS OVER ROOTS: over registers, over the references of a native, and over natives by rising number.
-use Rattle.std.proofs.Common.{◌≡◌, ℕ, suc, ◌<◌, ◌≤◌, true, List, [], ◌∷◌, ◌++◌, drop, length, nat_lt, Option, Some, None, IfSome, IsSome, refl, sym, ◌∙◌, ap, subst, inl, arith}
+use Rattle.std.proofs.Common.{◌≡◌, ℕ, suc, ◌<◌, true, List, [], ◌∷◌, ◌++◌, drop, length, nat_lt, Option, Some, None, IfSome, IsSome, refl, sym, ◌∙◌, ap, subst, inl, arith}
 use Rattle.std.specs.List.{filter}
 use Rattle.std.specs.Option.{option_and_then}
 use Rattle.cc_lists.specs.Members.{Among}

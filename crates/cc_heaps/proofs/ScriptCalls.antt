@@ -4,9 +4,8 @@ use Rattle.cc_script.proofs.InOrder.{object_at-left}
 use Rattle.cc_laws_heap.proofs.Face.{IsDelegate, IsNewScript-object, blank, exposed-sound, no_delegate, option_map-found, script_register-sound, script_slot-sound, with_script-sound}
 use Rattle.cc_lists.proofs.Held.{is_some-none, once-push, map-replicate, map-held}
 use Rattle.std.proofs.Common.{arith, ◌≡◌, ℕ, ◌+◌, ◌<◌, ◌≤◌, false, List, [], ◌∷◌, ◌++◌, map, replicate, Option, Some, None, option_map, refl, sym, ◌∙◌, ap, subst, ⊎_elim, ◌==◌}
-use Rattle.std.specs.Prelude.{IfSome, IsTrue, slice_set}
+use Rattle.std.specs.Prelude.{IsTrue, slice_set}
 use Rattle.std.specs.Option.{is_some, option_and_then, option_or}
-use Rattle.std.specs.List.{find}
 use Rattle.std.specs.Vec.{with_item}
 use Rattle.std.proofs.Math.Path.{fun_ext}
 use Rattle.std.proofs.lemmas.Bool.{eqb-true, eq-eqb}

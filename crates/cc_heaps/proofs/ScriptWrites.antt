@@ -1,23 +1,21 @@
 -- SCRIPT OBJECTS WRITTEN: each keeps its key, its name, its kind, its native and its delegate. An exposure and a slot written, by names.
 use Rattle.cc_lists.proofs.Held.{find-renamed}
-use Rattle.std.proofs.Common.{arith, ◌≡◌, ℕ, ◌≤◌, Bool, true, false, List, [], ◌∷◌, map, Option, Some, refl, sym, ◌∙◌, ap, subst, inl, ⊎_elim, ◌==◌, if◌then◌else◌}
+use Rattle.std.proofs.Common.{arith, ◌≡◌, ℕ, ◌≤◌, Bool, true, false, List, [], ◌∷◌, map, Option, Some, refl, sym, ◌∙◌, ap, subst, ⊎_elim, ◌==◌, if◌then◌else◌}
 use Rattle.std.specs.Prelude.{IsTrue}
 use Rattle.std.specs.Option.{option_and_then}
 use Rattle.std.proofs.Math.Path.{fun_ext}
-use Rattle.std.proofs.lemmas.Bool.{eqb-true, eq-eqb, true≢false}
+use Rattle.std.proofs.lemmas.Bool.{eqb-true, eq-eqb}
 use Rattle.std.proofs.lemmas.List.{map-set}
 use Rattle.std.proofs.lemmas.Simd.{map-map}
 use Rattle.cc_lists.specs.Members.{Among, has}
 use Rattle.cc_lists.proofs.ListWrites.{each-map, count_by-kept_map, Among-set_cases, map-agree, changed_where, changed_where-either}
 use Rattle.cc_names.specs.declared.name.Name.{Name}
-use Rattle.cc_names.specs.declared.name.Name.TheVariants as name
-use Rattle.cc_names.specs.declared.kind.Colour.{Colour}
-use Rattle.cc_names.specs.declared.kind.Colour.TheVariants.{White, Gray, Black}
+use Rattle.cc_names.specs.declared.kind.Colour.TheVariants.{Black}
 use Rattle.cc_names.specs.Names.{reflector, same_name, is_native}
 use Rattle.cc_names.proofs.NameTests.{same_name-true, same_name-refl}
 use Rattle.cc_model.specs.Heap.{Heap, HeapScript, change_script, set_slot, with_script_slot}
 use Rattle.cc_model.specs.Exposure.{as_black, exposed, exposed_names}
-use Rattle.cc_script.specs.Objects.{Object, AreWhole, change_object, is_below, is_there, name_at, places_of, raised, raised_among, with_colour, with_slot}
+use Rattle.cc_script.specs.Objects.{Object, AreWhole, change_object, is_there, name_at, places_of, raised, raised_among, with_colour, with_slot}
 use Rattle.cc_script.proofs.PlacesOf.{slot-place, delegate-place, place-cases}
 use Rattle.cc_script.specs.Walking.{keys_reached}
 use Rattle.cc_heaps.specs.Keyed.{Keyed, Reflects, key_of, name_held, named_object, named_objects, reflectors_by}

@@ -1,18 +1,16 @@
 -- HEAPS GO ON STANDING FOR THE SAME GRAPHS, and the colours stay as they should be: where something changes that no graph
 -- sees, where references are taken and given up, where what no register reaches is unlinked, and in a sweep.
-use Rattle.std.proofs.Common.{arith, ◌≡◌, ◌≢◌, ℕ, Bool, List, [], ◌∷◌, Option, Some, None, refl, sym, ◌∙◌, ap, subst, inl, IsSome, MatchOption}
-use Rattle.std.specs.List.{filter}
+use Rattle.std.proofs.Common.{arith, ◌≡◌, ◌≢◌, ℕ, Bool, List, [], ◌∷◌, Option, Some, None, refl, sym, ap, subst, inl, IsSome, MatchOption}
 use Rattle.cc_lists.specs.Members.{Among}
 use Rattle.cc_lists.proofs.Members.{Among-map, Among-map_cases, Among-filter, Among-filtered, Among-passes}
 use Rattle.cc_lists.proofs.ListWrites.{map-unchanged}
 use Rattle.cc_names.specs.declared.name.Name.{Name}
-use Rattle.cc_names.specs.declared.name.Name.TheVariants as name
 use Rattle.cc_names.specs.declared.number.NKey.{NKey}
 use Rattle.cc_names.specs.declared.kind.Colour.TheVariants.{White}
 use Rattle.cc_names.specs.Names.{native}
 use Rattle.cc_model.specs.Slots.{Slots, contents}
 use Rattle.cc_model.specs.Reached.{Reached}
-use Rattle.cc_model.specs.Heap.{Heap, HeapScript, Buffered, is_white_colour}
+use Rattle.cc_model.specs.Heap.{Heap, HeapScript, Buffered}
 use Rattle.cc_model.specs.View.{view, ReachedIn}
 use Rattle.cc_model.specs.Cascade.{add_ref, cascade}
 use Rattle.cc_model.specs.End.{unlink}

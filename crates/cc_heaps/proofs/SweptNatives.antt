@@ -3,7 +3,7 @@
 use Rattle.std.proofs.lemmas.List.{length-map}
 use Rattle.cc_heaps.proofs.ReflectorLists.{reflectors-set, within-read}
 use Rattle.cc_lists.proofs.Held.{map-held}
-use Rattle.std.proofs.Common.{arith, ◌≡◌, ℕ, Bool, true, false, not, ◌&&◌, ◌||◌, List, [], ◌∷◌, map, get_or, set, Option, Some, None, option_map, refl, sym, ◌∙◌, ap, subst, inl, inr, length, ◌<◌}
+use Rattle.std.proofs.Common.{arith, ◌≡◌, ℕ, Bool, false, not, ◌&&◌, ◌||◌, List, [], ◌∷◌, map, get_or, set, Option, Some, None, refl, sym, ◌∙◌, ap, subst, inl, inr, length, ◌<◌}
 use Rattle.std.specs.List.{filter}
 use Rattle.std.specs.Option.{option_and_then}
 use Rattle.std.proofs.Math.ListN.{get_or-map}

@@ -1,10 +1,10 @@
 -- HOW MANY ELEMENTS OF A LIST PASS A TEST, where one of them is written.
-use Rattle.std.proofs.Common.{◌≡◌, ℕ, zero, suc, ◌+◌, ◌-◌, ◌<◌, ◌≤◌, Bool, true, false, cond, nat_lt, List, [], ◌∷◌, ◌++◌, length, get_or, set, count_by, refl, sym, ◌∙◌, ap, ⊎_elim, arith}
+use Rattle.std.proofs.Common.{◌≡◌, ℕ, zero, suc, ◌+◌, ◌-◌, ◌<◌, ◌≤◌, Bool, true, false, cond, nat_lt, List, [], ◌∷◌, ◌++◌, length, get_or, set, count_by, refl, ◌∙◌, ap, ⊎_elim, arith}
 use Rattle.std.proofs.lemmas.Bool.{cases_lt}
 use Rattle.std.proofs.lemmas.List.Sums.{sum_by-append, sum_by-cons, sum_by-set}
 use Rattle.cc_holders.specs.declared.entry.Entry.{Entry}
 use Rattle.cc_holders.specs.declared.entry.Entry.TheVariants.{Unknown, Known}
-use Rattle.cc_holders.specs.Entries.{AreUnknown, has_marked, is_known, is_marked, one_if}
+use Rattle.cc_holders.specs.Entries.{AreUnknown, is_known, is_marked, one_if}
 
 pub past : {X : Type 0} (xs : List X) (i : ℕ) (d : X) → length xs ≤ i → get_or xs i d ≡ d
 past [] i d over = refl

@@ -40,6 +40,7 @@ pub(crate) fn reach(groups: &mut Table, number: usize) -> Result<(), NoMemory>
 }
 
 /// This is known of a number.
+#[inline(always)]
 pub(crate) fn put(groups: &mut Table, number: usize, entry: Entry)
     requires { HasRoom groups.old.items number }
     ensures here { in_groups groups.new.items number ≡ entry }

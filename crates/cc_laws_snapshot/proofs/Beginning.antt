@@ -83,15 +83,11 @@ module _ (h : Heap) (sound : IsSound [] h) (coloured : HasColourInvariant (view 
 
   -- each holder of a gray object is one
   holder-node : (x : Name) → Among x (holders_of h) → IsNode (begun h) x
-  holder-node x m = is-node x
-      (Among-right x (map native (candidates_of h)) (holders_of h ++ flat_map members_of (mappings_of h))
-      (Among-left x (holders_of h) (flat_map members_of (mappings_of h)) m))
+  holder-node x m = search (is-node, Among-right, Among-left)
 
   -- each member of a mapping is one
   mapped-node : (m : Mapping) → Among m (mappings_of h) → (x : Name) → Among x (members_of m) → IsNode (begun h) x
-  mapped-node m i x j = is-node x
-      (Among-right x (map native (candidates_of h)) (holders_of h ++ flat_map members_of (mappings_of h))
-      (Among-right x (holders_of h) (flat_map members_of (mappings_of h)) (Among-flat_map members_of m x (mappings_of h) i j)))
+  mapped-node m i x j = search (is-node, Among-right, Among-flat_map)
 
   -- a member of a mapping is a script object that is there
   member-there : (x : Name) → Among x (flat_map members_of (mappings_of h)) → IsScriptThere (view h) x

@@ -1,6 +1,6 @@
 -- HOW A CHANGE KEEPS SNAPSHOTS FRESH where natives that wait count as in the buffer: as a gentle change of the view with
 -- more in its buffer; and how the colours are kept where nothing becomes black.
-use Rattle.std.proofs.Common.{◌≡◌, ℕ, List, [], ◌++◌, map, refl, ◌∙◌, ap, subst, inl, ◌⊎◌, ⊎_elim}
+use Rattle.std.proofs.Common.{◌≡◌, ℕ, List, [], map, refl, ◌∙◌, subst, inl, ◌⊎◌, ⊎_elim, arith}
 use Rattle.std.specs.Prelude.{IsTrue}
 use Rattle.std.proofs.lemmas.List.{append-nil}
 use Rattle.cc_lists.specs.Members.{Among}
@@ -58,15 +58,11 @@ module _ (loose : List Name) (made now_made : ℕ) (h k : View) (g : IsGentleBut
 
 -- and every snapshot stays fresh.
 pub fresh-by : (made now_made : ℕ) (h k : View) → IsGentleBut [] made now_made h k → KeepsColours h k → (s : Snapshot) → IsFresh made h s → IsFresh now_made k s
-fresh-by made now_made h k g c s f =
-    fresh-kept made now_made h k (IsGentle-from made now_made h k g (colours-kept [] made now_made h k g c f.colours)) s f
+fresh-by made now_made h k g c s f = search (fresh-kept, IsGentle-from, colours-kept)
 
 -- the same of heaps whose script objects keep their colours
 pub fresh-coloured : (h g : Heap) → IsWellFormed h → IsWellFormed g → AreGentle h g → (IsColoured h → IsColoured g) → (s : Snapshot) → IsFreshIn h s → IsFreshIn g s
-fresh-coloured h g early late gentle coloured s f =
-    fresh-kept h.natives_made g.natives_made (view h) (view g)
-    (IsGentle-from h.natives_made g.natives_made (view h) (view g) gentle
-    (HasColourInvariant-from g late (coloured (AreColoured-from_view h early f.colours)))) s f
+fresh-coloured h g early late gentle coloured s f = search (fresh-kept, IsGentle-from, HasColourInvariant-from, AreColoured-from_view)
 
 -- A snapshot that is fresh stays so while more counts as in the buffer.
 pub fresh-more : (made : ℕ) (v : View) (buffer purple : List Name) → ((u : Name) → Among u v.buffer → Among u buffer) →
@@ -92,6 +88,4 @@ some_wait-fresh h s ks = fresh-more h.natives_made (view h) (counting ks (view h
 
 -- Where none waits the buffer alone counts.
 pub none_waits-fresh : (h : Heap) (s : Snapshot) → IsFreshCounting [] h s → IsFreshIn h s
-none_waits-fresh h s = subst (λ v. IsFresh h.natives_made v s)
-    (ap (λ xs. with_buffer xs ((view h).purple ++ []) (view h)) (append-nil (view h).buffer)
-    ∙ ap (λ xs. with_buffer (view h).buffer xs (view h)) (append-nil (view h).purple))
+none_waits-fresh h s = grind (arith, append-nil)

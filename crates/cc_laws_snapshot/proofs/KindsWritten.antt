@@ -1,7 +1,6 @@
 -- WHAT IS WRITTEN keeps every snapshot fresh: a reference, a register, a slot, a flag, an entry.
-use Rattle.std.proofs.Common.{arith, ◌≡◌, ℕ, ◌<◌, Bool, true, false, cond, List, [], ◌∷◌, map, length, Option, Some, None, refl, sym, ◌∙◌, ap, subst, inl, inr, ⊎_elim, slice_index_or}
+use Rattle.std.proofs.Common.{arith, ◌≡◌, ℕ, ◌<◌, Bool, true, List, [], ◌∷◌, map, length, Option, Some, None, refl, sym, subst, inl, inr, ⊎_elim, slice_index_or}
 use Rattle.std.specs.Prelude.{IsTrue}
-use Rattle.std.specs.List.{filter}
 use Rattle.std.specs.Option.{option_to_list}
 use Rattle.cc_lists.specs.Members.{Among}
 use Rattle.cc_lists.proofs.Members.{Among-map, Among-left, Among-right, Among-append, Among-flat_map}
@@ -64,8 +63,7 @@ register-colours h (S d) x black = record {
 -- A register is written.
 pub register_written-fresh : (h : Heap) (s : Snapshot) (r : Reg) (x : Option Name) → IsThereIn (view h) x → IsNotGrayIn (view h) x →
     IsFreshIn h s → IsFreshIn (set_register h r x) s
-register_written-fresh h s r x there pale f = fresh-by h.natives_made (set_register h r x).natives_made (view h) (view (set_register h r x)) (register-gentle h r x)
-    (register-colours h r x (black-left h x f.colours there pale)) s f
+register_written-fresh h s r x there pale f = search (fresh-by, register-gentle, register-colours, black-left)
 
 -- Slots of natives
 
@@ -101,14 +99,7 @@ slot_written-fresh h s n k i x w found room taken pale = fresh-by h.natives_made
 names_with-kept : (p : HeapScript → Bool) (f : HeapScript → HeapScript) (os : List HeapScript) → ((o : HeapScript) → p (f o) ≡ p o) →
     ((o : HeapScript) → (f o).name ≡ o.name) → names_with p (map f os) ≡ names_with p os
 names_with-kept p f [] same named = refl
-names_with-kept p f (o ∷ os) same named = ap (λ b. map (λ (q : HeapScript). q.name) (cond b (f o ∷ filter p (map f os)) (filter p (map f os)))) (same o)
-    ∙ go (names_with-kept p f os same named) (p o)
-  where
-    go : names_with p (map f os) ≡ names_with p os → (b : Bool) →
-        map (λ (q : HeapScript). q.name) (cond b (f o ∷ filter p (map f os)) (filter p (map f os))) ≡
-        map (λ (q : HeapScript). q.name) (cond b (o ∷ filter p os) (filter p os))
-    go ih true = ap (λ x. x ∷ names_with p (map f os)) (named o) ∙ ap (λ xs. o.name ∷ xs) ih
-    go ih false = ih
+names_with-kept p f (o ∷ os) same named = grind (arith, names_with-kept p f os same named)
 
 -- A slot of a script object is written.
 pub script_slot_written-fresh : (h : Heap) (s : Snapshot) (o : Name) (i : ℕ) (x : Option Name) → IsWellFormed h →

@@ -11,8 +11,7 @@ use Rattle.cc_laws_snapshot.specs.Losing.{Loses, IsLoyal}
 -- A LOYAL CHANGE KEEPS EVERY UNREACHED NATIVE SUSPECTED.
 pub loyal-suspected : (h k : Heap) (candidates : List ℕ) → IsWellFormed h → IsWellFormed k → IsLoyal (view h) (view k) →
     IsSuspected (view h) candidates → IsSuspected (view k) candidates
-loyal-suspected h k candidates before later loyal s =
-    buffers-suspected h k candidates (view h).buffer (view h).purple (view k).buffer (view k).purple before (HasScriptNames-well_formed k later) loyal s
+loyal-suspected h k candidates before later loyal s = search (buffers-suspected, HasScriptNames-well_formed)
 
 -- Changes that only lose references
 

@@ -24,9 +24,7 @@ pair-same r x y a b = ap (λ z. pair_of z r.1) a ∙ ap (λ z. pair_of x z) b
 
 -- the test of a reference from x to y tells this reference
 pub between-true : (x y : Name) (r : Name × Name) → between x y r ≡ true → r ≡ (x, y)
-between-true x y r e =
-    let k = and_parts (same_name r.1 y) (same_name r.0 x) e in
-    pair-same r x y (same_name-true r.0 x k.1) (same_name-true r.1 y k.0)
+between-true x y r e = grind (arith, and_parts, pair-same, same_name-true)
 
 -- and this reference passes it
 pub between-refl : (x y : Name) → between x y (x, y) ≡ true

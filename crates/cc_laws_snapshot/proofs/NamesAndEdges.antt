@@ -1,5 +1,5 @@
 -- NATIVES AND EDGES OF THE VIEW: who lives, and what does not change with counts and the buffer.
-use Rattle.std.proofs.Common.{◌≡◌, ℕ, ◌++◌, List, sym, ◌∙◌, ap, subst}
+use Rattle.std.proofs.Common.{◌≡◌, ℕ, ◌++◌, List, sym, ◌∙◌, ap, subst, arith}
 use Rattle.std.specs.List.{flat_map}
 use Rattle.std.proofs.lemmas.List.Folds.{flat_map-map}
 use Rattle.cc_lists.specs.Members.{Among}
@@ -16,9 +16,7 @@ use Rattle.cc_laws_snapshot.proofs.SoundView.{living-native}
 
 -- who lives in the view is the name of a native
 pub named-of_living : (h : Heap) (x : Name) → IsLiving (view h) x → Among x (native_names h)
-named-of_living h x l =
-    let f = living-native h x l.0 l.1 in
-    subst (λ z. Among z (native_names h)) f.2 (Among-map (λ (n : HeapNative). native n.number) f.0 h.natives f.1)
+named-of_living h x l = grind (arith, living-native, Among-map)
 
 -- and has a number
 pub living-number : (h : Heap) (x : Name) → IsLiving (view h) x → (i : ℕ) × (native i ≡ x)

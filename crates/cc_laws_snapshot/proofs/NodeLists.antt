@@ -48,33 +48,18 @@ nodes_by state n ns false = n ∷ with_state state ns
 -- its name is that of an untraversed node
 pub first-untraversed : (ns : List Node) (x : Name) → first_untraversed ns ≡ Some x → Among (node x untraversed) ns
 first-untraversed [] x e = absurd (cc)
-first-untraversed (n ∷ ns) x e = go (first-untraversed ns x) (is_open n) refl e
-  where
-    go : (first_untraversed ns ≡ Some x → Among (node x untraversed) ns) → (b : Bool) → is_open n ≡ b → first_by n ns b ≡ Some x → Among (node x untraversed) (n ∷ ns)
-    go ih true k f =
-        let named : n.name ≡ x = cc in
-        inl (ap (λ state. node n.name state) (is_untraversed-true n.state k) ∙ ap (λ y. node y untraversed) named)
-    go ih false k f = inr (ih f)
+first-untraversed (n ∷ ns) x e = grind (arith, is_untraversed-true, first-untraversed ns x)
 
 -- the node stands there with its state
 with_state-there : (state : NodeState) (ns : List Node) (x : Name) → first_untraversed ns ≡ Some x → Among (node x state) (with_state state ns)
 with_state-there state [] x e = absurd (cc)
-with_state-there state (n ∷ ns) x e = go (with_state-there state ns x) (is_open n) e
-  where
-    go : (first_untraversed ns ≡ Some x → Among (node x state) (with_state state ns)) → (b : Bool) → first_by n ns b ≡ Some x → Among (node x state) (nodes_by state n ns b)
-    go ih true f = let named : n.name ≡ x = cc in inl (ap (λ y. node y state) named)
-    go ih false f = inr (ih f)
+with_state-there state (n ∷ ns) x e = grind (arith, with_state-there state ns x)
 
 -- any other node was there before
 with_state-others : (state : NodeState) (ns : List Node) (x : Name) → first_untraversed ns ≡ Some x → (m : Node) → Among m (with_state state ns) →
     Among m ns ⊎ (m.name ≡ x)
 with_state-others state [] x e m i = absurd i
-with_state-others state (n ∷ ns) x e m i = go (with_state-others state ns x) (is_open n) e i
-  where
-    go : (first_untraversed ns ≡ Some x → (m : Node) → Among m (with_state state ns) → Among m ns ⊎ (m.name ≡ x)) →
-        (b : Bool) → first_by n ns b ≡ Some x → Among m (nodes_by state n ns b) → Among m (n ∷ ns) ⊎ (m.name ≡ x)
-    go ih true f j = ⊎_elim (λ s. let named : n.name ≡ x = cc in inr (sym (ap (λ (k : Node). k.name) s) ∙ named)) (λ t. inl (inr t)) j
-    go ih false f j = ⊎_elim (λ s. inl (inl s)) (λ t. ⊎_elim (λ a. inl (inr a)) (λ b. inr b) (ih f m t)) j
+with_state-others state (n ∷ ns) x e m i = grind (arith, with_state-others state ns x)
 
 -- Each node has the state that it had, and the first untraversed one the new state.
 pub with_state-states : (state : NodeState) (ns : List Node) (x : Name) → HasDistinctNodes ns → first_untraversed ns ≡ Some x →
@@ -92,11 +77,7 @@ with_state-states state ns x d e z a i = ⊎_elim
 
 -- the names after one node was added
 names-with_node : (ns : List Node) (y : Name) → names_of (with_node ns y) ≡ with_last same_name (names_of ns) y
-names-with_node ns y = go (has same_name (names_of ns) y)
-  where
-    go : (b : Bool) → names_of (elim b [ true ↦ ns | false ↦ ns ++ new_node y ∷ [] ]) ≡ elim b [ true ↦ names_of ns | false ↦ names_of ns ++ y ∷ [] ]
-    go true = refl
-    go false = map_push (λ (n : Node). n.name) ns (new_node y)
+names-with_node ns y = grind (arith, map_push)
 
 -- the names after several were added
 pub names-with_nodes : (ns : List Node) (ys : List Name) → names_of (with_nodes ns ys) ≡ with_all_last same_name (names_of ns) ys
@@ -136,22 +117,12 @@ with_nodes-states ns (y ∷ ys) z a i = ⊎_elim
 -- where all are untraversed
 pub all-done_first : (ns : List Node) → list_all is_open ns ≡ true → done_first ns ≡ true
 all-done_first [] h = refl
-all-done_first (n ∷ ns) h = let k = and_parts (is_open n) (list_all is_open ns) h in go (is_open n) k.0
-  where
-    go : (b : Bool) → b ≡ true → elim b [ true ↦ list_all is_open ns | false ↦ done_first ns ] ≡ true
-    go true e = (and_parts (is_open n) (list_all is_open ns) h).1
-    go false e = absurd (false≢true e)
+all-done_first (n ∷ ns) h = grind (arith, and_parts, false≢true)
 
 -- after the first untraversed one got a state
 pub done_first-with_state : (state : NodeState) (ns : List Node) → is_untraversed state ≡ false → done_first ns ≡ true → done_first (with_state state ns) ≡ true
 done_first-with_state state [] closed h = refl
-done_first-with_state state (n ∷ ns) closed h = go (done_first-with_state state ns closed) (is_open n) refl h
-  where
-    go : (done_first ns ≡ true → done_first (with_state state ns) ≡ true) → (b : Bool) → is_open n ≡ b →
-        elim b [ true ↦ list_all is_open ns | false ↦ done_first ns ] ≡ true →
-        done_first (elim b [ true ↦ record n { state = state } ∷ ns | false ↦ n ∷ with_state state ns ]) ≡ true
-    go ih true e k = rw (closed, done_first) (all-done_first ns k)
-    go ih false e k = rw (e, done_first) (ih k)
+done_first-with_state state (n ∷ ns) closed h = grind (arith, all-done_first, done_first-with_state state ns closed)
 
 -- one more untraversed node keeps all untraversed
 all_open-push : (ns : List Node) (y : Name) → list_all is_open ns ≡ true → list_all is_open (ns ++ new_node y ∷ []) ≡ true
@@ -163,13 +134,7 @@ all_open-push (n ∷ ns) y h =
 -- after an untraversed one went last
 done_first-push : (ns : List Node) (y : Name) → done_first ns ≡ true → done_first (ns ++ new_node y ∷ []) ≡ true
 done_first-push [] y h = refl
-done_first-push (n ∷ ns) y h = go (done_first-push ns y) (is_open n) h
-  where
-    go : (done_first ns ≡ true → done_first (ns ++ new_node y ∷ []) ≡ true) → (b : Bool) →
-        elim b [ true ↦ list_all is_open ns | false ↦ done_first ns ] ≡ true →
-        elim b [ true ↦ list_all is_open (ns ++ new_node y ∷ []) | false ↦ done_first (ns ++ new_node y ∷ []) ] ≡ true
-    go ih true k = all_open-push ns y k
-    go ih false k = ih k
+done_first-push (n ∷ ns) y h = grind (arith, all_open-push, done_first-push ns y)
 
 -- after several untraversed ones went last
 pub done_first-with_nodes : (ns : List Node) (ys : List Name) → done_first ns ≡ true → done_first (with_nodes ns ys) ≡ true

@@ -27,10 +27,7 @@ contents-written_there (s ∷ slots) (suc i) x y l m =
 pub contents-written_kept : (slots : Slots) (i : ℕ) (x : Option Name) (y : Name) → Among y (contents slots) →
     Among y (contents (set slots i x)) ⊎ Among y (option_to_list (get_or slots i None))
 contents-written_kept [] i x y m = absurd m
-contents-written_kept (s ∷ slots) zero x y m = ⊎_elim
-    (λ l. inr l)
-    (λ r. inl (Among-right y (option_to_list x) (contents slots) r))
-    (Among-append y (option_to_list s) (contents slots) m)
+contents-written_kept (s ∷ slots) zero x y m = grind (arith, Among-right, Among-append)
 contents-written_kept (s ∷ slots) (suc i) x y m = ⊎_elim
     (λ l. inl (Among-left y (option_to_list s) (contents (set slots i x)) l))
     (λ r. ⊎_elim (λ a. inl (Among-right y (option_to_list s) (contents (set slots i x)) a)) (λ a. inr a) (contents-written_kept slots i x y r))

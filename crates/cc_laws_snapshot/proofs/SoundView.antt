@@ -1,6 +1,6 @@
 -- WHAT THE VIEW OF SOUND HEAPS SAYS: of the heaps alone, without a snapshot.
 use Rattle.std.proofs.Common.{◌≡◌, ℕ, ◌+◌, ◌≤◌, ◌==◌, Bool, true, false, cond, List, [], ◌∷◌, ◌++◌, map, Some, refl, sym, ◌∙◌, ap, subst, inl, inr, ◌⊎◌, ⊎_elim, arith, count_by}
-use Rattle.std.specs.List.{filter, flat_map}
+use Rattle.std.specs.List.{flat_map}
 use Rattle.cc_lists.specs.Members.{Among}
 use Rattle.cc_lists.proofs.Members.{Among-map, Among-map_cases, Among-left, Among-right, Among-append, Among-filter, Among-filtered}
 use Rattle.cc_lists.proofs.Counting.{count_by-map, count_by-append}
@@ -62,9 +62,7 @@ living-named h i m =
 
 -- what is living in the view is the name of a native, with its count
 pub living-native : (h : Heap) (u : Name) (c : ℕ) → Among (u, c) (view h).natives → (n : HeapNative) × Among n h.natives × (native n.number ≡ u) × (n.count ≡ c)
-living-native h u c m =
-    let f = Among-map_cases counted h.natives (u, c) m in
-    (f.0, f.1, ap (λ (e : Name × ℕ). e.0) f.2, ap (λ (e : Name × ℕ). e.1) f.2)
+living-native h u c m = grind (arith, Among-map_cases)
 
 -- a script object of any colour is there in the view
 pub there-script : (h : Heap) (o : HeapScript) → Among o h.scripts → IsScriptThere (view h) o.name
@@ -72,15 +70,11 @@ there-script h o m = grind (arith, Among-map, Among-filter, Among-left, Among-ri
 
 -- a script object's name is there in the view
 pub there-named : (h : Heap) (x : Name) → Among x (script_names h) → IsScriptThere (view h) x
-there-named h x m =
-    let f = Among-map_cases (λ (o : HeapScript). o.name) h.scripts x m in
-    subst (IsScriptThere (view h)) f.2 (there-script h f.0 f.1)
+there-named h x m = grind (arith, Among-map_cases, there-script)
 
 -- a name of some colour is that of a script object
 coloured-named : (h : Heap) (p : HeapScript → Bool) (x : Name) → Among x (names_with p h.scripts) → Among x (script_names h)
-coloured-named h p x m =
-    let f = Among-map_cases (λ (o : HeapScript). o.name) (filter p h.scripts) x m in
-    subst (λ z. Among z (script_names h)) f.2 (Among-map (λ (o : HeapScript). o.name) f.0 h.scripts (Among-filtered p f.0 h.scripts f.1))
+coloured-named h p x m = grind (arith, Among-map_cases, Among-map, Among-filtered)
 
 -- what is there in the view is the name of a script object
 pub named-there : (h : Heap) (x : Name) → IsScriptThere (view h) x → Among x (script_names h)
@@ -94,9 +88,7 @@ named-there h x m = ⊎_elim
 
 -- a native's name is no script object's
 pub native-name_of : (h : Heap) (x : Name) → Among x (native_names h) → is_native x ≡ true
-native-name_of h x m =
-    let f = Among-map_cases (λ (n : HeapNative). native n.number) h.natives x m in
-    subst (λ z. is_native z ≡ true) f.2 refl
+native-name_of h x m = grind (arith, Among-map_cases)
 
 -- an edge leads to what is there
 pub edge-target : (h : Heap) (x y : Name) → IsWellFormed h → Among (x, y) (view h).edges → Among y (names_there h)

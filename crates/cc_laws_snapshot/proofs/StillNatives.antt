@@ -65,8 +65,7 @@ Still-entries h es = Still-with h (record h { entries = es }) refl (λ i m. m) r
 
 -- script objects changed that keep their names
 Still-scripts : (h : Heap) (f : HeapScript → HeapScript) → ((o : HeapScript) → (f o).name ≡ o.name) → Still h (record h { scripts = map f h.scripts })
-Still-scripts h f e = Still-with h (record h { scripts = map f h.scripts }) refl
-    (λ i m. subst (λ xs. Among (reflector i) xs) (sym (map-kept (λ (o : HeapScript). o.name) f h.scripts e)) m) refl refl
+Still-scripts h f e = search (Still-with, map-kept)
 
 -- a slot of a script object written
 pub Still-change_script : (h : Heap) (x : Name) (i : ℕ) (y : Option Name) → Still h (change_script h x (with_script_slot i y))

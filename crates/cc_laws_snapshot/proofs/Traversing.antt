@@ -32,13 +32,7 @@ between-from x u ys = grind (arith, count_by-map, count_by-agree, same_name-refl
 
 -- and none from another name
 between-other : (x w u : Name) (ys : List Name) → ¬ (w ≡ x) → count_by (between w u) (map (from_to x) ys) ≤ 0
-between-other x w u ys other = ⊎_elim
-    (λ some.
-    let c = counted_is (between w u) (map (from_to x) ys) some in
-    let f = Among-map_cases (from_to x) ys c.0 c.1 in
-    absurd (other (sym (ap (λ (r : Name × Name). r.0) (f.2 ∙ between-true w u c.0 c.2)))))
-    (λ none. none)
-    (cases_lt 0 (count_by (between w u) (map (from_to x) ys)))
+between-other x w u ys other = grind (arith, counted_is, Among-map_cases, between-true, cases_lt)
 
 module _ (made : ℕ) (v : View) (s : Snapshot) (sound : IsSoundView made v) (fresh : IsFresh made v s)
     (x : Name) (first : first_untraversed s.nodes ≡ Some x) (n : Option ℕ) (ys : List Name) where
@@ -83,8 +77,7 @@ module _ (made : ℕ) (v : View) (s : Snapshot) (sound : IsSoundView made v) (fr
 
   -- another traversed node was so before
   was-so : (y : Name) (m : Option ℕ) → ¬ (y ≡ x) → Among (node y (traversed m)) after.nodes → Among (node y (traversed m)) s.nodes
-  was-so y m other j = ⊎_elim (λ l. l.0)
-      (λ r. ⊎_elim (λ q. absurd (other (sym q.0))) (λ q. absurd (untraversed-not_traversed m q.0)) r) (states y (traversed m) j)
+  was-so y m other j = grind (arith, untraversed-not_traversed, states)
 
   -- whatever it sampled
   was-traversed : (y : Name) → ¬ (y ≡ x) → IsTraversedNode after y → IsTraversedNode s y

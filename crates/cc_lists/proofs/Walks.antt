@@ -1,7 +1,7 @@
 -- WALKS: what is left of a walk at its first, at the next, and while others leave or go last.
 use Rattle.std.proofs.Common.{◌≡◌, ℕ, ◌+◌, ◌≤◌, ◌==◌, Bool, true, false, not, cond, List, [], ◌∷◌, ◌++◌, map, Option, Some, None, refl, sym, ◌∙◌, ap, subst, inl, inr, ⊎_elim, arith, count_by}
 use Rattle.std.specs.List.{filter, find}
-use Rattle.std.proofs.lemmas.Bool.{eqb-true, eq-eqb, true≢false}
+use Rattle.std.proofs.lemmas.Bool.{eq-eqb}
 use Rattle.std.proofs.lemmas.List.{append_assoc}
 use Rattle.std.proofs.lemmas.List.Elements.{filter-append}
 use Rattle.cc_lists.specs.Members.{Among}
@@ -145,16 +145,6 @@ module _ {X : Type 0} (key : X → ℕ) where
       go : (left : List X) → left_at key xs (Some k) ≡ left → first_key key left ≡ Some k → StandsAt xs k
       go [] l f = absurd (cc)
       go (x ∷ ys) l f = record { this = x; behind = ys; left = l; here = cc; there = left-among xs (Some k) x (subst (Among x) (sym l) (inl refl)) }
-
-  -- The first that is left has the key at which the walk stands, where that is the key of a member.
-  pub first-left : (xs : List X) (x : X) → Among x xs → first_key key (left_at key xs (Some (key x))) ≡ Some (key x)
-  first-left [] x m = absurd m
-  first-left (y ∷ ys) x m = go (first-left ys x) (key y == key x) refl
-    where
-      go : (Among x ys → first_key key (left_at key ys (Some (key x))) ≡ Some (key x)) → (b : Bool) → (key y == key x) ≡ b →
-          first_key key (elim b [ true ↦ y ∷ ys | false ↦ left_at key ys (Some (key x)) ]) ≡ Some (key x)
-      go ih true e = ap Some (eqb-true (key y) (key x) e)
-      go ih false e = ih (⊎_elim (λ s. absurd (true≢false (sym (eq-eqb (key y) (key x) (ap key s)) ∙ e))) (λ t. t) m)
 
   -- the first key is that of a member, and so is the next
   pub first_key-among : (xs : List X) (k : ℕ) → first_key key xs ≡ Some k → (x : X) × Among x xs × (key x ≡ k)

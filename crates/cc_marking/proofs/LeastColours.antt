@@ -1,13 +1,13 @@
 -- THE COLOURS THAT A MARKING LEAVES ARE THE LEAST SETS: the lists of keys have what the rules derive, and no more.
 use Rattle.std.specs.Prelude.{◌↔◌}
-use Rattle.std.proofs.Common.{◌≡◌, ℕ, ◌==◌, Bool, true, false, List, ◌++◌, refl, sym, ◌∙◌, subst, ⊎_elim}
+use Rattle.std.proofs.Common.{◌≡◌, ℕ, ◌==◌, Bool, true, false, List, ◌++◌, refl, sym, ⊎_elim, arith}
 use Rattle.std.proofs.lemmas.Bool.{true≢false}
 use Rattle.cc_lists.specs.Members.{Among, has}
 use Rattle.cc_lists.proofs.ListWrites.{each-map}
 use Rattle.cc_lists.proofs.Members.{Among-append, Among-left, Among-right, has-among, has-there}
 use Rattle.cc_lists.proofs.Numbers.{number-exact}
 use Rattle.cc_names.specs.declared.kind.Colour.TheVariants.{Gray, Black}
-use Rattle.cc_script.specs.Objects.{Object, with_colour, colour_by}
+use Rattle.cc_script.specs.Objects.{Object, colour_by}
 use Rattle.cc_weakmaps.specs.Entries.{KeyedEntry}
 use Rattle.cc_marking.specs.Marking.{AreLeast, IsMarkedFrom, black_keys, marked_keys, marked_from}
 use Rattle.cc_marking.proofs.Marks.{marked-again, marked-decided, marked-root}
@@ -51,15 +51,11 @@ module _ (objects : List Object) (entries : List KeyedEntry) (blacks grays : Lis
       (Among-append key blacks grays m))
 
   both-decided : (key : ℕ) → (has ◌==◌ marked key ≡ true) ↔ IsMarkedFrom objects entries (blacks ++ grays) key
-  both-decided key = let d = marked-decided objects entries (black ++ grays) key in (
-    λ e. marked-again objects entries (black ++ grays) (blacks ++ grays) black-both key (d.0 e),
-    λ r. d.1 (marked-again objects entries (blacks ++ grays) (black ++ grays) both-black key r),
-  )
+  both-decided key = grind (arith, marked-decided, marked-again, black-both, both-black)
 
   -- the colour of each object
   marked-colour : (o : Object) → Among o (marked_from blacks grays entries objects) → o.colour ≡ colour_by black marked o.key
-  marked-colour = each-map (λ (o : Object). o.colour ≡ colour_by black marked o.key)
-      (λ o. with_colour (colour_by black marked o.key) o) objects (λ o m. refl)
+  marked-colour = search (each-map)
 
   -- whether a key is black, and whether it is marked
   abbrev is_black : ℕ → Bool
@@ -70,21 +66,8 @@ module _ (objects : List Object) (entries : List KeyedEntry) (blacks grays : Lis
 
   -- what no mark from the first roots comes to is not black
   unmarked-not_black : (key : ℕ) → ¬ (IsMarkedFrom objects entries blacks key) → is_black key ≡ false
-  unmarked-not_black key none = go (is_black key) refl
-    where
-      go : (b : Bool) → is_black key ≡ b → b ≡ false
-      go true e = absurd (none ((black-decided key).0 e))
-      go false e = refl
+  unmarked-not_black key none = grind (arith, black-decided)
 
   -- THE LEAST SETS.
   pub marked-least : (new : List Object) → new ≡ marked_from blacks grays entries objects → AreLeast blacks grays entries objects new
-  marked-least new e = subst (AreLeast blacks grays entries objects) (sym e) (record {
-    black = λ o m. let c = marked-colour o m in let t = by_tests-black (is_black o.key) (is_marked o.key) in (
-      λ is. (black-decided o.key).0 (t.0 (sym c ∙ is)),
-      λ r. c ∙ t.1 ((black-decided o.key).1 r),
-    );
-    gray = λ o m. let c = marked-colour o m in let t = by_tests-gray (is_black o.key) (is_marked o.key) in (
-      λ is. let both = t.0 (sym c ∙ is) in ((both-decided o.key).0 both.1, λ r. true≢false (sym ((black-decided o.key).1 r) ∙ both.0)),
-      λ r. c ∙ t.1 (unmarked-not_black o.key r.1, (both-decided o.key).1 r.0),
-    );
-  })
+  marked-least new e = grind (arith, marked-colour, by_tests-black, black-decided, by_tests-gray, both-decided, true≢false, unmarked-not_black)

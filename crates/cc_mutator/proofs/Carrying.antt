@@ -1,5 +1,5 @@
 -- COMMANDS ANSWERED: they are refused, or lack memory, or are carried out by what they do.
-use Rattle.std.proofs.Common.{◌≡◌, ◌≢◌, ℕ, ◌+◌, ◌<◌, ◌≤◌, ◌||◌, Bool, true, false, List, length, nat_le, Option, Some, None, option_map, refl, sym, ◌∙◌, ap, subst}
+use Rattle.std.proofs.Common.{◌≡◌, ◌≢◌, ℕ, ◌+◌, ◌<◌, ◌≤◌, ◌||◌, true, false, List, length, Option, Some, None, option_map, refl, sym, ◌∙◌, ap, arith}
 use Rattle.std.specs.Option.{is_none}
 use Rattle.std.proofs.lemmas.Bool.{leb-true, leb-false, le-leb, lt-leb, not-false, or_parts}
 use Rattle.cc_names.specs.declared.name.Name.{Name}
@@ -40,28 +40,7 @@ named-not_refused x r e = grind arith
 -- the reply to a command that is not refused is no refusal
 reply-not_refused : (o : Objects) (c : Command) (r : Refusal) → reply_if_taken o c ≢ Refused r
 unfolding reply_if_taken
-reply-not_refused o command.Nothing r e = absurd (cc)
-reply-not_refused o (command.Native d n) r e = absurd (cc)
-reply-not_refused o (command.Script d n) r e = absurd (cc)
-reply-not_refused o (command.WeakMap d) r e = absurd (cc)
-reply-not_refused o (command.Proxy d s) r e = absurd (cc)
-reply-not_refused o (command.CopyNative d s) r e = named-not_refused _ r e
-reply-not_refused o (command.CopyScript d s) r e = named-not_refused _ r e
-reply-not_refused o (command.Drop d) r e = absurd (cc)
-reply-not_refused o (command.Set d i s) r e = absurd (cc)
-reply-not_refused o (command.Get d s i) r e = named-not_refused _ r e
-reply-not_refused o (command.Put d i s) r e = absurd (cc)
-reply-not_refused o (command.Take d s i) r e = named-not_refused _ r e
-reply-not_refused o (command.Wrap d s) r e = named-not_refused _ r e
-reply-not_refused o (command.Unwrap d s) r e = named-not_refused _ r e
-reply-not_refused o (command.Preserve s) r e = absurd (cc)
-reply-not_refused o (command.SetEntry m k v) r e = absurd (cc)
-reply-not_refused o (command.GetEntry d m k) r e = named-not_refused _ r e
-reply-not_refused o (command.Expose s i) r e = named-not_refused _ r e
-reply-not_refused o (command.Slice u) r e = absurd (cc)
-reply-not_refused o command.Collect r e = absurd (cc)
-reply-not_refused o command.Gc r e = absurd (cc)
-reply-not_refused o command.Census r e = absurd (cc)
+reply-not_refused o c r e = grind (arith, named-not_refused)
 
 -- The three ways
 

@@ -1,7 +1,6 @@
 -- CONTENTS BY NAMES: of one kind, and by kind.
 use Rattle.std.proofs.Common.{◌≡◌, ℕ, true, List, Option, Some, None, is_some, option_map, IsTrue, refl, sym, ◌∙◌, ap, arith}
 use Rattle.std.proofs.lemmas.Bool.{false≢true}
-use Rattle.cc_counted.specs.Scripts.{is_script}
 use Rattle.cc_names.specs.declared.name.Name.{Name}
 use Rattle.cc_names.specs.declared.number.NKey.{NKey}
 use Rattle.cc_names.specs.declared.number.SKey.{SKey}
@@ -15,7 +14,7 @@ use Rattle.cc_heaps.specs.Keyed.{Keyed, IsInOrder, named_object}
 use Rattle.cc_heaps.specs.Changes.{IsThere, held_name, native_name, script_name}
 use Rattle.cc_heaps.proofs.Content.{held_of_native-name}
 use Rattle.cc_heaps.proofs.ContentNames.{object-there}
-use Rattle.cc_mutator.specs.Commands.{held_of_script, is_native_held}
+use Rattle.cc_mutator.specs.Commands.{held_of_script, is_native_held, is_script_held}
 
 -- a script object that is held has its name
 held-script_name : (v : Keyed) (x : Option SKey) → held_name v (held_of_script x) ≡ script_name v x
@@ -48,18 +47,12 @@ module _ (owned : List ℕ) (v : Keyed) (order : IsInOrder owned v) where
   native-held x there = grind (arith, false≢true, script-is)
 
   -- and a script object where it is a script object
-  script-held_there : (x : Option Held) → IsThere v x → is_script_there (held_name v x) ≡ is_script x
-  script-held_there None there = refl
-  script-held_there (Some (held.Native key)) there = go (number_at v key.0) there
-    where
-      go : (o : Option ℕ) → IsSome o → is_script_there (option_map native o) ≡ false
-      go None t = absurd (false≢true t)
-      go (Some k) t = refl
-  script-held_there (Some (held.Script key)) there = let y = script-is key.0 there in ap is_script_there y.1 ∙ y.2
+  script-held_there : (x : Option Held) → IsThere v x → is_script_there (held_name v x) ≡ is_script_held x
+  script-held_there x there = grind (arith, false≢true, script-is)
 
   -- by the name of what is held
   pub is_native_held-named : (x : Option Held) (y : Option Name) → held_name v x ≡ y → IsThere v x → is_native_held x ≡ is_native_there y
   is_native_held-named x y name there = sym (native-held x there) ∙ ap is_native_there name
 
-  pub is_script_held-named : (x : Option Held) (y : Option Name) → held_name v x ≡ y → IsThere v x → is_script x ≡ is_script_there y
+  pub is_script_held-named : (x : Option Held) (y : Option Name) → held_name v x ≡ y → IsThere v x → is_script_held x ≡ is_script_there y
   is_script_held-named x y name there = sym (script-held_there x there) ∙ ap is_script_there name

@@ -1,4 +1,4 @@
--- AN EXPOSURE OF WHAT IS BLACK CHANGES NOTHING: all that it reaches over slots is black.
+-- AN EXPOSURE OF WHAT IS BLACK CHANGES NOTHING: all that it reaches over slots and delegates is black.
 use Rattle.std.proofs.Common.{◌≡◌, ℕ, Bool, true, false, [], ◌∷◌, Option, Some, None, if◌then◌else◌, refl, sym, ◌∙◌, ap, subst, inl, ⊎_elim}
 use Rattle.cc_lists.specs.Members.{Among, has}
 use Rattle.cc_lists.proofs.Members.{Among-map_cases, Among-flat_map_cases}
@@ -12,6 +12,7 @@ use Rattle.cc_names.specs.Names.{same_name}
 use Rattle.cc_names.proofs.NameTests.{same_name-exact}
 use Rattle.cc_model.specs.Slots.{contents, from_to}
 use Rattle.cc_model.specs.Heap.{Heap, HeapScript, register}
+use Rattle.cc_model.specs.Places.{script_places_of}
 use Rattle.cc_model.specs.View.{script_slot_edges}
 use Rattle.cc_model.specs.Exposure.{as_black, exposed, exposed_names, exposure_rules, slots_of_scripts}
 use Rattle.cc_laws_heap.proofs.Face.{IsColoured, IsHeldBlack, contents-at-of_writes as contents-at}
@@ -21,14 +22,14 @@ module _ (h : Heap) (c : IsColoured h) where
   abbrev AreBlack : Name → Type 0
   AreBlack y = (o : HeapScript) → Among o h.scripts → o.name ≡ y → o.colour ≡ Black
 
-  -- what a black one has in a slot is black
+  -- what a black one has in a place is black
   black-along : (x y : Name) → Among (x, y) (slots_of_scripts h) → AreBlack x → AreBlack y
   black-along x y m black o i e =
       let q = Among-flat_map_cases script_slot_edges h.scripts (x, y) m in
-      let f = Among-map_cases (from_to q.0.name) (contents q.0.slots) (x, y) q.2 in
+      let f = Among-map_cases (from_to q.0.name) (contents (script_places_of q.0)) (x, y) q.2 in
       let holder : q.0.colour ≡ Black = black q.0 q.1 (ap (λ (p : Name × Name). p.0) f.2) in
       let content : f.0 ≡ o.name = ap (λ (p : Name × Name). p.1) f.2 ∙ sym e in
-      c.black_to_black q.0 o q.1 i holder (subst (λ z. Among z (contents q.0.slots)) content f.1)
+      c.black_to_black q.0 o q.1 i holder (subst (λ z. Among z (contents (script_places_of q.0))) content f.1)
 
   -- all that is reached from what is black is black
   reached-black : (x : Name) → AreBlack x → (y : Name) → has same_name (exposed_names h x) y ≡ true → AreBlack y

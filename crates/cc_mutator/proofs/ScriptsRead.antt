@@ -4,6 +4,7 @@ use Rattle.std.specs.Option.{option_to_list}
 use Rattle.std.proofs.Math.ListN.{get_or-map}
 use Rattle.std.proofs.lemmas.Bool.{false≢true}
 use Rattle.std.proofs.lemmas.List.{length-map}
+use Rattle.cc_heaps.proofs.PlacesRead.{fits-few}
 use Rattle.cc_lists.specs.Members.{Among}
 use Rattle.cc_lists.proofs.Filtering.{find-among}
 use Rattle.cc_lists.proofs.ListWrites.{only-member}
@@ -23,6 +24,7 @@ use Rattle.cc_model.specs.Checks.{is_map_in, slots_or_none, slot_at, slots_at}
 use Rattle.cc_model.specs.Heap.{Heap, HeapScript, objects_of, register, script_at, source, slots_in, slots_of_kind, slots_of_script}
 use Rattle.cc_model.specs.WellFormed.{FitsName}
 use Rattle.cc_laws_heap.proofs.Face.{IsColoured, IsHeldBlack, contents-at-of_writes as contents-at, script-named, scripts-once}
+use Rattle.cc_script.proofs.PlacesOf.{slot-place}
 use Rattle.cc_script.specs.Objects.{Object, object_at, is_there, kind_at, colour_at}
 use Rattle.cc_script.specs.Objects as objects
 use Rattle.cc_heaps.specs.Keyed.{Keyed, IsInOrder, name_held, named_object}
@@ -48,37 +50,14 @@ is_map_kind Map = true
 is_map_kind Proxy = false
 
 is_map_kind-true : (kind : Kind) → is_map_kind kind ≡ true → kind ≡ Map
-is_map_kind-true Plain e = absurd (cc)
-is_map_kind-true Reflector e = absurd (cc)
-is_map_kind-true Map e = refl
-is_map_kind-true Proxy e = absurd (cc)
+is_map_kind-true kind e = grind arith
 
 is_map_kind-some : (kind : Kind) → Some kind ≡ Some Map → is_map_kind kind ≡ true
-is_map_kind-some Plain e = absurd (cc)
-is_map_kind-some Reflector e = absurd (cc)
-is_map_kind-some Map e = refl
-is_map_kind-some Proxy e = absurd (cc)
+is_map_kind-some kind e = search
 
 -- a weak map has none, and what is no weak map has its own
 kind-slots : (x : Name) (kind : Kind) (slots : Slots) → FitsName x kind slots → slots_or_none (slots_of_kind kind slots) ≡ slots
-kind-slots x Plain slots f = refl
-kind-slots x Reflector slots f = refl
-kind-slots x Proxy slots f = refl
-kind-slots (name.Script k) Map slots f = sym f
-kind-slots (name.Native k) Map slots f = absurd f
-kind-slots (name.Reflector k) Map slots f = absurd f
-
--- at most 64 of them: a reflector has four
-fits-few : (x : Name) (kind : Kind) (slots : Slots) → FitsName x kind slots → length slots ≤ most_slots
-fits-few (name.Native k) kind slots f = absurd f
-fits-few (name.Script k) Plain slots f = f
-fits-few (name.Script k) Map slots f = omega (arith, ap length f)
-fits-few (name.Script k) Proxy slots f = omega (arith, ap length f)
-fits-few (name.Script k) Reflector slots f = absurd f
-fits-few (name.Reflector k) Reflector slots f = omega (arith, f)
-fits-few (name.Reflector k) Plain slots f = absurd f
-fits-few (name.Reflector k) Map slots f = absurd f
-fits-few (name.Reflector k) Proxy slots f = absurd f
+kind-slots x kind slots f = grind arith
 
 module _ (owned : List ℕ) (v : Keyed) (order : IsInOrder owned v) where
   -- the slots of a script object that is there
@@ -144,7 +123,7 @@ module _ (owned : List ℕ) (v : Keyed) (order : IsInOrder owned v) where
         go : (x : Option SKey) → get_or object-at.object.slots i None ≡ option_map (λ (k : SKey). k.0) x → IsScriptThere v x
         go None e = tt
         go (Some k) e = order.whole object-at.object k.0 (find-among (λ (p : Object). p.key == key.0) v.scripts object-at.object object-at.at)
-            (among-get object-at.object.slots i k.0 e)
+            (slot-place object-at.object k.0 (among-get object-at.object.slots i k.0 e))
 
   -- WHAT A REGISTER HOLDS IS BLACK.
   pub held-black : IsColoured v.heap → (r : ℕ) (x : Option SKey) → script_name v x ≡ register v.heap (S r) → IsScriptThere v x →

@@ -35,3 +35,8 @@ abbrev pub is_native_held : Option Held → Bool
 is_native_held None = false
 is_native_held (Some (held.Native key)) = true
 is_native_held (Some (held.Script key)) = false
+
+abbrev pub is_script_held : Option Held → Bool
+is_script_held None = false
+is_script_held (Some (held.Native key)) = false
+is_script_held (Some (held.Script key)) = true

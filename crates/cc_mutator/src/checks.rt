@@ -7,8 +7,7 @@ ghost use Rattle.cc_model.specs.declared.item.Refusal.TheVariants.{Empty as empt
 ghost use Rattle.cc_model.specs.Checks.{first_refusal, is_map_in, is_native_there, is_script_there, refusal_of, slot_at, slots_at};
 ghost use Rattle.cc_model.specs.Heap.{objects_of, register};
 ghost use Rattle.cc_heaps.specs.Keyed.{IsInOrder};
-ghost use Rattle.cc_counted.specs.Scripts.{is_script};
-ghost use Rattle.cc_mutator.specs.Commands.{is_native_held};
+ghost use Rattle.cc_mutator.specs.Commands.{is_native_held, is_script_held};
 
 use crate::reads::{is_empty, native_content, slots};
 use cc_counted::Held;
@@ -51,7 +50,7 @@ fn is_native(content: Option<Held>) -> bool
 
 /// Whether a content is a script object.
 fn is_script(content: Option<Held>) -> bool
-    ensures { result ≡ is_script content }
+    ensures { result ≡ is_script_held content }
 {
     match content {
         Some(Held::Native(_)) => false,

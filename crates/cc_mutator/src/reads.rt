@@ -6,8 +6,7 @@ ghost use Rattle.cc_model.specs.Heap.{objects_of, register, source};
 ghost use Rattle.cc_counted.specs.Counts.{held_of_native};
 ghost use Rattle.cc_heaps.specs.Keyed.{IsInOrder};
 ghost use Rattle.cc_heaps.specs.Changes.{IsNativeThere, IsScriptThere, IsThere, held_name, native_name, script_name};
-ghost use Rattle.cc_counted.specs.Scripts.{is_script};
-ghost use Rattle.cc_mutator.specs.Commands.{held_of_script, is_native_held};
+ghost use Rattle.cc_mutator.specs.Commands.{held_of_script, is_native_held, is_script_held};
 
 use cc_counted::Held;
 use cc_heaps::Heaps;
@@ -96,7 +95,7 @@ fn of_script(content: Option<SKey>) -> Option<Held>
 
 /// The native in a content that is no script object.
 pub(crate) fn as_native(content: Option<Held>) -> Option<NKey>
-    requires { is_script content ≡ false }
+    requires { is_script_held content ≡ false }
     ensures { held_of_native result ≡ content }
 {
     match content {

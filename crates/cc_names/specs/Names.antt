@@ -43,7 +43,7 @@ number_of (Native k) = k.0
 number_of (Script k) = k.0
 number_of (Reflector k) = k.0
 
--- natives come first, then plain objects and weak maps, then reflectors
+-- natives come first, then plain objects, weak maps and proxies, then reflectors
 abbrev pub place_of_kind : Name → ℕ
 place_of_kind (Native k) = 0
 place_of_kind (Script k) = 1

@@ -1,6 +1,6 @@
 //! Names of objects and registers, limits, and lines of text.
 //!
-//! A native is `#k`, a plain script object or a weak map `@k`, the reflector of native `#k` is `~k`.
+//! A native is `#k`, a plain script object, a weak map or a proxy `@k`, the reflector of native `#k` is `~k`.
 //! Numbers count from one in the order of making and are never used again. A key says where an object
 //! stands in its heap; it may be used again once the object is gone, so a key is no name.
 #![tactic(auto)]
@@ -32,7 +32,7 @@ pub fn names_are_told_apart()
     ensures { (x y : Name) → IsTrue (same_name x y) ↔ (x ≡ y) }
 {}
 
-/// The order in which names are compared: natives first, then plain objects and weak maps, then reflectors,
+/// The order in which names are compared: natives first, then plain objects, weak maps and proxies, then reflectors,
 /// each of the three by number.
 pub fn names_are_in_order()
     ensures { (x y : Name) → ⟦<Name as Ord>⟧.cmp x y ≡ order_of_names x y }

@@ -26,11 +26,11 @@ impl Model for Limits {
 }
 
 impl Limits {
-    /// The most natives, and the most plain objects and weak maps, that limits allow to be made.
+    /// The most natives, and the most plain objects, weak maps and proxies, that limits allow to be made.
     pub const MOST: u32 = 1_000_000;
 
-    /// At most `natives` natives and `scripts` plain objects and weak maps may ever be made, each number 0 to 1000000,
-    /// and at most `bytes` bytes read. Reflectors are not counted.
+    /// At most `natives` natives and `scripts` plain objects, weak maps and proxies may ever be made, each number 0 to
+    /// 1000000, and at most `bytes` bytes read. Reflectors are not counted.
     pub fn new(natives: u32, scripts: u32, bytes: u32) -> Limits
         requires natives { natives ≤ 1000000 }
         requires scripts { scripts ≤ 1000000 }
@@ -45,7 +45,7 @@ impl Limits {
         }
     }
 
-    /// The widest limits: 1000000 natives, 1000000 plain objects and weak maps, and 4294967295 bytes.
+    /// The widest limits: 1000000 natives, 1000000 plain objects, weak maps and proxies, and 4294967295 bytes.
     pub fn widest() -> Limits
         ensures natives { result.natives ≡ 1000000 }
         ensures scripts { result.scripts ≡ 1000000 }
@@ -62,7 +62,7 @@ impl Limits {
         self.natives
     }
 
-    /// The most plain objects and weak maps that may ever be made.
+    /// The most plain objects, weak maps and proxies that may ever be made.
     pub fn scripts(self) -> u32
         ensures same { result ≡ self.scripts }
         ensures within { result ≤ 1000000 }

@@ -7,12 +7,12 @@ use crate::line::LineBuf;
 use crate::number::{NativeNo, ScriptNo};
 use itoa::Buffer;
 
-/// The name of an object. Natives come first, then plain objects and weak maps, then reflectors, each by number.
+/// The name of an object. Natives come first, then plain objects, weak maps and proxies, then reflectors, each by number.
 #[derive(Clone, Copy, Debug, PartialEq, Eq, PartialOrd, Ord, Drop)]
 pub enum Name {
     /// `#k`
     Native(NativeNo),
-    /// `@k`, a plain script object or a weak map
+    /// `@k`, a plain script object, a weak map or a proxy
     Script(ScriptNo),
     /// `~k`, the reflector of native `#k`
     Reflector(NativeNo),

@@ -7,7 +7,7 @@ use crate::no_memory::NoMemory;
 #[derive(Clone, Copy, Debug, PartialEq, Eq, PartialOrd, Ord, Drop)]
 pub struct NativeNo(pub u32);
 
-/// The number of a plain script object or a weak map, in one numbering from 1.
+/// The number of a plain script object, a weak map or a proxy, in one numbering from 1.
 #[derive(Clone, Copy, Debug, PartialEq, Eq, PartialOrd, Ord, Drop)]
 pub struct ScriptNo(pub u32);
 

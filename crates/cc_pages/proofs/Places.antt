@@ -1,5 +1,5 @@
 -- What stands at a place of a list: where an element is written, and where empty lists are added.
-use Rattle.std.specs.Prelude.{Vec, Result, Ok, Err, OnErr, OnOk}
+use Rattle.std.specs.Prelude.{Vec, Result, Ok, Err, IfOk, OnErr, OnOk}
 use Rattle.std.proofs.Common.{◌≡◌, ◌≢◌, ℕ, zero, suc, ◌<◌, ◌⊎◌, List, [], ◌∷◌, ◌++◌, length, get_or, set, slice_get, Option, Some, None, option_and_then, refl, sym, ◌∙◌, ap, inl, inr, ⊎_elim, arith}
 use Rattle.std.proofs.lemmas.Option.{slice_get-get_or}
 use Rattle.cc_pages.specs.Values.{HasEmpty}
@@ -82,3 +82,11 @@ err-then (Err e) h f = f h
 pub ok-both : {A E P Q R : Type 0} (r : Result A E) → OnOk r P → OnOk r Q → (P → Q → R) → OnOk r R
 ok-both (Ok a) g h f = f g h
 ok-both (Err e) g h f = tt
+
+pub value-then : {A E : Type 0} {P Q : A → Type 0} (r : Result A E) → IfOk r P → ((a : A) → P a → Q a) → IfOk r Q
+value-then (Ok a) h f = f a h
+value-then (Err e) h f = tt
+
+pub value-both : {A E P : Type 0} {Q R : A → Type 0} (r : Result A E) → IfOk r Q → OnOk r P → ((a : A) → Q a → P → R a) → IfOk r R
+value-both (Ok a) g h f = f a g h
+value-both (Err e) g h f = tt

@@ -1,8 +1,10 @@
 //! Groups of pages, and the pages in them. They are made where they are wanted, and empty at first.
-ghost use Rattle.std.specs.Prelude.{◌≡◌, ℕ, ◌+◌, ◌<◌, ◌≤◌, ◌/◌, ◌^◌, ◌≢◌, ◌⊎◌, length, vec_capacity, IfNone, IfSome, IsTrue, OnErr, OnOk};
+ghost use Rattle.std.specs.Prelude.{◌≡◌, ℕ, ◌+◌, ◌<◌, ◌≤◌, ◌/◌, ◌^◌, ◌≢◌, ◌⊎◌, length, vec_capacity, unwrap_or, IfNone, IfOk, IfSome, IsTrue, OnErr, OnOk};
 ghost use Rattle.cc_pages.specs.Values.{HasEmpty, IsFirst, in_group, in_groups, in_page_of};
 
-use crate::page::{PLACES, Page, first_in_page, put_in_page, take_from_page, value_in_page};
+use crate::page::{
+    PLACES, Page, first_in_page, get_or_put_in_page, put_in_page, take_from_page, value_in_page,
+};
 use cc_names::NoMemory;
 
 /// How many pages a group has.
@@ -38,6 +40,22 @@ pub(crate) fn put(groups: &mut Table, number: usize, value: u32) -> Result<(), N
     reach(groups, page / PAGES)?;
     let group = &mut groups[page / PAGES];
     put_in_group(group, page % PAGES, number % PLACES, value)
+}
+
+/// The value of a number, which is this one from now on where it had none. `NoMemory`, only where it had none, leaves all
+/// values as they were.
+// one walk to the place, whether there is a value or not
+pub(crate) fn get_or_put(groups: &mut Table, number: usize, value: u32) -> Result<u32, NoMemory>
+    ensures found { IfOk result (λ v. v ≡ unwrap_or (in_groups groups.old.items number) value) }
+    ensures here { IfOk result (λ v. in_groups groups.new.items number ≡ Some v) }
+    ensures others { OnOk result ((n : ℕ) → n ≢ number → in_groups groups.new.items n ≡ in_groups groups.old.items n) }
+    ensures err { OnErr result ((n : ℕ) → in_groups groups.new.items n ≡ in_groups groups.old.items n) }
+    ensures absent { OnErr result (in_groups groups.old.items number ≡ None) }
+{
+    let page = number / PLACES;
+    reach(groups, page / PAGES)?;
+    let group = &mut groups[page / PAGES];
+    get_or_put_in_group(group, page % PAGES, number % PLACES, value)
 }
 
 /// The number has no value. Takes no memory.
@@ -161,6 +179,26 @@ fn put_in_group(group: &mut Group, page: usize, place: usize, value: u32) -> Res
     put_in_page(&mut group[page], place, value)
 }
 
+/// The value at a place of a page, where this one stands from now on if none did. `NoMemory`, only where none did, leaves
+/// all values as they were.
+fn get_or_put_in_group(
+    group: &mut Group,
+    page: usize,
+    place: usize,
+    value: u32,
+) -> Result<u32, NoMemory>
+    requires page { page < 128 }
+    requires place { place < 128 }
+    ensures found { IfOk result (λ v. v ≡ unwrap_or (in_group group.old.items page place) value) }
+    ensures here { IfOk result (λ v. in_group group.new.items page place ≡ Some v) }
+    ensures others { OnOk result ((k i : ℕ) → (k ≡ page → i ≡ place → ⊥) → in_group group.new.items k i ≡ in_group group.old.items k i) }
+    ensures err { OnErr result ((k i : ℕ) → in_group group.new.items k i ≡ in_group group.old.items k i) }
+    ensures absent { OnErr result (in_group group.old.items page place ≡ None) }
+{
+    reach(group, page)?;
+    get_or_put_in_page(&mut group[page], place, value)
+}
+
 /// No value stands at a place of a page. Takes no memory.
 fn take_from_group(group: &mut Group, page: usize, place: usize)
     ensures here { in_group group.new.items page place ≡ None }
@@ -176,6 +214,7 @@ fn reach<T>(lists: &mut Vec<Vec<T>>, place: usize) -> Result<(), NoMemory>
     requires { place < 2 ^ 63 }
     ensures added { HasEmpty lists.old.items lists.new.items }
     ensures room { OnOk result (place < length lists.new.items) }
+    ensures absent { OnErr result (length lists.old.items ≤ place) }
 {
     let count = lists.len();
     if place < count {

@@ -1,8 +1,8 @@
 //! The table: values by number.
-ghost use Rattle.std.specs.Prelude.{◌≡◌, ℕ, ◌<◌, ◌≤◌, ◌==◌, ◌^◌, if◌then◌else◌, vec_capacity, IfNone, IfSome, OnErr, OnOk};
+ghost use Rattle.std.specs.Prelude.{◌≡◌, ℕ, ◌<◌, ◌≤◌, ◌==◌, ◌^◌, if◌then◌else◌, vec_capacity, unwrap_or, IfNone, IfOk, IfSome, OnErr, OnOk};
 ghost use Rattle.cc_pages.specs.Values.{IsFirst, behind, value_at};
 
-use crate::group::{Table, first_in, put, take, value_of};
+use crate::group::{Table, first_in, get_or_put, put, take, value_of};
 use cc_names::NoMemory;
 use std::alloc::Global;
 
@@ -48,6 +48,18 @@ impl Pages {
         ensures err { OnErr result ((n : ℕ) → value_at self.new n ≡ value_at self.old n) }
     {
         put(&mut self.groups, number as usize, value)
+    }
+
+    /// The value of a number, which is this one from now on where it had none.
+    ///
+    /// `NoMemory`, only where it had none and its page is not there and can't be had, leaves all values as they were.
+    pub fn get_or_insert(&mut self, number: u32, value: u32) -> Result<u32, NoMemory>
+        ensures found { IfOk result (λ v. v ≡ unwrap_or (value_at self.old number) value) }
+        ensures values { IfOk result (λ v. (n : ℕ) → value_at self.new n ≡ (if number == n then Some v else value_at self.old n)) }
+        ensures err { OnErr result ((n : ℕ) → value_at self.new n ≡ value_at self.old n) }
+        ensures absent { OnErr result (value_at self.old number ≡ None) }
+    {
+        get_or_put(&mut self.groups, number as usize, value)
     }
 
     /// The number has no value from now on. Its page stays.

@@ -28,10 +28,7 @@ HasGiven-none start limit = record {
 
 -- and has not read
 pub HasRead-none : (start : Reads) (limit : ℕ) → HasRead start start (nothing_read limit)
-HasRead-none start limit = record {
-  going = λ e. record { answered = omega arith; empty = refl; ended = refl };
-  at_end = λ e. absurd (cc);
-}
+HasRead-none start limit = grind arith
 
 -- where the source is at its end no more was taken than the limit
 first_end : (start now : Option (List ℕ)) (p : Pending) (lines : List (List ℕ)) (h : HasGiven start now p lines) → p.ended ≡ true → IsAtEnd now × (length h.given ≤ p.limit)
@@ -50,16 +47,7 @@ used_of start now p lines h = record {
 
 -- lines given, where these bytes were used
 given_of : (start now : Option (List ℕ)) (p : Pending) (lines : List (List ℕ)) (used : List ℕ) → HasUsed start now p used → AreLinesOf p lines used → HasGiven start now p lines
-given_of start now p lines used h cut = record {
-  given = h.given;
-  consumed = h.consumed;
-  counted = h.counted;
-  most = h.most;
-  used = used;
-  parted = h.parted;
-  cut = cut;
-  at_end = h.at_end;
-}
+given_of start now p lines used h cut = search
 
 -- where no more was taken than the limit and nothing is pending, all that was taken was used
 used_of-all : (start now : Option (List ℕ)) (p : Pending) (lines : List (List ℕ)) (h : HasGiven start now p lines) → p.bytes ≡ [] → p.taken ≤ p.limit → h.used ≡ h.given
@@ -100,17 +88,11 @@ line_after-feed : (line : List ℕ) (b : ℕ) → b ≡ 10 → line_after line b
 line_after-feed line b e = ap (line_after line) e
 
 last_line-some : (line : List ℕ) → line ≢ [] → last_line line ≡ line ∷ []
-last_line-some [] n = absurd (n refl)
-last_line-some (b ∷ line) n = refl
+last_line-some line n = grind arith
 
 -- a line begins
 pub Begins-line : (now : Option (List ℕ)) (p : Pending) → (IsUsedUp p → ⊥) → Begins now now p p []
-Begins-line now p n = λ start lines h. record {
-  used = h.used;
-  has_used = used_of start now p lines h;
-  ended = ⊎_elim (λ (w : AreEnded p lines h.used). w.lines_are) (λ (w : LastUnended p lines h.used). absurd (n (w.nothing_left, w.ended))) h.cut;
-  rest = ⊎_elim (λ (w : AreEnded p lines h.used). w.no_rest) (λ (w : LastUnended p lines h.used). absurd (n (w.nothing_left, w.ended))) h.cut;
-}
+Begins-line now p n = grind arith
 
 -- a byte that is no line feed goes on with the line
 pub Begins-byte : (before mid now : Option (List ℕ)) (p q r : Pending) (line : List ℕ) (b : ℕ) → Begins before mid p q line → Uses mid now q r (b ∷ []) → b ≢ 10 →

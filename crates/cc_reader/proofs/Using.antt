@@ -39,15 +39,7 @@ Uses-refilled before now p q e l r = λ start used h.
 -- a read that failed
 pub Refills-failed : (before now : Option (List ℕ)) (p q : Pending) → Keeps before now → q.taken ≡ p.taken → q.limit ≡ p.limit → q.bytes ≡ [] → q.ended ≡ false →
     p.taken ≤ p.limit → Refills before now p q
-Refills-failed before now p q k t l b e m = record {
-  given = [];
-  consumed = Consumes-kept before before now [] (Consumes-nil before) k;
-  counted = t ∙ omega arith;
-  most = omega arith;
-  limit = l;
-  within = b ∙ sym (take-nil (p.limit - p.taken));
-  at_end = λ x. absurd (cc);
-}
+Refills-failed before now p q k t l b e m = grind (arith, Consumes-kept, Consumes-nil, take-nil)
 
 -- one byte that was pending is used
 pub Uses-byte : (before now : Option (List ℕ)) (o p q : Pending) (b : ℕ) → Uses before now o p [] → p.bytes ≡ b ∷ q.bytes → q ≡ record p { bytes = q.bytes } →

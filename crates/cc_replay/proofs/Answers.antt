@@ -1,5 +1,5 @@
 -- LINES ANSWERED IN A ROW: one more line, and the transcript that they make.
-use Rattle.std.proofs.Common.{◌≡◌, ℕ, true, List, [], ◌∷◌, ◌++◌, map, Option, refl, sym, ◌∙◌, ap, subst, append-nil}
+use Rattle.std.proofs.Common.{◌≡◌, ℕ, true, List, [], ◌∷◌, ◌++◌, map, Option, refl, sym, ◌∙◌, ap, subst, append-nil, arith}
 use Rattle.std.specs.List.{list_all}
 use Rattle.std.proofs.lemmas.Bool.{and_from}
 use Rattle.std.proofs.lemmas.Grind.{flat_map-append}
@@ -9,12 +9,10 @@ use Rattle.cc_names.specs.Allowance.{Allowance}
 use Rattle.cc_model.specs.Telling.{Telling, Tells}
 use Rattle.cc_model.specs.Answers.{Answer, items_of, all_items_of, text_of_answers}
 use Rattle.cc_model.specs.Asks.{Ask, ask_of}
-use Rattle.cc_model.specs.Heap.{Heap}
-use Rattle.cc_model.specs.Snapshot.{Snapshot}
 use Rattle.cc_model.specs.Collecting.{Machine, empty_machine}
-use Rattle.cc_model.specs.Run.{do_ask, plain_run}
+use Rattle.cc_model.specs.Run.{plain_run}
 use Rattle.cc_model.proofs.Tellings.{Tells-nil, Tells-trans}
-use Rattle.cc_laws_run.specs.Memory.{with_memory, noes, all_noes_told, SameMachine, IsDoneFor, AreDoneFor}
+use Rattle.cc_laws_run.specs.Memory.{noes, all_noes_told, SameMachine, IsDoneFor, AreDoneFor}
 use Rattle.cc_laws_run.specs.Running.{ask_in_range}
 use Rattle.cc_laws_run.proofs.Face.{OneList, one_list, run-lawful, run-quiet, turns-ample}
 use Rattle.cc_laws_headline.proofs.EachExchange.{tells-of_a_graph}
@@ -27,15 +25,7 @@ use Rattle.cc_replay.specs.Transcripts.{IsRun, IsTranscript}
 
 -- the same machine does an ask in the same way
 IsDoneFor-same : (m k n : Machine) (ask : Ask) (a : Answer) → SameMachine m k → IsDoneFor k ask a n → IsDoneFor m ask a n
-IsDoneFor-same m k n ask a same d = record {
-  memory = d.memory;
-  answer = ap (λ (l : Machine). (do_ask l ask).answer) alike ∙ d.answer;
-  after = subst (λ (l : Machine). SameMachine (do_ask l ask).machine n) (sym alike) d.after;
-}
-  where
-    alike : with_memory m d.memory ≡ with_memory k d.memory
-    alike = ap (λ (h : Heap). record { heap = h; snapshot = m.snapshot; memory = d.memory }) same.heap
-        ∙ ap (λ (s : Option Snapshot). record { heap = k.heap; snapshot = s; memory = d.memory }) same.snapshot
+IsDoneFor-same m k n ask a same d = grind arith
 
 -- one more ask
 AreDoneFor-more : (m k n : Machine) (asks : List Ask) (answers : List Answer) (ask : Ask) (a : Answer) →

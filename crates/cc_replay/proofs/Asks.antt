@@ -1,6 +1,5 @@
 -- WHAT A LINE ASKS, and how the lines that are refused as they stand are answered.
-use Rattle.std.specs.Prelude.{nat_lt}
-use Rattle.std.proofs.Common.{◌≡◌, ℕ, ◌≤◌, ◌<◌, Bool, true, false, List, [], length, None, refl, sym, ◌∙◌, ap, subst, arith}
+use Rattle.std.proofs.Common.{◌≡◌, ℕ, ◌≤◌, ◌<◌, true, false, List, [], length, None, refl, ◌∙◌, ap, arith}
 use Rattle.std.proofs.lemmas.Bool.{lt-ltb}
 use Rattle.std.proofs.lemmas.Bool.{ltb-true}
 use Rattle.cc_model.specs.declared.item.Refusal.TheVariants.{Long, Line}
@@ -17,12 +16,7 @@ use Rattle.cc_replay.specs.Answering.{LineIsAnswered}
 
 -- a line of at most 120 bytes asks what its command says
 ask_of-short : (line : List ℕ) → length line ≤ 120 → ask_of version_one_forms line ≡ taken_or_bad (command_of version_one_forms line)
-ask_of-short line short = go (nat_lt longest_line (length line)) refl
-  where
-    go : (b : Bool) → nat_lt longest_line (length line) ≡ b →
-        (elim b as (λ _. Ask) [ true ↦ long | false ↦ taken_or_bad (command_of version_one_forms line) ]) ≡ taken_or_bad (command_of version_one_forms line)
-    go true e = absurd (omega (arith, ltb-true longest_line (length line) e))
-    go false e = refl
+ask_of-short line short = grind (arith, ltb-true)
 
 -- a longer one is too long
 ask_of-long : (line : List ℕ) → 120 < length line → ask_of version_one_forms line ≡ long
@@ -40,10 +34,7 @@ IsDoneFor-bad m = record { memory = []; answer = refl; after = record { heap = r
 -- so it is answered by its refusal alone
 answered-as : {ask : Ask} (answer : Answer) (m : Machine) (line : List ℕ) {before after : Telling} → ask_of version_one_forms line ≡ ask → IsDoneFor m ask answer m →
     ask_in_range ask ≡ true → Tells before after (items_of answer) → LineIsAnswered m m line before after
-answered-as answer m line asks done in_range told = record {
-  answered = record { answer = answer; done = subst (λ a. IsDoneFor m a answer m) (sym asks) done; told = told };
-  in_range = ap ask_in_range asks ∙ in_range;
-}
+answered-as answer m line asks done in_range told = grind arith
 
 pub answered-long : (m : Machine) (line : List ℕ) {before after : Telling} → 120 < length line →
     Tells before after (items_of (replying [] (Refused Long))) → LineIsAnswered m m line before after

@@ -1,8 +1,6 @@
 -- THE HEAPS AND THE COLLECTOR AT THE START: nothing is there, and no collection runs.
-use Rattle.std.proofs.Common.{◌≡◌, [], Option, None, refl, sym, ◌∙◌, ap, subst}
+use Rattle.std.proofs.Common.{◌≡◌, [], Option, None, ◌∙◌, ap, arith}
 use Rattle.cc_model.specs.Heap.{Heap, empty_heap}
-use Rattle.cc_model.specs.View.{view}
-use Rattle.cc_model.specs.Colours.{HasColourInvariant}
 use Rattle.cc_model.specs.Collecting.{empty_machine}
 use Rattle.cc_heaps.specs.Few.{AreFew}
 use Rattle.cc_heaps.specs.Keyed.{Keyed, IsInOrder}
@@ -11,11 +9,7 @@ use Rattle.cc_builder.specs.Building.{Built}
 use Rattle.cc_collector.specs.Kept.{RunsIn, machine_of}
 
 pub runs-empty : (v : Keyed) (c : Option Built) → IsInOrder [] v → v.heap ≡ empty_heap v.heap.limits → c ≡ None → RunsIn v c
-runs-empty v c order empty none = subst (RunsIn v) (sym none) (record {
-  order = order;
-  colours = subst (λ (h : Heap). HasColourInvariant (view h)) (sym empty) (record { black_to_black = λ x y m. absurd m; held_black = λ x m. absurd m; none_white = refl });
-  goes_on = tt;
-})
+runs-empty v c order empty none = grind arith
 
 pub machine-empty : (v : Keyed) (c : Option Built) → v.heap ≡ empty_heap v.heap.limits → c ≡ None → machine_of v.heap c ≡ empty_machine v.heap.limits []
 machine-empty v c empty none = ap (machine_of v.heap) none ∙ ap (λ (h : Heap). machine_of h None) empty

@@ -1,34 +1,21 @@
 -- WHERE THERE IS THE CAUSE, THERE IS THE ANSWER: by cases on the status.
-use Rattle.std.proofs.Common.{◌≡◌, ◌≢◌, ℕ, ◌+◌, ◌<◌, ◌≤◌, ⊎_elim, List, ◌++◌, length, length-append, append-nil, Option, Some, None, refl, sym, ap, ◌∙◌, arith}
+use Rattle.std.proofs.Common.{◌≡◌, ◌≢◌, ℕ, ◌+◌, ◌<◌, ◌≤◌, List, ◌++◌, length, length-append, append-nil, Option, Some, None, refl, sym, ap, ◌∙◌, arith}
 use Rattle.std.specs.Io.KnownBytes.{Consumes, IsAtEnd}
 use Rattle.cc_names.specs.Allowance.{Allowance}
 use Rattle.cc_replay.specs.declared.status.Status.{Status}
 use Rattle.cc_replay.specs.declared.status.Status.TheVariants.{Done, Usage, ReadFault, WriteFault, Limit, NoMemory}
-use Rattle.cc_replay.specs.Transcripts.{Ends, IsDone, AreFirstEnded, AreAllUnended, StopsAtFault, StopsAtLimit, StopsAtWrite}
+use Rattle.cc_replay.specs.Transcripts.{Ends, IsDone, StopsAtFault, StopsAtLimit, StopsAtWrite}
 
 -- the reads that are answered are at most as many as the limit on bytes, and one
 pub reads-within : (s : Status) (limits : Allowance) (e : Ends) → (s ≡ Done → IsDone limits e) → (s ≡ ReadFault → StopsAtFault limits e) →
     (s ≡ Limit → StopsAtLimit limits e) → (s ≡ WriteFault → StopsAtWrite limits e) → (s ≢ Usage) → (s ≢ NoMemory) →
     e.reads_now.answered ≤ e.reads.answered + limits.bytes + 1
-reads-within Done limits e done fault over front usage memory = let d = done refl in omega (arith, d.within, d.reads.answered)
-reads-within ReadFault limits e done fault over front usage memory = let d = fault refl in omega (arith, d.within, d.reads.answered)
-reads-within Limit limits e done fault over front usage memory = let d = over refl in omega (arith, d.above, d.reads.answered)
-reads-within WriteFault limits e done fault over front usage memory =
-    let d = front refl in
-    ⊎_elim (λ (r : AreFirstEnded limits e d.given d.lines). omega (arith, d.most, r.reads.answered))
-    (λ (r : AreAllUnended limits e d.given d.lines). omega (arith, r.all.within, r.all.reads.answered)) d.first
-reads-within Usage limits e done fault over front usage memory = absurd (usage refl)
-reads-within NoMemory limits e done fault over front usage memory = absurd (memory refl)
+reads-within s limits e done fault over front usage memory = grind arith
 
 -- no read said the end where it is not done and no write failed
 pub end-unread : (s : Status) (limits : Allowance) (e : Ends) → (s ≡ ReadFault → StopsAtFault limits e) → (s ≡ Limit → StopsAtLimit limits e) →
     (s ≢ Usage) → (s ≢ NoMemory) → (s ≢ Done) → (s ≢ WriteFault) → e.reads_now.ended ≡ e.reads.ended
-end-unread ReadFault limits e fault over usage memory done write = (fault refl).reads.ended
-end-unread Limit limits e fault over usage memory done write = (over refl).reads.ended
-end-unread Done limits e fault over usage memory done write = absurd (done refl)
-end-unread WriteFault limits e fault over usage memory done write = absurd (write refl)
-end-unread Usage limits e fault over usage memory done write = absurd (usage refl)
-end-unread NoMemory limits e fault over usage memory done write = absurd (memory refl)
+end-unread s limits e fault over usage memory done write = grind arith
 
 -- what was taken of known bytes is no longer than they are
 taken-length : (bytes : List ℕ) (left now : Option (List ℕ)) (given : List ℕ) → left ≡ Some bytes → Consumes left now given → length given ≤ length bytes
@@ -63,11 +50,4 @@ over-answered NoMemory limits e bytes P Q read write done usage memory left abov
 pub done-answered : (s : Status) (limits : Allowance) (e : Ends) (bytes : List ℕ) (P Q : Type 0) →
     (s ≡ ReadFault → P) → (s ≡ WriteFault → Q) → (s ≡ Limit → StopsAtLimit limits e) → (s ≢ Usage) → (s ≢ NoMemory) →
     e.left ≡ Some bytes → length bytes ≤ limits.bytes → ¬ P → ¬ Q → s ≡ Done
-done-answered Done limits e bytes P Q read write over usage memory left within p q = refl
-done-answered Limit limits e bytes P Q read write over usage memory left within p q =
-    let o = over refl in
-    absurd (omega (arith, o.above, taken-length bytes e.left e.left_now o.given left o.consumed))
-done-answered Usage limits e bytes P Q read write over usage memory left within p q = absurd (usage refl)
-done-answered ReadFault limits e bytes P Q read write over usage memory left within p q = absurd (p (read refl))
-done-answered WriteFault limits e bytes P Q read write over usage memory left within p q = absurd (q (write refl))
-done-answered NoMemory limits e bytes P Q read write over usage memory left within p q = absurd (memory refl)
+done-answered s limits e bytes P Q read write over usage memory left within p q = grind (arith, taken-length)

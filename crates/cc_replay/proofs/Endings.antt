@@ -69,16 +69,7 @@ module _ (limits : Allowance) (m₀ m₁ : Moment) (r₀ r₁ : Reads) (begins :
 
   -- the source is at its end
   pub whole-done : Answers AreAllGiven m₀ m₁ → m₁.telling.broken ≡ false → IsDone limits e
-  whole-done a whole =
-      let l = written a whole in
-      record {
-        given = l.1.given;
-        consumed = l.1.consumed;
-        at_end = l.1.at_end;
-        within = omega (arith, l.1.within, bytes);
-        reads = read_to_end l.1.given l.1.counted l.1.ended;
-        writes = subst AreWritten l.1.lines_are l.2;
-      }
+  whole-done a whole = grind (arith, written, bytes, read_to_end)
 
   -- and the answers to known bytes are counted
   pub whole-counts : Answers AreAllGiven m₀ m₁ → m₁.telling.broken ≡ false → (bytes : List ℕ) → m₀.left ≡ Some bytes →
@@ -95,27 +86,11 @@ module _ (limits : Allowance) (m₀ m₁ : Moment) (r₀ r₁ : Reads) (begins :
 
   -- a read failed
   pub broken-stops : Answers IsBroken m₀ m₁ → m₁.telling.broken ≡ false → StopsAtFault limits e
-  broken-stops a whole =
-      let l = written a whole in
-      record {
-        given = l.1.given;
-        consumed = l.1.consumed;
-        within = omega (arith, l.1.within, bytes);
-        reads = read_bytes l.1.given l.1.counted l.1.going;
-        writes = subst AreWritten l.1.lines_are l.2;
-      }
+  broken-stops a whole = grind (arith, written, bytes, read_bytes)
 
   -- the limit was passed
   pub over-stops : Answers IsOver m₀ m₁ → m₁.telling.broken ≡ false → StopsAtLimit limits e
-  over-stops a whole =
-      let l = written a whole in
-      record {
-        given = l.1.given;
-        consumed = l.1.consumed;
-        above = omega (arith, l.1.above, bytes);
-        reads = read_bytes l.1.given l.1.counted l.1.going;
-        writes = subst AreWritten (l.1.lines_are ∙ ap (λ n. ended_lines_of (take n l.1.given)) bytes) l.2;
-      }
+  over-stops a whole = grind (arith, written, bytes, read_bytes)
 
   -- a write failed
   pub first-stops : Answers AreFirst m₀ m₁ → m₀.telling.broken ≡ false → m₁.telling.broken ≡ true → StopsAtWrite limits e

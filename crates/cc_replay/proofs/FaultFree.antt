@@ -1,32 +1,29 @@
 -- Words at which a simple command has no fault are taken.
-use Rattle.std.proofs.Common.{rules, ◌≡◌, ◌&&◌, ◌||◌, ℕ, Bool, cond, codes, true, false, not, zero, suc, refl, arith, List, [], ◌∷◌, length, drop, Option, Some, None, is_some, nat_le}
-use Rattle.std.specs.Prelude.{encode_utf8, slice_get, find}
+use Rattle.std.proofs.Common.{rules, ◌≡◌, ◌&&◌, ◌||◌, ℕ, Bool, cond, true, false, not, zero, suc, refl, arith, List, [], ◌∷◌, Option, Some, None, is_some, nat_le}
+use Rattle.std.specs.Prelude.{find}
 use Rattle.std.specs.List.{list_all, list_any}
-use Rattle.std.specs.Str.{bytes_eq, chars}
-use Rattle.clap.specs.Lexer.{long_of, short_of}
-use Rattle.clap.specs.Facts.{explicit_source, parser_of_value, unwrap_or_range}
 use Rattle.clap.specs.Values.{refused_kind}
 use Rattle.clap.specs.ValueTests.{accepts}
-use Rattle.clap.specs.Walk.{Held, Names, Row, Rule, Step, Text, Waiting, Walk, action_of, answers_to, arg_by_id, arg_by_index, arg_by_long, arg_by_short, attached_value, finished, has_row, is_pending, most_values, next, nothing_held, reacted, settled, subcommand, subcommand_met, takes_several, takes_values, trailing, value, values_or_missing, walk, walk_from, walked, word_met}
-use Rattle.clap.specs.Simple.{App, Shape, argument_words, built, entered, is_simple, label_of, names_of}
+use Rattle.clap.specs.Walk.{Held, Names, Row, Rule, Step, Text, Waiting, Walk, answers_to, attached_value, next, nothing_held, reacted, subcommand, subcommand_met, takes_values, trailing, value, walked}
+use Rattle.clap.specs.Simple.{App, Shape, built, is_simple, label_of}
 use Rattle.clap.specs.Kinds.{Kinds, check_kinds, or_else, range_kinds, value_kinds, values_kinds}
 use Rattle.clap.specs.Takes
 use Rattle.clap.specs.Faults
 use Rattle.clap.specs.Takes.{takes, level_passes, default_passes, is_given, is_valid}
 use Rattle.clap.specs.Faults.{fault_of, level_fault}
 use Rattle.clap.specs.declared.builder.action.ArgAction.{ArgAction}
-use Rattle.clap.specs.declared.builder.action.ArgAction.TheVariants as action
 use Rattle.clap.specs.declared.builder.value_parser.ValueParser.{ValueParser}
 use Rattle.clap.specs.declared.error.kind.ErrorKind.{ErrorKind}
 use Rattle.clap.specs.declared.error.kind.ErrorKind.TheVariants as kind
 use Rattle.std.specs.Option.{option_map_or}
-use Rattle.std.proofs.lemmas.Bool.{and_from}
 use Rattle.clap.proofs.WalkLemmas.{both}
 
 -- neither of two steps has a fault
 no_fault : (a b : Kinds) → or_else a b ≡ [] → (a ≡ []) × (b ≡ [])
-no_fault [] b e = (refl, e)
-no_fault (k ∷ ks) b e = cc
+no_fault a b e = grind arith
+
+and_true : (a b : Bool) → a ≡ true → b ≡ true → (a && b) ≡ true
+and_true a b x y = rw (x, y) refl
 
 -- a test that has no fault where it is true
 test_passes : (b : Bool) (k : ErrorKind) (ks : Kinds) → cond b [] (k ∷ ks) ≡ [] → b ≡ true
@@ -42,11 +39,10 @@ values_free : (i : Bool) (p : ValueParser) (vs : List Text) → values_kinds i p
 values_free i p [] e = refl
 values_free i p (v ∷ vs) e =
     let free = no_fault (value_kinds i p v) _ e in
-    and_from _ _ (value_free i p v free.0) (values_free i p vs free.1)
+    and_true _ _ (value_free i p v free.0) (values_free i p vs free.1)
 
 count_free : (a : Rule) (values : List Text) (rows : List Row) → Faults.count_fault a values rows ≡ [] → Takes.count_passes a values rows ≡ true
-count_free a [] rows e = value_free a.ignore_case (parser_of_value a.parser) _ e
-count_free a (v ∷ vs) rows e = values_free a.ignore_case (parser_of_value a.parser) (v ∷ vs) e
+count_free a values rows e = grind (arith, value_free, values_free)
 
 repeat_free : (has again : Bool) (k : ErrorKind) → cond (has && not again) (k ∷ []) [] ≡ [] → (not has || again) ≡ true
 repeat_free false again k e = refl
@@ -56,19 +52,11 @@ repeat_free true false k e = cc
 set_free : (again : Bool) (a : Rule) (values : List Text) (rows : List Row) → Faults.set_fault again a values rows ≡ [] → Takes.set_passes again a values rows ≡ true
 set_free again a values rows e =
     let free = no_fault (Faults.repeat_fault again a.id rows) _ e in
-    and_from _ _ (repeat_free (has_row a.id rows) again _ free.0) (values_free a.ignore_case (parser_of_value a.parser) values free.1)
+    and_true _ _ (repeat_free (has_row a.id rows) again _ free.0) (values_free a.ignore_case (parser_of_value a.parser) values free.1)
 
 action_free : (x : ArgAction) (again : Bool) (a : Rule) (values : List Text) (rows : List Row) → Faults.action_fault x again a values rows ≡ []
     → Takes.action_passes x again a values rows ≡ true
-action_free action.Set again a values rows e = set_free again a values rows e
-action_free action.SetTrue again a values rows e = set_free again a values rows e
-action_free action.SetFalse again a values rows e = set_free again a values rows e
-action_free action.Append again a values rows e = values_free a.ignore_case (parser_of_value a.parser) values e
-action_free action.Count again a values rows e = count_free a values rows e
-action_free action.Help again a values rows e = cc
-action_free action.HelpShort again a values rows e = cc
-action_free action.HelpLong again a values rows e = cc
-action_free action.Version again a values rows e = cc
+action_free x again a values rows e = grind (arith, set_free, values_free, count_free)
 
 range_free : (least most n : ℕ) → range_kinds least most n ≡ [] → (nat_le least n ≡ true) × (nat_le n most ≡ true)
 range_free least most n e = (grind arith, grind arith)
@@ -77,28 +65,18 @@ use_free : (again : Bool) (a : Rule) (values : List Text) (rows : List Row) → 
 use_free again a values rows e =
     let free = no_fault (range_kinds (unwrap_or_range a.range).start_inclusive (most_values a) (length values)) _ e in
     let within = range_free (unwrap_or_range a.range).start_inclusive (most_values a) (length values) free.0 in
-    and_from _ _ within.0 (and_from _ _ within.1 (action_free (action_of a) again a (values_or_missing a values) rows free.1))
+    and_true _ _ within.0 (and_true _ _ within.1 (action_free (action_of a) again a (values_or_missing a values) rows free.1))
 
 -- ---- the walk over the words
 
 settle_free : (c : List Rule) (again : Bool) (h : Held) → Faults.settle_fault c again h ≡ [] → Takes.settle_passes c again h ≡ true
-settle_free c again h e = go h.pending e
-  where
-    by_rule : (o : Option Rule) (values : List Text) → option_map_or (λ a. Faults.use_fault again a values h.rows) o [] ≡ []
-        → option_map_or (λ a. Takes.use_passes again a values h.rows) o true ≡ true
-    by_rule None values e = refl
-    by_rule (Some a) values e = use_free again a values h.rows e
-
-    go : (o : Option (Text × List Text)) → option_map_or (λ p. option_map_or (λ a. Faults.use_fault again a p.1 h.rows) (arg_by_id c p.0) []) o [] ≡ []
-        → option_map_or (λ p. option_map_or (λ a. Takes.use_passes again a p.1 h.rows) (arg_by_id c p.0) true) o true ≡ true
-    go None e = refl
-    go (Some p) e = by_rule (arg_by_id c p.0) p.1 e
+settle_free c again h e = grind (arith, use_free)
 
 react_free : (c : List Rule) (again : Bool) (a : Rule) (values : List Text) (h : Held) → Faults.react_fault c again a values h ≡ []
     → Takes.react_passes c again a values h ≡ true
 react_free c again a values h e =
     let free = no_fault (Faults.settle_fault c again h) _ e in
-    and_from _ _ (settle_free c again h free.0) (use_free again a values (settled c h).rows free.1)
+    and_true _ _ (settle_free c again h free.0) (use_free again a values (settled c h).rows free.1)
 
 option_free : (c : List Rule) (again : Bool) (a : Rule) (v : Option Text) (h : Held) → Faults.option_fault c again a v h ≡ []
     → Takes.option_passes c again a v h ≡ true
@@ -128,46 +106,25 @@ short_free c again (Some a) rest h fault passes free e = go (takes_values a) e
     go true e = option_free c again a (attached_value rest) h e
     go false e =
         let both = no_fault (Faults.react_fault c again a [] h) _ e in
-        and_from _ _ (react_free c again a [] h both.0) (free _ both.1)
+        and_true _ _ (react_free c again a [] h both.0) (free _ both.1)
 
 step_of_bundle_free : (c : List Rule) (again : Bool) (o : Option ℕ) (flags : Text) (skip : ℕ) (h : Held) (fault : Text → ℕ → Held → Kinds) (passes : Text → ℕ → Held → Bool)
     → ((t : Text) (n : ℕ) (k : Held) → fault t n k ≡ [] → passes t n k ≡ true)
     → Faults.bundle_step_fault c again o flags skip h fault ≡ [] → Takes.bundle_step_passes c again o flags skip h passes ≡ true
-step_of_bundle_free c again None flags skip h fault passes free e = refl
-step_of_bundle_free c again (Some x) flags zero h fault passes free e =
-    let rest = drop (length (encode_utf8 x)) flags in
-    short_free c again (arg_by_short c x) rest h (fault rest 0) (passes rest 0) (free rest 0) e
-step_of_bundle_free c again (Some x) flags (suc skip) h fault passes free e = free _ skip h e
+step_of_bundle_free c again o flags skip h fault passes free e = grind (arith, short_free)
 
 flags_free : (c : List Rule) (again : Bool) (k : ℕ) (flags : Text) (skip : ℕ) (h : Held) → Faults.flags_fault c again k flags skip h ≡ []
     → Takes.flags_pass c again k flags skip h ≡ true
 unfolding Faults.flags_fault Takes.flags_pass
 flags_free c again zero flags skip h e = refl
-flags_free c again (suc k) flags skip h e =
-    step_of_bundle_free c again (slice_get (chars flags) 0) flags skip h (Faults.flags_fault c again k) (Takes.flags_pass c again k) (flags_free c again k) e
+flags_free c again (suc k) flags skip h e = grind (arith, step_of_bundle_free, flags_free c again k)
 
 flag_word_free : (c : List Rule) (again : Bool) (o : Option (Text × Option Text)) (word : Text) (h : Held) → Faults.flag_word_fault c again o word h ≡ []
     → Takes.flag_word_passes c again o word h ≡ true
-flag_word_free c again (Some p) word h e = long_free c again (arg_by_long c p.0) p.1 h e
-flag_word_free c again None word h e = go (short_of word) e
-  where
-    go : (o : Option Text) → option_map_or (λ flags. Faults.bundle_fault c again flags h) o [] ≡ [] → option_map_or (λ flags. Takes.bundle_passes c again flags h) o true ≡ true
-    go None e = refl
-    go (Some flags) e = flags_free c again (length flags) flags h.skip (record h { skip = 0 }) e
+flag_word_free c again o word h e = grind (arith, long_free, flags_free)
 
 other_free : (s : Shape) (o : Option Text) (word : Text) (h : Held) → Faults.other_fault s o word h ≡ [] → Takes.other_passes s o word h ≡ true
-other_free s (Some name) word h e = go (bytes_eq name (codes "help")) s.disable_help_subcommand e
-  where
-    go : (a b : Bool) → cond (a && not b) (kind.DisplayHelp ∷ kind.InvalidSubcommand ∷ []) [] ≡ [] → (not a || b) ≡ true
-    go false b e = refl
-    go true true e = refl
-    go true false e = cc
-other_free s None word h e = go (bytes_eq word (45 ∷ 45 ∷ [])) e
-  where
-    go : (b : Bool) → cond b [] (Faults.flag_word_fault s.rules s.args_override_self (long_of word) word h) ≡ []
-        → (b || Takes.flag_word_passes s.rules s.args_override_self (long_of word) word h) ≡ true
-    go true e = refl
-    go false e = flag_word_free s.rules s.args_override_self (long_of word) word h e
+other_free s o word h e = grind (arith, flag_word_free)
 
 word_free : (s : Shape) (names : Names) (is_trailing : Bool) (waiting : Waiting) (word : Text) (h : Held) → Faults.word_fault s names is_trailing waiting word h ≡ []
     → Takes.word_passes s names is_trailing waiting word h ≡ true
@@ -175,24 +132,13 @@ word_free s names true waiting word h e = refl
 word_free s names false waiting word h e = other_free s (subcommand_met names waiting word) word h e
 
 positional_free : (c : List Rule) (again : Bool) (a : Rule) (h : Held) → Faults.positional_fault c again a h ≡ [] → Takes.positional_passes c again a h ≡ true
-positional_free c again a h e = go (is_pending a h.pending && takes_several a) e
-  where
-    go : (b : Bool) → cond b [] (Faults.settle_fault c again h) ≡ [] → (b || Takes.settle_passes c again h) ≡ true
-    go true e = refl
-    go false e = settle_free c again h e
+positional_free c again a h e = grind (arith, settle_free)
 
 step_free : (s : Shape) (position : ℕ) (h : Held) (step : Step) → Faults.step_fault s position h step ≡ [] → Takes.step_passes s position h step ≡ true
 step_free s position h (next w) e = refl
 step_free s position h (trailing p) e = refl
 step_free s position h (subcommand name) e = refl
-step_free s position h value e = go (arg_by_index s.rules position) s.is_leaf e
-  where
-    go : (o : Option Rule) (leaf : Bool)
-        → option_map_or (λ a. Faults.positional_fault s.rules s.args_override_self a h) o (cond leaf (kind.UnknownArgument ∷ []) (kind.UnknownArgument ∷ kind.InvalidSubcommand ∷ [])) ≡ []
-        → option_map_or (λ a. Takes.positional_passes s.rules s.args_override_self a h) o false ≡ true
-    go None true e = cc
-    go None false e = cc
-    go (Some a) leaf e = positional_free s.rules s.args_override_self a h e
+step_free s position h value e = grind (arith, positional_free)
 
 turn_free : (s : Shape) (names : Names) (w : Walk) (word : Text) → Faults.turn_fault s names w word ≡ [] → Takes.turn_passes s names w word ≡ true
 turn_free s names w word e = go (is_some w.stopped) e
@@ -205,14 +151,14 @@ turn_free s names w word e = go (is_some w.stopped) e
     go true e = refl
     go false e =
         let free = no_fault (Faults.word_fault s names w.is_trailing w.waiting word w.held) _ e in
-        and_from _ _ (word_free s names w.is_trailing w.waiting word w.held free.0) (step_free s w.position met.0 met.1 free.1)
+        and_true _ _ (word_free s names w.is_trailing w.waiting word w.held free.0) (step_free s w.position met.0 met.1 free.1)
 
 walk_free : (s : Shape) (names : Names) (w : Walk) (words : List Text) → Faults.walk_fault s names w words ≡ [] → Takes.walk_passes s names w words ≡ true
 unfolding Faults.walk_fault Takes.walk_passes
 walk_free s names w [] e = refl
 walk_free s names w (word ∷ rest) e =
     let free = no_fault (Faults.turn_fault s names w word) _ e in
-    and_from _ _ (turn_free s names w word free.0) (walk_free s names (walked s.rules names w word) rest free.1)
+    and_true _ _ (turn_free s names w word free.0) (walk_free s names (walked s.rules names w word) rest free.1)
 
 -- ---- after the walk
 
@@ -236,15 +182,7 @@ subcommand_free true false e = cc
 all_given : (rows : List Row) (rules : List Rule) → list_any (λ a. a.required && not (is_given a.id rows)) rules ≡ false
     → list_all (λ a. not a.required || is_given a.id rows) rules ≡ true
 all_given rows [] e = refl
-all_given rows (a ∷ rest) e = go a.required (is_given a.id rows) (all_given rows rest) e
-  where
-    go : (wanted given : Bool)
-        → (list_any (λ a. a.required && not (is_given a.id rows)) rest ≡ false → list_all (λ a. not a.required || is_given a.id rows) rest ≡ true)
-        → ((wanted && not given) || list_any (λ a. a.required && not (is_given a.id rows)) rest) ≡ false
-        → ((not wanted || given) && list_all (λ a. not a.required || is_given a.id rows) rest) ≡ true
-    go false given all e = all e
-    go true true all e = all e
-    go true false all e = cc
+all_given rows (a ∷ rest) e = grind (arith, all_given rows rest)
 
 required_free : (lifted : Bool) (rows : List Row) (rules : List Rule) → (not lifted && list_any (λ a. a.required && not (is_given a.id rows)) rules) ≡ false
     → (lifted || list_all (λ a. not a.required || is_given a.id rows) rules) ≡ true
@@ -254,9 +192,9 @@ required_free false rows rules e = all_given rows rules e
 valid_free : (s : Shape) (rows : List Row) (has : Bool) → Faults.has_free_rules s ≡ true → Faults.check_fault s rows has ≡ [] → is_valid s rows has ≡ true
 valid_free s rows has free e =
     let none = checks_free (not has && (s.arg_required_else_help && not (list_any (λ r. explicit_source r.source) rows))) (not has && s.subcommand_required) _ e in
-    and_from _ _ (help_free s.arg_required_else_help has _ none.0)
-    (and_from _ _ (subcommand_free s.subcommand_required has none.1)
-    (and_from _ _ free (required_free (s.subcommand_negates_reqs && has) rows s.rules none.2)))
+    and_true _ _ (help_free s.arg_required_else_help has _ none.0)
+    (and_true _ _ (subcommand_free s.subcommand_required has none.1)
+    (and_true _ _ free (required_free (s.subcommand_negates_reqs && has) rows s.rules none.2)))
 
 -- the defaults of the level's own arguments pass, and no argument has a rule on another
 abbrev pub is_sound_level : Shape → Bool
@@ -271,9 +209,9 @@ level_free s names h words has below sound e =
     let b = no_fault below _ a.1 in
     let c = no_fault (Faults.settle_fault s.rules s.args_override_self end) _ b.1 in
     let d = no_fault (Faults.defaults_fault (settled s.rules end).rows s.rules) _ c.1 in (
-      and_from _ _ (walk_free s names (walk_from h) words a.0)
-          (and_from _ _ (settle_free s.rules s.args_override_self end c.0)
-          (and_from _ _ ready.0 (valid_free s (finished s.rules end) has ready.1 d.1))),
+      and_true _ _ (walk_free s names (walk_from h) words a.0)
+          (and_true _ _ (settle_free s.rules s.args_override_self end c.0)
+          (and_true _ _ ready.0 (valid_free s (finished s.rules end) has ready.1 d.1))),
       b.0,
     )
 
@@ -310,4 +248,4 @@ takes-no_fault a words simple top subs e =
     let given = argument_words a words in
     let stop = (walk (built a).top.rules (names_of (built a)) nothing_held given).stopped in
     let free = level_free (built a).top (names_of (built a)) nothing_held given (is_some (entered (built a) stop)) (Faults.entered_fault (built a) stop) top e in
-    and_from _ _ simple (and_from _ _ (entered_free (built a) stop subs free.1) free.0)
+    and_true _ _ simple (and_true _ _ (entered_free (built a) stop subs free.1) free.0)

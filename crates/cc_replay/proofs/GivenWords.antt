@@ -1,5 +1,5 @@
 -- What words that are taken give.
-use Rattle.std.proofs.Common.{◌≡◌, ◌∙◌, ◌||◌, ◌≤◌, inl, inr, ℕ, Bool, cond, codes, true, false, not, refl, sym, ap, ap₂, subst, arith, List, [], ◌∷◌, drop, Option, Some, None, is_some, pos}
+use Rattle.std.proofs.Common.{◌≡◌, ◌∙◌, ◌||◌, ◌≤◌, inl, inr, ℕ, Bool, cond, codes, true, false, not, refl, sym, ap, subst, arith, List, [], ◌∷◌, drop, Option, Some, is_some, pos}
 use Rattle.std.specs.Prelude.{find, option_and_then, option_map}
 use Rattle.std.specs.Option.{IfSome, IsSome, option_map_or}
 use Rattle.std.specs.Borrow.{Bor}
@@ -12,7 +12,6 @@ use Rattle.std.specs.Str.Parse.{IsNumeral, digits_value, starts_with_minus, with
 use Rattle.std.proofs.lemmas.Bool.{ne_eqb}
 use Rattle.std.proofs.lemmas.Str.Parse.{digit_from_value}
 use Rattle.std.proofs.lemmas.Int.{ints}
-use Rattle.std.proofs.Common.{◌==◌, unwrap_or}
 use Rattle.clap.specs.Facts.{explicit_source}
 use Rattle.clap.specs.Lexer.{without_minus}
 use Rattle.clap.specs.Words.{found_of, one_text, rows_of, subcommand_name_of, subcommand_rows, subcommand_rows_of}
@@ -33,7 +32,6 @@ use Rattle.clap.proofs.ValueTestLemmas.{accepts-Accepts}
 use Rattle.clap.proofs.WalkLemmas.{both, one_text-rows}
 use Rattle.cc_names.specs.Allowance.{Allowance}
 use Rattle.cc_replay.specs.declared.words.Request.{Request}
-use Rattle.cc_replay.specs.declared.words.Request.TheVariants.{Replay, Make}
 use Rattle.cc_replay.specs.Words.{GivesRequest, IsFor, IsNumber, IsTaken, app, bytes_option, count_argument, natives_option, number_argument, number_option, scripts_option, seed_argument, text_for}
 use Rattle.cc_replay.proofs.FaultFree.{is_sound_level, takes-no_fault}
 use Rattle.cc_replay.proofs.OptionRows.{AreOptions, HasText, IsOption, has_default, has_required, level_default, level_required}
@@ -119,8 +117,7 @@ stopped_in (s ∷ rest) p some e = go (answers_to p.0 (label_of s)) (stopped_in 
 
 entered_is : (a : App) (stop : Option (Text × List Text)) → is_some (entered a stop) ≡ true → Takes.entered_passes a stop ≡ true
     → EntersOneOf a.subs (entered a stop)
-entered_is a None some e = cc
-entered_is a (Some p) some e = stopped_in a.subs p some e
+entered_is a stop some e = grind (arith, stopped_in)
 
 wants_subcommand : (built app).top.subcommand_required ≡ true
 unfolding clap_on_literals
@@ -148,9 +145,7 @@ one_entered words e =
 
 -- the words enter the subcommand that they name
 names_one : (name : Text) (s : Shape) (o : Option (Text × List Row)) → Enters s o → option_map (λ p. p.0) o ≡ Some name → s.name ≡ name
-names_one name s o enters is =
-    let same : option_map (λ (p : Text × List Row). p.0) o ≡ Some s.name = ap (option_map (λ (p : Text × List Row). p.0)) enters.1 in
-    cc
+names_one name s o enters is = grind arith
 
 other_name : (name other : Text) → bytes_eq name other ≡ false → ¬ (name ≡ other)
 other_name name other differ same = let bad : bytes_eq name other ≡ true = (bytes_eq-Decides name other).1 same in cc
@@ -180,70 +175,35 @@ abbrev wide_reader : ℕ → ValueParser
 wide_reader most = parser.Unsigned 0 most
 
 option_is : (id name default : Text) (q : ValueParser) (most : ℕ) → (bytes_eq name id ≡ true → reader most ≡ q) → IsOption id q (built_option (number_option name most default))
-option_is id name default q most same = record {
-  set = refl;
-  missing = refl;
-  least = refl;
-  parser = λ e. (ap Some (same e), refl);
-}
+option_is id name default q most same = search
 
 argument_is : (place : ℕ) (id name : Text) (q r : ValueParser) → (bytes_eq name id ≡ true → r ≡ q) → IsOption id q (built_argument place (number_argument name r))
-argument_is place id name q r same = record {
-  set = refl;
-  missing = refl;
-  least = refl;
-  parser = λ e. (ap Some (same e), refl);
-}
+argument_is place id name q r same = search
 
 -- no other option has the name, or else its reader is the same
 options_are : (id : Text) (q : ValueParser) → (bytes_eq (codes "natives") id ≡ true → reader 1000000 ≡ q)
     → (bytes_eq (codes "scripts") id ≡ true → reader 1000000 ≡ q) → (bytes_eq (codes "bytes") id ≡ true → reader 4294967295 ≡ q)
     → AreOptions id q built_replay.rules
-options_are id q natives scripts bytes =
-    let bytes_is = option_is id (codes "bytes") (codes "4294967295") q 4294967295 bytes in
-    let scripts_is = option_is id (codes "scripts") (codes "1000000") q 1000000 scripts in
-    (option_is id (codes "natives") (codes "1000000") q 1000000 natives, (scripts_is, (bytes_is, tt)))
+options_are id q natives scripts bytes = search (option_is)
 
 arguments_are : (id : Text) (q : ValueParser) → (bytes_eq (codes "seed") id ≡ true → wide_reader 18446744073709551615 ≡ q)
     → (bytes_eq (codes "count") id ≡ true → reader 1000000 ≡ q) → AreOptions id q built_make.rules
-arguments_are id q seed count =
-    let count_is = argument_is 2 id (codes "count") q (reader 1000000) count in
-    (argument_is 1 id (codes "seed") q (wide_reader 18446744073709551615) seed, (count_is, tt))
+arguments_are id q seed count = search (argument_is)
 
 -- ---- a number in a range, by its text
 
 minus_off : (t : Text) → without_minus t ≡ cond (starts_with_minus t) (drop 1 t) t
-minus_off [] = refl
-minus_off (x ∷ xs) = go (x == 45)
-  where
-    go : (b : Bool) → unwrap_or (cond b (Some xs) None) (x ∷ xs) ≡ cond b xs (x ∷ xs)
-    go true = refl
-    go false = refl
+minus_off t = grind arith
 
 no_plus : (ds : Text) → IsNumeral 10 ds → without_leading_plus ds ≡ ds
-no_plus [] h = refl
-no_plus (d ∷ ds) h =
-    let plus : (d == 43) ≡ false = ne_eqb _ _ (λ e. omega (arith, digit_from_value d h.1.0)) in
-    ap (λ b. drop (cond b 1 0) (d ∷ ds)) plus
+no_plus ds h = grind (arith, ne_eqb, digit_from_value)
 
 -- what a getter reads of a text that the reader takes is a number up to `most`
 abbrev IsUpTo : ℕ → Text → Type 0
 IsUpTo most t = IsNumeral 10 (without_leading_plus t) × (digits_value 10 (without_leading_plus t) ≤ most)
 
 up_to : (most : ℕ) (t : Text) → IsSignedIn (pos 0) (pos most) t → IsUpTo most (without_minus t)
-up_to most t h = subst (IsUpTo most) (sym (minus_off t)) (go (starts_with_minus t) refl)
-  where
-    go : (b : Bool) → starts_with_minus t ≡ b → IsUpTo most (cond (starts_with_minus t) (drop 1 t) t)
-    go true minus =
-        let numeral : IsNumeral 10 (drop 1 t) = rw minus at h.0 in
-        let low = rw minus at h.2 in
-        let value : digits_value 10 (drop 1 t) ≤ most = omega (arith, ints) in
-        rw (minus, no_plus (drop 1 t) numeral) (numeral, value)
-    go false minus =
-        let high = rw minus at h.3 in
-        let numeral = rw minus at h.0 in
-        let value : digits_value 10 (without_leading_plus t) ≤ most = omega (arith, ints) in
-        rw minus (numeral, value)
+up_to most t h = grind (arith, minus_off, ints, no_plus)
 
 -- what a getter reads of a text that q takes is a number up to `most`
 abbrev ReadsUpTo : ℕ → ValueParser → Type 0
@@ -306,42 +266,26 @@ count_number = made_number (codes "count") (reader 1000000) _ (up_to _) (argumen
 -- the rows of the subcommand give the same texts as the words
 text_of_rows : (option : Text) (entered : Option (Text × List Row)) (rows : List Row) → option_map (λ p. p.1) entered ≡ Some rows
     → option_and_then (λ named. one_of option named.1) entered ≡ one_of option rows
-text_of_rows option None rows e = cc
-text_of_rows option (Some p) rows e =
-    let same : p.1 ≡ rows = cc in
-    ap (one_of option) same
+text_of_rows option entered rows e = grind arith
 
 -- one text is one number
 same_number : (given : Option Text) (n m : ℕ) → IsNumber given n → IsNumber given m → n ≡ m
-same_number given n m a b =
-    let same : Some a.text ≡ Some b.text = sym a.is ∙ b.is in
-    let text : a.text ≡ b.text = cc in
-    a.value ∙ ap (λ t. digits_value 10 (without_leading_plus t)) text ∙ sym b.value
+same_number given n m a b = search
 
 -- words are not for both subcommands
 not_both : (words : List Text) → IsFor (codes "replay") words → ¬ (IsFor (codes "make") words)
-not_both words replay make =
-    let same : Some (codes "replay") ≡ Some (codes "make") = sym replay ∙ make in
-    let names : codes "replay" ≡ codes "make" = cc in
-    other_name (codes "replay") (codes "make") refl names
+not_both words replay make = grind (arith, other_name)
 
 same_limits : (l m : Allowance) → l.natives ≡ m.natives → l.scripts ≡ m.scripts → l.bytes ≡ m.bytes → l ≡ m
-same_limits l m natives scripts bytes =
-    ap (λ n. record { natives = n; scripts = l.scripts; bytes = l.bytes }) natives
-    ∙ ap₂ (λ s b. record { natives = m.natives; scripts = s; bytes = b }) scripts bytes
+same_limits l m natives scripts bytes = grind arith
 
 -- what the words ask for is one thing alone
 pub one_request : (words : List Text) (a b : Request) → GivesRequest words a → GivesRequest words b → a ≡ b
-one_request words (Replay l) (Replay m) g h =
-    ap Replay (same_limits l m (same_number _ _ _ g.natives h.natives) (same_number _ _ _ g.scripts h.scripts) (same_number _ _ _ g.bytes h.bytes))
-one_request words (Replay l) (Make seed count) g h = absurd (not_both words g.subcommand h.subcommand)
-one_request words (Make seed count) (Replay m) g h = absurd (not_both words h.subcommand g.subcommand)
-one_request words (Make seed count) (Make other many) g h = ap₂ Make (same_number _ _ _ g.seed_is h.seed_is) (same_number _ _ _ g.count_is h.count_is)
+one_request words a b g h = grind (arith, same_limits, same_number, not_both)
 
 -- the name of the subcommand stands beside its rows
 name_of_rows : {Z : Type 0} (o : Option (Box SubCommand Z)) → option_map (λ b. (out-SubCommand (box_value b)).name.now) o ≡ option_map (λ p. p.0) (subcommand_rows o)
-name_of_rows None = refl
-name_of_rows (Some b) = refl
+name_of_rows o = grind arith
 
 module _ (words : List Text) (m : ArgMatches) {subcommand : Text} {sub : Option (Bor ArgMatches)} {named : Bor ArgMatches}
     (rows : subcommand_rows_of m ≡ subcommand_of app words) (met : IsSome sub ↔ (subcommand_name_of m ≡ Some subcommand))
@@ -352,17 +296,12 @@ module _ (words : List Text) (m : ArgMatches) {subcommand : Text} {sub : Option 
 
   -- what a getter reads for the name is the text for it
   text_read : (name : Text) → text_for name words ≡ one_text (found_of named.now) name
-  text_read name =
-      let same : option_map (λ p. p.1) (subcommand_rows_of m) ≡ Some (rows_of (found_of named.now)) = rw is at found in
-      text_of_rows name (subcommand_of app words) (rows_of (found_of named.now)) (ap (option_map (λ p. p.1)) (sym rows) ∙ same)
-      ∙ sym (one_text-rows (found_of named.now) name)
+  text_read name = grind (arith, text_of_rows, one_text-rows)
 
   -- there is a number for it, and room for the number
   pub number_there : (name : Text) (most room : ℕ) → most ≤ room → GivesNumber subcommand name most → IsTaken words
       → (n : ℕ) × IsNumber (one_text (found_of named.now) name) n × (n ≤ room)
-  number_there name most room within gives taken =
-      let h = gives words taken is_for in
-      (h.0, subst (λ given. IsNumber given h.0) (text_read name) h.1, omega (arith, within, h.2))
+  number_there name most room within gives taken = grind (arith, is_for, text_read)
 
   -- the number that was read is the one that the words give
   pub number_given : (name : Text) {n limit : ℕ} → limit ≡ n → IsNumber (one_text (found_of named.now) name) n → IsNumber (text_for name words) limit

@@ -1,5 +1,5 @@
 -- HOW A MADE RUN ENDS: where its last `collect` is done, its census counts nothing.
-use Rattle.std.proofs.Common.{◌≡◌, ℕ, ◌+◌, ◌≤◌, List, [], ◌∷◌, ◌++◌, length, map, take, drop, Option, Some, None, refl, sym, ap, ◌∙◌, subst, arith, append_assoc, length-append, ◌⊎◌, ⊎_elim, inl, inr, count_by}
+use Rattle.std.proofs.Common.{◌≡◌, ℕ, ◌+◌, ◌≤◌, List, [], ◌∷◌, ◌++◌, length, map, take, drop, Option, Some, refl, sym, ap, ◌∙◌, subst, arith, append_assoc, length-append, ◌⊎◌, count_by}
 use Rattle.std.proofs.lemmas.Grind.{flat_map-append}
 use Rattle.std.proofs.lemmas.List.{length-map, take-append-drop}
 use Rattle.cc_lists.proofs.Counting.{count_by-append}
@@ -15,7 +15,7 @@ use Rattle.cc_model.specs.Answers.{Answer, all_items_of, items_of}
 use Rattle.cc_model.specs.Asks.{Ask, ask_of, taken}
 use Rattle.cc_model.specs.Checks.{refusal_of, reply_if_taken}
 use Rattle.cc_model.specs.Forms.{version_one_forms}
-use Rattle.cc_model.specs.Lawful.{IsLawful, IsLawfulFrom, ReplyAnswers, State, WantsMemory, census_of, next, start}
+use Rattle.cc_model.specs.Lawful.{IsLawful, IsLawfulFrom, ReplyAnswers, State, census_of, next, start}
 use Rattle.cc_model.specs.Quiet.{IsQuiet}
 use Rattle.cc_model.specs.Summed.{none_summed, summed, with_item}
 use Rattle.cc_laws_run.specs.Memory.{noes_of_reply}
@@ -55,8 +55,7 @@ leaves-nothing seed count limits answers lawful quiet =
 
 pub collected-nothing : (count : ℕ) (answers : List Answer) → LeavesNothing count answers → (swept collected swept_again last : Answer) →
     drop (count + 16) answers ≡ swept ∷ collected ∷ swept_again ∷ last ∷ [] → collected.reply ≡ Some Done → (sums_of answers).census ≡ 0
-collected-nothing count answers leaves swept collected swept_again last are done =
-    ends-with (count + 16) answers swept collected swept_again last are (leaves swept collected swept_again last are done)
+collected-nothing count answers leaves swept collected swept_again last are done = search (ends-with)
 
 -- answers to the rest of asks
 lawful-rest : (s : State) (asks later : List Ask) (answers : List Answer) → IsLawfulFrom s (asks ++ later) answers →
@@ -68,11 +67,7 @@ lawful-rest s (ask ∷ asks) later (a ∷ answers) l = lawful-rest (next s ask a
 -- a `collect` is done, or it wants memory
 collect-answered : (s : State) (a : Answer) (r : Option Reply) → ReplyAnswers s Collect a r → (r ≡ Some Done) ⊎ (r ≡ Some (Refused NoMemory))
 unfolding refusal_of reply_if_taken
-collect-answered s a None l = absurd l
-collect-answered s a (Some reply) l = ⊎_elim
-    (λ (same : reply ≡ Done). inl (ap (λ (x : Reply). Some x) same))
-    (λ (w : WantsMemory s Collect reply). inr (ap (λ (x : Reply). Some x) w.refused))
-    l.replies
+collect-answered s a r l = grind arith
 
 -- a want of memory of one of four last answers is counted
 unmet-counted : (k : ℕ) (answers : List Answer) (a b : Answer) (others : List Answer) → drop k answers ≡ a ∷ b ∷ others → b.reply ≡ Some (Refused NoMemory) →
@@ -92,15 +87,7 @@ unmet-counted k answers a b others are unmet = omega (
 last-four : (k : ℕ) (answers : List Answer) (s : State) (four : List Answer) → drop k answers ≡ four → IsLawfulFrom s (taken Gc ∷ taken Collect ∷ taken Gc ∷ taken Census ∷ []) four →
     ((swept collected swept_again last : Answer) → drop k answers ≡ swept ∷ collected ∷ swept_again ∷ last ∷ [] → collected.reply ≡ Some Done → (sums_of answers).census ≡ 0) →
     (sums_of answers).nomem ≡ 0 → (sums_of answers).census ≡ 0
-last-four k answers s [] are l done nomem = absurd l
-last-four k answers s (a ∷ []) are l done nomem = absurd l.1
-last-four k answers s (a ∷ b ∷ []) are l done nomem = absurd l.1.1
-last-four k answers s (a ∷ b ∷ c ∷ []) are l done nomem = absurd l.1.1.1
-last-four k answers s (a ∷ b ∷ c ∷ d ∷ e ∷ others) are l done nomem = absurd l.1.1.1.1
-last-four k answers s (a ∷ b ∷ c ∷ d ∷ []) are l done nomem = ⊎_elim
-    (λ (ok : b.reply ≡ Some Done). done a b c d are ok)
-    (λ (unmet : b.reply ≡ Some (Refused NoMemory)). absurd (omega (arith, unmet-counted k answers a b (c ∷ d ∷ []) are unmet, none-unmet (all_items_of answers) none_summed nomem)))
-    (collect-answered (next s (taken Gc) a) b b.reply l.1.0.1)
+last-four k answers s four are l done nomem = grind (arith, unmet-counted, none-unmet, collect-answered)
 
 -- WHERE NO WANT OF MEMORY IS COUNTED, the census counts nothing
 pub nothing-left : (seed count : ℕ) (limits : Allowance) (answers : List Answer) → IsLawful limits (made_asks seed count) answers → IsQuiet limits (made_asks seed count) answers →

@@ -1,13 +1,12 @@
 -- What a level whose arguments all want one value has for one of them: a text that its parser takes.
-use Rattle.std.proofs.Common.{◌≡◌, ◌&&◌, ◌||◌, ◌++◌, ◌≤◌, ℕ, Bool, cond, true, false, not, zero, suc, refl, sym, ap, subst, arith, List, [], ◌∷◌, length, drop, Option, Some, None, is_some, nat_le}
-use Rattle.std.specs.Prelude.{⊤, encode_utf8, slice_get, find, fold}
+use Rattle.std.proofs.Common.{◌≡◌, ◌&&◌, ◌||◌, ◌++◌, ◌≤◌, ℕ, Bool, cond, true, false, not, zero, suc, refl, sym, ap, subst, arith, List, [], ◌∷◌, length, Option, Some, None, nat_le}
+use Rattle.std.specs.Prelude.{⊤, slice_get, find, fold}
 use Rattle.std.specs.Option.{option_map_or}
 use Rattle.std.specs.List.{list_all, list_any}
-use Rattle.std.specs.Str.{bytes_eq, chars}
+use Rattle.std.specs.Str.{bytes_eq}
 use Rattle.std.proofs.lemmas.Bool.{leb-true, ne_eqb, or_right}
 use Rattle.std.proofs.lemmas.Slice.Eq.{bytes_eq-Decides}
-use Rattle.clap.specs.Lexer.{long_of, short_of}
-use Rattle.clap.specs.Facts.{explicit_source, parser_of_value, unwrap_or_range}
+use Rattle.clap.specs.Facts.{parser_of_value, unwrap_or_range}
 use Rattle.clap.specs.Values.{is_request, read_as, reading_of}
 use Rattle.clap.specs.ValueTests.{accepts}
 use Rattle.clap.specs.Walk
@@ -53,11 +52,7 @@ module _ (id : Text) (q : ValueParser) where
 
   find_option : (p : Rule → Bool) (c : List Rule) → AreOptions c → MayBeOption (find p c)
   find_option p [] h = tt
-  find_option p (a ∷ rest) h = go (p a) (find_option p rest h.1)
-    where
-      go : (b : Bool) → MayBeOption (find p rest) → MayBeOption (cond b (Some a) (find p rest))
-      go true later = h.0
-      go false later = later
+  find_option p (a ∷ rest) h = grind (arith, h.0, find_option p rest h.1)
 
   -- the first value is one that q takes
   abbrev StartsWell : List Text → Type 0
@@ -79,34 +74,24 @@ module _ (id : Text) (q : ValueParser) where
   at_row_fits : (k : Text) (change : Row → List Row) (missing : List Row) → ((r : Row) → Fits r → AllFit (change r)) → AllFit missing
       → (rows : List Row) → AllFit rows → AllFit (at_row k change missing rows)
   at_row_fits k change missing changed new [] all = new
-  at_row_fits k change missing changed new (r ∷ rs) all = go (bytes_eq r.id k) (at_row_fits k change missing changed new rs all.1)
-    where
-      go : (b : Bool) → AllFit (at_row k change missing rs) → AllFit (cond b (change r ++ rs) (r ∷ at_row k change missing rs))
-      go true later = append_fit (change r) rs (changed r all.0) all.1
-      go false later = (all.0, later)
+  at_row_fits k change missing changed new (r ∷ rs) all = grind (arith, append_fit, at_row_fits k change missing changed new rs all.1)
 
   append_starts : (vs more : List Text) → StartsWell vs → StartsWell (vs ++ more)
-  append_starts [] more h = absurd h
-  append_starts (v ∷ vs) more h = h
+  append_starts vs more h = grind arith
 
   with_values_fits : (k : Text) (how : Reading) (s : ValueSource) (vs : List Text) (rows : List Row)
       → (bytes_eq k id ≡ true → StartsWell vs × (how ≡ reading_of q)) → AllFit rows → AllFit (with_values k how s vs rows)
-  with_values_fits k how s vs rows new all =
-      at_row_fits k (more_values s vs) _ (λ r fit. ((λ e. (append_starts r.values vs (fit e).0, (fit e).1)), tt)) (new, tt) rows all
+  with_values_fits k how s vs rows new all = grind (arith, at_row_fits, append_starts)
 
   without_fits : (k : Text) (rows : List Row) → AllFit rows → AllFit (without k rows)
   without_fits k rows all = at_row_fits k (λ _. []) [] (λ r fit. tt) tt rows all
 
   -- values that pass the option start well
   values_start : (a : Rule) (vs : List Text) → a.parser ≡ Some q → a.ignore_case ≡ false → 1 ≤ length vs → values_pass a vs ≡ true → StartsWell vs
-  values_start a [] parser as_written some e = absurd (omega arith)
-  values_start a (v ∷ vs) parser as_written some e =
-      let first : accepts a.ignore_case (parser_of_value a.parser) v ≡ true = (both (accepts a.ignore_case (parser_of_value a.parser) v) _ e).0 in
-      rw (as_written, parser) at first
+  values_start a vs parser as_written some e = grind (arith, both)
 
   or_missing : (a : Rule) (vs : List Text) → 1 ≤ length vs → values_or_missing a vs ≡ vs
-  or_missing a [] some = absurd (omega arith)
-  or_missing a (v ∷ vs) some = refl
+  or_missing a vs some = grind arith
 
   used_fits : (again : Bool) (a : Rule) (vs : List Text) (rows : List Row) → IsOption a → use_passes again a vs rows ≡ true → AllFit rows → AllFit (used a vs rows)
   used_fits again a vs rows is e all =
@@ -130,23 +115,11 @@ module _ (id : Text) (q : ValueParser) where
   -- ---- the walk over the words
 
   settled_fits : (c : List Rule) (again : Bool) (h : Held) → AreOptions c → Takes.settle_passes c again h ≡ true → AllFit h.rows → AllFit (settled c h).rows
-  settled_fits c again h are e all = go h.pending e
-    where
-      by_rule : (o : Option Rule) (vs : List Text) → MayBeOption o → option_map_or (λ a. use_passes again a vs h.rows) o true ≡ true
-          → AllFit (Walk.used_by_id o vs h.rows)
-      by_rule None vs is e = all
-      by_rule (Some a) vs is e = used_fits again a vs h.rows is e all
-
-      go : (o : Option (Text × List Text)) → option_map_or (λ p. option_map_or (λ a. use_passes again a p.1 h.rows) (arg_by_id c p.0) true) o true ≡ true
-          → AllFit (Walk.settled_rows c o h.rows)
-      go None e = all
-      go (Some p) e = by_rule (arg_by_id c p.0) p.1 (find_option (λ a. bytes_eq a.id p.0) c are) e
+  settled_fits c again h are e all = grind (arith, used_fits, find_option)
 
   reacted_fits : (c : List Rule) (again : Bool) (a : Rule) (vs : List Text) (h : Held) → AreOptions c → IsOption a
       → Takes.react_passes c again a vs h ≡ true → AllFit h.rows → AllFit (reacted c a vs h).rows
-  reacted_fits c again a vs h are is e all =
-      let p = both (Takes.settle_passes c again h) _ e in
-      used_fits again a vs (settled c h).rows is p.1 (settled_fits c again h are p.0 all)
+  reacted_fits c again a vs h are is e all = grind (arith, both, used_fits, settled_fits)
 
   option_fits : (c : List Rule) (again : Bool) (a : Rule) (v : Option Text) (h : Held) → AreOptions c → IsOption a
       → Takes.option_passes c again a v h ≡ true → AllFit h.rows → AllFit (Walk.option_met c a v h).0.rows
@@ -155,49 +128,28 @@ module _ (id : Text) (q : ValueParser) where
 
   long_fits : (c : List Rule) (again : Bool) (o : Option Rule) (v : Option Text) (h : Held) → AreOptions c → MayBeOption o
       → Takes.long_passes c again o v h ≡ true → AllFit h.rows → AllFit (Walk.long_met c o v h).0.rows
-  long_fits c again None v h are is e all = all
-  long_fits c again (Some a) v h are is e all = go (takes_values a) v e
-    where
-      go : (b : Bool) (w : Option Text) → cond b (Takes.option_passes c again a w h) (not (is_some w) && Takes.react_passes c again a [] h) ≡ true
-          → AllFit (cond b (Walk.option_met c a w h) (Walk.flag_met c a w h)).0.rows
-      go true w e = option_fits c again a w h are is e all
-      go false None e = reacted_fits c again a [] h are is e all
-      go false (Some w) e = all
+  long_fits c again o v h are is e all = grind (arith, option_fits, reacted_fits)
 
   short_fits : (c : List Rule) (again : Bool) (o : Option Rule) (rest : Text) (h : Held) (met : Held → Held × Outcome) (passes : Held → Bool)
       → AreOptions c → MayBeOption o → ((k : Held) → passes k ≡ true → AllFit k.rows → AllFit (met k).0.rows)
       → Takes.short_passes c again o rest h passes ≡ true → AllFit h.rows → AllFit (Walk.short_met c o rest h met).0.rows
-  short_fits c again None rest h met passes are is fits e all = all
-  short_fits c again (Some a) rest h met passes are is fits e all = go (takes_values a) e
-    where
-      go : (b : Bool) → cond b (Takes.option_passes c again a (attached_value rest) h) (Takes.react_passes c again a [] h && passes (reacted c a [] h)) ≡ true
-          → AllFit (cond b (Walk.option_met c a (attached_value rest) h) (met (reacted c a [] h))).0.rows
-      go true e = option_fits c again a (attached_value rest) h are is e all
-      go false e =
-          let p = both (Takes.react_passes c again a [] h) _ e in
-          fits (reacted c a [] h) p.1 (reacted_fits c again a [] h are is p.0 all)
+  short_fits c again o rest h met passes are is fits e all = grind (arith, option_fits, both, reacted_fits)
 
   bundle_step_fits : (c : List Rule) (again : Bool) (o : Option ℕ) (flags : Text) (skip : ℕ) (so_far : Outcome) (h : Held)
       (met : Text → ℕ → Outcome → Held → Held × Outcome) (passes : Text → ℕ → Held → Bool)
       → AreOptions c → ((t : Text) (n : ℕ) (x : Outcome) (k : Held) → passes t n k ≡ true → AllFit k.rows → AllFit (met t n x k).0.rows)
       → Takes.bundle_step_passes c again o flags skip h passes ≡ true → AllFit h.rows → AllFit (Walk.bundle_step c o flags skip so_far h met).0.rows
-  bundle_step_fits c again None flags skip so_far h met passes are fits e all = all
-  bundle_step_fits c again (Some x) flags zero so_far h met passes are fits e all =
-      let rest = drop (length (encode_utf8 x)) flags in
-      short_fits c again (arg_by_short c x) rest h (met rest 0 done) (passes rest 0) are (find_option _ c are) (fits rest 0 done) e all
-  bundle_step_fits c again (Some x) flags (suc skip) so_far h met passes are fits e all = fits _ skip so_far h e all
+  bundle_step_fits c again o flags skip so_far h met passes are fits e all = grind (arith, short_fits, find_option)
 
   bundle_fits : (c : List Rule) (again : Bool) → AreOptions c → (k : ℕ) (flags : Text) (skip : ℕ) (so_far : Outcome) (h : Held)
       → Takes.flags_pass c again k flags skip h ≡ true → AllFit h.rows → AllFit (Walk.bundle_met c k flags skip so_far h).0.rows
   unfolding Walk.bundle_met Takes.flags_pass
   bundle_fits c again are zero flags skip so_far h e all = all
-  bundle_fits c again are (suc k) flags skip so_far h e all =
-      bundle_step_fits c again (slice_get (chars flags) 0) flags skip so_far h (Walk.bundle_met c k) (Takes.flags_pass c again k) are (bundle_fits c again are k) e all
+  bundle_fits c again are (suc k) flags skip so_far h e all = grind (arith, bundle_step_fits, bundle_fits c again are k)
 
   -- a word that is no flag changes no row
   option_word_rows : (o : Option Rule) (name word : Text) (h : Held) → (Walk.option_word o name word h).0.rows ≡ h.rows
-  option_word_rows None name word h = refl
-  option_word_rows (Some a) name word h = refl
+  option_word_rows o name word h = grind arith
 
   plain_word_rows : (c : List Rule) (waiting : Waiting) (word : Text) (h : Held) → (Walk.plain_word c waiting word h).0.rows ≡ h.rows
   plain_word_rows c idle word h = refl
@@ -212,26 +164,11 @@ module _ (id : Text) (q : ValueParser) where
 
   flag_word_fits : (c : List Rule) (again : Bool) (waiting : Waiting) (o : Option (Text × Option Text)) (word : Text) (h : Held) → AreOptions c
       → Takes.flag_word_passes c again o word h ≡ true → AllFit h.rows → AllFit (Walk.long_or_other c waiting word o h).0.rows
-  flag_word_fits c again waiting (Some p) word h are e all =
-      let met = Walk.long_met c (arg_by_long c p.0) p.1 h in
-      subst AllFit (sym (after_flag_rows c waiting word met.0 met.1)) (long_fits c again (arg_by_long c p.0) p.1 h are (find_option _ c are) e all)
-  flag_word_fits c again waiting None word h are e all = go (short_of word) e
-    where
-      go : (o : Option Text) → option_map_or (λ flags. Takes.bundle_passes c again flags h) o true ≡ true → AllFit (Walk.short_or_plain c waiting word o h).0.rows
-      go None e = subst AllFit (sym (plain_word_rows c waiting word h)) all
-      go (Some flags) e =
-          let met = Walk.bundle c flags h in
-          subst AllFit (sym (after_flag_rows c waiting word met.0 met.1)) (bundle_fits c again are (length flags) flags h.skip plain (record h { skip = 0 }) e all)
+  flag_word_fits c again waiting o word h are e all = grind (arith, after_flag_rows, long_fits, find_option, plain_word_rows, bundle_fits)
 
   other_fits : (s : Shape) (o : Option Text) (waiting : Waiting) (position : ℕ) (word : Text) (h : Held) → AreOptions s.rules
       → Takes.other_passes s o word h ≡ true → AllFit h.rows → AllFit (Walk.subcommand_or_other s.rules o waiting position word h).0.rows
-  other_fits s (Some name) waiting position word h are e all = all
-  other_fits s None waiting position word h are e all = go (bytes_eq word (45 ∷ 45 ∷ [])) e
-    where
-      go : (b : Bool) → (b || Takes.flag_word_passes s.rules s.args_override_self (long_of word) word h) ≡ true
-          → AllFit (cond b (h, trailing position) (Walk.long_or_other s.rules waiting word (long_of word) h)).0.rows
-      go true e = all
-      go false e = flag_word_fits s.rules s.args_override_self waiting (long_of word) word h are e all
+  other_fits s o waiting position word h are e all = grind (arith, flag_word_fits)
 
   word_fits : (s : Shape) (names : Names) (is_trailing : Bool) (waiting : Waiting) (position : ℕ) (word : Text) (h : Held) → AreOptions s.rules
       → Takes.word_passes s names is_trailing waiting word h ≡ true → AllFit h.rows → AllFit (word_met s.rules names is_trailing waiting position word h).0.rows
@@ -240,11 +177,7 @@ module _ (id : Text) (q : ValueParser) where
 
   positional_fits : (c : List Rule) (again : Bool) (a : Rule) (word : Text) (h : Held) → AreOptions c
       → Takes.positional_passes c again a h ≡ true → AllFit h.rows → AllFit (Walk.positional_held c a word h).rows
-  positional_fits c again a word h are e all = go (is_pending a h.pending && takes_several a) e
-    where
-      go : (b : Bool) → (b || Takes.settle_passes c again h) ≡ true → AllFit (cond b h (settled c h)).rows
-      go true e = all
-      go false e = settled_fits c again h are e all
+  positional_fits c again a word h are e all = grind (arith, settled_fits)
 
   step_fits : (s : Shape) (w : Walk) (word : Text) (h : Held) (step : Step) → AreOptions s.rules
       → Takes.step_passes s w.position h step ≡ true → AllFit h.rows → AllFit (Walk.after_step s.rules word w h step).held.rows
@@ -261,18 +194,7 @@ module _ (id : Text) (q : ValueParser) where
   turn_fits : (s : Shape) (names : Names) (w : Walk) (word : Text) → AreOptions s.rules → Takes.turn_passes s names w word ≡ true → AllFit w.held.rows
       → AllFit (walked s.rules names w word).held.rows
   unfolding walked
-  turn_fits s names w word are e all = go w.stopped e
-    where
-      met : Held × Step
-      met = word_met s.rules names w.is_trailing w.waiting w.position word w.held
-
-      go : (o : Option (Text × List Text))
-          → (is_some o || (Takes.word_passes s names w.is_trailing w.waiting word w.held && Takes.step_passes s w.position met.0 met.1)) ≡ true
-          → AllFit (Walk.walked_from s.rules names o w word).held.rows
-      go (Some p) e = all
-      go None e =
-          let p = both (Takes.word_passes s names w.is_trailing w.waiting word w.held) _ e in
-          step_fits s w word met.0 met.1 are p.1 (word_fits s names w.is_trailing w.waiting w.position word w.held are p.0 all)
+  turn_fits s names w word are e all = grind (arith, both, step_fits, word_fits)
 
   walk_fits : (s : Shape) (names : Names) (w : Walk) (words : List Text) → AreOptions s.rules → Takes.walk_passes s names w words ≡ true → AllFit w.held.rows
       → AllFit (fold (walked s.rules names) w words).held.rows
@@ -310,20 +232,10 @@ module _ (id : Text) (q : ValueParser) where
   with_values_keeps : (k : Text) (how : Reading) (s : ValueSource) (vs : List Text) (rows : List Row) → has_row id rows ≡ true
       → has_row id (with_values k how s vs rows) ≡ true
   with_values_keeps k how s vs [] e = cc
-  with_values_keeps k how s vs (r ∷ rs) e = go (bytes_eq r.id k) (or_later (bytes_eq r.id id) _ _ (with_values_keeps k how s vs rs) e)
-    where
-      go : (b : Bool) → (bytes_eq r.id id || has_row id (with_values k how s vs rs)) ≡ true
-          → has_row id (cond b (more_values s vs r ++ rs) (r ∷ with_values k how s vs rs)) ≡ true
-      go true later = e
-      go false later = later
+  with_values_keeps k how s vs (r ∷ rs) e = grind (arith, or_later, with_values_keeps k how s vs rs)
 
   default_keeps : (a : Rule) (rows : List Row) → has_row id rows ≡ true → has_row id (with_default rows a) ≡ true
-  default_keeps a rows e = go (has_row a.id rows) a.defaults
-    where
-      go : (b : Bool) (vs : List Text) → has_row id (cond b rows (default_rows a.id (reading_by a) vs rows)) ≡ true
-      go true vs = e
-      go false [] = e
-      go false (v ∷ vs) = with_values_keeps a.id (reading_by a) DefaultValue (v ∷ vs) rows e
+  default_keeps a rows e = grind (arith, with_values_keeps)
 
   defaults_keep : (c : List Rule) (rows : List Row) → has_row id rows ≡ true → has_row id (fold with_default rows c) ≡ true
   defaults_keep [] rows e = e
@@ -333,20 +245,10 @@ module _ (id : Text) (q : ValueParser) where
   with_values_gives : (k : Text) (how : Reading) (s : ValueSource) (vs : List Text) (rows : List Row) → bytes_eq k id ≡ true → has_row k rows ≡ false
       → has_row id (with_values k how s vs rows) ≡ true
   with_values_gives k how s vs [] same none = rw same refl
-  with_values_gives k how s vs (r ∷ rs) same none = go (bytes_eq r.id k) (with_values_gives k how s vs rs same) none
-    where
-      go : (b : Bool) → (has_row k rs ≡ false → has_row id (with_values k how s vs rs) ≡ true) → (b || has_row k rs) ≡ false
-          → has_row id (cond b (more_values s vs r ++ rs) (r ∷ with_values k how s vs rs)) ≡ true
-      go true later none = cc
-      go false later none = or_right (bytes_eq r.id id) _ (later none)
+  with_values_gives k how s vs (r ∷ rs) same none = grind (arith, or_right, with_values_gives k how s vs rs same)
 
   default_gives : (a : Rule) (rows : List Row) → bytes_eq a.id id ≡ true → is_empty a.defaults ≡ false → has_row id (with_default rows a) ≡ true
-  default_gives a rows same some = go (has_row a.id rows) refl a.defaults some
-    where
-      go : (b : Bool) → has_row a.id rows ≡ b → (vs : List Text) → is_empty vs ≡ false → has_row id (cond b rows (default_rows a.id (reading_by a) vs rows)) ≡ true
-      go true has vs some = subst (λ k. has_row k rows ≡ true) ((bytes_eq-Decides a.id id).0 same) has
-      go false has [] some = cc
-      go false has (v ∷ vs) some = with_values_gives a.id (reading_by a) DefaultValue (v ∷ vs) rows same has
+  default_gives a rows same some = grind (arith, bytes_eq-Decides, with_values_gives)
 
   -- one of the arguments has the id and a default
   abbrev pub has_default : List Rule → Bool
@@ -370,12 +272,7 @@ module _ (id : Text) (q : ValueParser) where
   -- what is given has a row
   given_has : (k : Text) (rows : List Row) → is_given k rows ≡ true → has_row k rows ≡ true
   given_has k [] e = cc
-  given_has k (r ∷ rs) e = go (bytes_eq r.id k) (given_has k rs) e
-    where
-      go : (b : Bool) → (is_given k rs ≡ true → has_row k rs ≡ true)
-          → option_map_or (λ (q : Row). explicit_source q.source) (cond b (Some r) (find (λ q. bytes_eq q.id k) rs)) false ≡ true → (b || has_row k rs) ≡ true
-      go true later e = refl
-      go false later e = later e
+  given_has k (r ∷ rs) e = grind (arith, given_has k rs)
 
   required_give : (rows : List Row) (c : List Rule) → has_required c ≡ true → list_all (λ a. not a.required || is_given a.id rows) c ≡ true → has_row id rows ≡ true
   required_give rows [] e given = cc
@@ -424,31 +321,14 @@ module _ (id : Text) (q : ValueParser) where
 
   -- the rows of a level that takes the words
   level_fits : (s : Shape) (words : List Text) → AreOptions s.rules → level_passes s [] nothing_held words false ≡ true → AllFit (rows_after s.rules [] words)
-  level_fits s words are e =
-      let end = (Walk.walk s.rules [] nothing_held words).held in
-      let a = both (Takes.walk_passes s [] (walk_from nothing_held) words) _ e in
-      let b = both (Takes.settle_passes s.rules s.args_override_self end) _ a.1 in
-      let c = both (list_all default_passes s.rules) _ b.1 in
-      let walked = walk_fits s [] (walk_from nothing_held) words are a.0 tt in
-      defaults_fit s.rules (settled s.rules end).rows are c.0 (settled_fits s.rules s.args_override_self end are b.0 walked)
+  level_fits s words are e = grind (arith, both, walk_fits, defaults_fit, settled_fits)
 
   -- it has a text for an option with a default
   pub level_default : (s : Shape) (words : List Text) → AreOptions s.rules → has_default s.rules ≡ true → level_passes s [] nothing_held words false ≡ true
       → HasText (rows_after s.rules [] words)
-  level_default s words are default e =
-      let rows = (settled s.rules (Walk.walk s.rules [] nothing_held words).held).rows in
-      text_in (rows_after s.rules [] words) (defaults_give s.rules rows default) (level_fits s words are e)
+  level_default s words are default e = search (text_in, defaults_give, level_fits)
 
   -- and for one that must be given
   pub level_required : (s : Shape) (words : List Text) → AreOptions s.rules → has_required s.rules ≡ true → level_passes s [] nothing_held words false ≡ true
       → HasText (rows_after s.rules [] words)
-  level_required s words are required e =
-      let rows = rows_after s.rules [] words in
-      let end = (Walk.walk s.rules [] nothing_held words).held in
-      let a = both (Takes.walk_passes s [] (walk_from nothing_held) words) _ e in
-      let b = both (Takes.settle_passes s.rules s.args_override_self end) _ a.1 in
-      let c = both (list_all default_passes s.rules) _ b.1 in
-      let d = both (not s.arg_required_else_help || list_any (λ r. explicit_source r.source) rows) _ c.1 in
-      let f = both (not s.subcommand_required || false) _ d.1 in
-      let g = both (list_all (λ a. a.is_free) s.rules) _ f.1 in
-      text_in rows (required_give rows s.rules required (not_lifted s.subcommand_negates_reqs _ g.1)) (level_fits s words are e)
+  level_required s words are required e = grind (arith, both, text_in, required_give, not_lifted, level_fits)

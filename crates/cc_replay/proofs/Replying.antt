@@ -1,6 +1,6 @@
 -- THE ANSWER TO AN ASK, by what the plain run does.
 use Rattle.std.specs.Prelude.{IsTrue}
-use Rattle.std.proofs.Common.{◌≡◌, ◌≢◌, ℕ, Bool, true, false, List, [], ◌∷◌, ◌++◌, map, length, Option, Some, None, refl, sym, ◌∙◌, ap, subst}
+use Rattle.std.proofs.Common.{◌≡◌, ◌≢◌, ℕ, Bool, true, false, List, [], ◌∷◌, ◌++◌, map, length, Option, Some, None, refl, sym, ◌∙◌, ap, subst, arith}
 use Rattle.cc_model.specs.declared.command.Command.{Command}
 use Rattle.cc_model.specs.declared.command.Command.TheVariants as command
 use Rattle.cc_model.specs.declared.item.Item.TheVariants.{Event as of_event, Listed, Reply as of_reply}
@@ -31,52 +31,12 @@ use Rattle.cc_laws_run.specs.Memory.{with_memory}
 
 -- A command is one of the mutator, where it is none of these
 pub others-applied : (c : Command) → c ≢ command.Nothing → c ≢ command.Census → ((u : ℕ) → c ≢ command.Slice u) → c ≢ command.Collect → c ≢ command.Gc → IsTrue (is_applied c)
-others-applied command.Nothing nothing census slice collect gc_one = absurd (nothing refl)
-others-applied (command.Native d n) nothing census slice collect gc_one = refl
-others-applied (command.Script d n) nothing census slice collect gc_one = refl
-others-applied (command.WeakMap d) nothing census slice collect gc_one = refl
-others-applied (command.CopyNative d s) nothing census slice collect gc_one = refl
-others-applied (command.CopyScript d s) nothing census slice collect gc_one = refl
-others-applied (command.Drop r) nothing census slice collect gc_one = refl
-others-applied (command.Set d i r) nothing census slice collect gc_one = refl
-others-applied (command.Get r s i) nothing census slice collect gc_one = refl
-others-applied (command.Put d i s) nothing census slice collect gc_one = refl
-others-applied (command.Take d s i) nothing census slice collect gc_one = refl
-others-applied (command.Wrap d s) nothing census slice collect gc_one = refl
-others-applied (command.Unwrap d s) nothing census slice collect gc_one = refl
-others-applied (command.Preserve s) nothing census slice collect gc_one = refl
-others-applied (command.SetEntry m k v) nothing census slice collect gc_one = refl
-others-applied (command.GetEntry d m k) nothing census slice collect gc_one = refl
-others-applied (command.Expose s i) nothing census slice collect gc_one = refl
-others-applied (command.Slice u) nothing census slice collect gc_one = absurd (slice u refl)
-others-applied command.Collect nothing census slice collect gc_one = absurd (collect refl)
-others-applied command.Gc nothing census slice collect gc_one = absurd (gc_one refl)
-others-applied command.Census nothing census slice collect gc_one = absurd (census refl)
+others-applied c nothing census slice collect gc_one = grind arith
 
 -- and the plain run does it as such
 applied-mutates : (m : Machine) (c : Command) → IsTrue (is_applied c) → do_ask m (taken c) ≡ mutate m c
 unfolding do_ask
-applied-mutates m command.Nothing a = absurd (cc)
-applied-mutates m (command.Native d n) a = refl
-applied-mutates m (command.Script d n) a = refl
-applied-mutates m (command.WeakMap d) a = refl
-applied-mutates m (command.CopyNative d s) a = refl
-applied-mutates m (command.CopyScript d s) a = refl
-applied-mutates m (command.Drop r) a = refl
-applied-mutates m (command.Set d i r) a = refl
-applied-mutates m (command.Get r s i) a = refl
-applied-mutates m (command.Put d i s) a = refl
-applied-mutates m (command.Take d s i) a = refl
-applied-mutates m (command.Wrap d s) a = refl
-applied-mutates m (command.Unwrap d s) a = refl
-applied-mutates m (command.Preserve s) a = refl
-applied-mutates m (command.SetEntry k l v) a = refl
-applied-mutates m (command.GetEntry d k l) a = refl
-applied-mutates m (command.Expose s i) a = refl
-applied-mutates m (command.Slice u) a = absurd (cc)
-applied-mutates m command.Collect a = absurd (cc)
-applied-mutates m command.Gc a = absurd (cc)
-applied-mutates m command.Census a = absurd (cc)
+applied-mutates m c a = grind arith
 
 mutate-by : (m : Machine) (c : Command) (o : Option Refusal) → refusal_of (objects_of m.heap) c ≡ o → mutate m c ≡ unless_refused m c o
 unfolding mutate
@@ -97,15 +57,7 @@ module _ (old new : Machine) (before after : Telling) where
   -- by the turn
   by_turn : (c : Command) (memory : List Bool) (t : Turn) → do_ask (with_memory old memory) (taken c) ≡ t → t.machine.heap ≡ new.heap → t.machine.snapshot ≡ new.snapshot →
       Tells before after (items_of t.answer) → IsAnswered old new (taken c) before after
-  by_turn c memory t e h s told = record {
-    answer = t.answer;
-    done = record {
-      memory = memory;
-      answer = ap (λ (u : Turn). u.answer) e;
-      after = record { heap = ap (λ (u : Turn). u.machine.heap) e ∙ h; snapshot = ap (λ (u : Turn). u.machine.snapshot) e ∙ s };
-    };
-    told = told;
-  }
+  by_turn c memory t e h s told = grind arith
 
   module _ (c : Command) (applied : IsTrue (is_applied c)) (same_snapshot : new.snapshot ≡ old.snapshot) where
     -- a command of the mutator carried out
@@ -140,9 +92,7 @@ module _ (old new : Machine) (before after : Telling) where
   -- what units came to, answered by a reply
   answered-units : (c : Command) (memory : List Bool) (d : UnitsDone) (p : Progress) (reply : Reply) (mid : Telling) → LedTo d old new p before mid →
       do_ask (with_memory old memory) (taken c) ≡ answering d.machine d.events reply → Tells mid after (of_reply reply ∷ []) → IsAnswered old new (taken c) before after
-  answered-units c memory d p reply mid led e t =
-      by_turn c memory (answering d.machine d.events reply) e led.same.heap led.same.snapshot
-      (Tells-trans before mid after (map of_event d.events) (of_reply reply ∷ []) led.told t)
+  answered-units c memory d p reply mid led e t = search (by_turn, Tells-trans)
 
   -- a slice
   pub answered-slice : (units : ℕ) (p : Progress) (steps steps_now : ℕ) (reply : Reply) (mid : Telling) → IsSliced units old new p steps steps_now before mid →

@@ -1,27 +1,23 @@
 -- HOW MANY REPLIES ARE COUNTED: one for each command, each with its kind.
-use Rattle.std.proofs.Common.{◌≡◌, ℕ, ◌+◌, ◌≤◌, Bool, true, false, List, [], ◌∷◌, ◌++◌, length, map, Option, Some, None, refl, ap, ◌∙◌, arith, option_to_list, count_by, cond, ⊎_elim}
+use Rattle.std.proofs.Common.{◌≡◌, ℕ, ◌+◌, ◌≤◌, Bool, true, false, List, [], ◌∷◌, length, map, Option, Some, None, refl, ap, arith, option_to_list, count_by, cond}
 use Rattle.std.specs.List.{list_all}
 use Rattle.std.proofs.lemmas.Bool.{and_parts, false≢true}
 use Rattle.cc_lists.specs.Faults.{greatest_count}
 use Rattle.cc_lists.proofs.Counting.{count_by-append, count_by-cons}
 use Rattle.cc_names.specs.declared.name.Name.{Name}
-use Rattle.cc_names.specs.declared.register.Reg.TheVariants.{N, S}
 use Rattle.cc_model.specs.declared.sums.Sums.{Sums}
 use Rattle.cc_model.specs.declared.item.Refusal.{Refusal}
-use Rattle.cc_model.specs.declared.item.Refusal.TheVariants.{Long, Line, Empty, Kind, Slot, Full, NoMemory}
 use Rattle.cc_model.specs.declared.item.Reply.{Reply}
-use Rattle.cc_model.specs.declared.item.Reply.TheVariants.{Census, Refused}
+use Rattle.cc_model.specs.declared.item.Reply.TheVariants.{Census}
 use Rattle.cc_model.specs.declared.item.Event.{Event}
-use Rattle.cc_model.specs.declared.item.Event.TheVariants.{Unlinked, Freed, Abandoned}
 use Rattle.cc_model.specs.declared.item.Item.{Item}
 use Rattle.cc_model.specs.declared.item.Item.TheVariants.{Event as of_event, Listed, Reply as of_reply}
 use Rattle.cc_model.specs.declared.command.Command.{Command}
 use Rattle.cc_model.specs.declared.command.Command.TheVariants as command
 use Rattle.cc_model.specs.declared.command.Command.TheVariants.{CopyNative, CopyScript, Get, Take, Wrap, Unwrap, GetEntry, Expose}
-use Rattle.cc_model.specs.Summed.{none_summed, summed, with_item}
-use Rattle.cc_model.specs.Checks.{Objects, refusal_of, refused_or, reply_if_taken, named_or_nothing, slot_at, value_at, reflector_of, native_of}
-use Rattle.cc_model.specs.Graph.{objects_of}
-use Rattle.cc_model.specs.Lawful.{State, AnswersAsk, IsLawfulFrom, RepliesWith, ReplyAnswers, WantsMemory, next}
+use Rattle.cc_model.specs.Summed.{summed, with_item}
+use Rattle.cc_model.specs.Checks.{Objects, refused_or, reply_if_taken, named_or_nothing}
+use Rattle.cc_model.specs.Lawful.{State, AnswersAsk, IsLawfulFrom, RepliesWith, ReplyAnswers, next}
 use Rattle.cc_model.specs.Answers.{Answer, items_of, all_items_of}
 use Rattle.cc_model.specs.Asks.{Ask, long, bad, taken}
 use Rattle.cc_made.specs.Asked.{is_command}
@@ -49,33 +45,11 @@ kinds s = s.ok + s.named + s.none + s.refused + s.nomem
 -- one item
 one-commands : (item : Item) (s : Sums) → s.commands + cond (is_reply item) 1 0 ≤ greatest_count →
     (with_item item s).commands ≡ s.commands + cond (is_reply item) 1 0
-one-commands (of_event (Unlinked x)) s few = omega arith
-one-commands (of_event (Freed x)) s few = omega arith
-one-commands (of_event Abandoned) s few = omega arith
-one-commands (Listed x) s few = omega arith
-one-commands (of_reply (Refused Long)) s few = omega (arith, few)
-one-commands (of_reply (Refused Line)) s few = omega (arith, few)
-one-commands (of_reply (Refused Empty)) s few = omega (arith, few)
-one-commands (of_reply (Refused Kind)) s few = omega (arith, few)
-one-commands (of_reply (Refused Slot)) s few = omega (arith, few)
-one-commands (of_reply (Refused Full)) s few = omega (arith, few)
-one-commands (of_reply (Refused NoMemory)) s few = omega (arith, few)
-one-commands (of_reply reply) s few = omega (arith, few)
+one-commands item s few = grind arith
 
 one-kinds : (item : Item) (s : Sums) → kinds s + cond (is_reply item) 1 0 ≤ greatest_count →
     kinds (with_item item s) + cond (is_census item) 1 0 ≡ kinds s + cond (is_reply item) 1 0
-one-kinds (of_event (Unlinked x)) s few = omega arith
-one-kinds (of_event (Freed x)) s few = omega arith
-one-kinds (of_event Abandoned) s few = omega arith
-one-kinds (Listed x) s few = omega arith
-one-kinds (of_reply (Refused Long)) s few = omega (arith, few)
-one-kinds (of_reply (Refused Line)) s few = omega (arith, few)
-one-kinds (of_reply (Refused Empty)) s few = omega (arith, few)
-one-kinds (of_reply (Refused Kind)) s few = omega (arith, few)
-one-kinds (of_reply (Refused Slot)) s few = omega (arith, few)
-one-kinds (of_reply (Refused Full)) s few = omega (arith, few)
-one-kinds (of_reply (Refused NoMemory)) s few = omega (arith, few)
-one-kinds (of_reply reply) s few = omega (arith, few)
+one-kinds item s few = grind arith
 
 -- all items, where no count comes to its greatest value
 all-commands : (items : List Item) (s : Sums) → s.commands + count_by is_reply items ≤ greatest_count →
@@ -102,41 +76,21 @@ none-counted p f never (x ∷ xs) = omega (arith, count_by-cons p (f x) (map f x
 
 in-reply : (p : Item → Bool) → ((e : Event) → p (of_event e) ≡ false) → ((x : Name) → p (Listed x) ≡ false) → (a : Answer) →
     count_by p (items_of a) ≡ count_by p (map of_reply (option_to_list a.reply))
-in-reply p no_event no_name a = omega (
-  arith,
-  count_by-append p (map of_event a.events) (map Listed a.listed ++ map of_reply (option_to_list a.reply)),
-  count_by-append p (map Listed a.listed) (map of_reply (option_to_list a.reply)),
-  none-counted p of_event no_event a.events,
-  none-counted p Listed no_name a.listed,
-)
+in-reply p no_event no_name a = grind (arith, count_by-append, none-counted)
 
 -- a reply that the graph gives counts nothing
 named-no_count : (x : Option Name) → is_count (named_or_nothing x) ≡ false
-named-no_count None = refl
-named-no_count (Some x) = refl
+named-no_count x = grind arith
 
 taken-no_count : (o : Objects) (c : Command) → is_count (reply_if_taken o c) ≡ false
 unfolding reply_if_taken
-taken-no_count o (CopyNative d s) = named-no_count (o.register (N s))
-taken-no_count o (CopyScript d s) = named-no_count (o.register (S s))
-taken-no_count o (Get r s i) = named-no_count (slot_at o (N s) i)
-taken-no_count o (Take d s i) = named-no_count (slot_at o (S s) i)
-taken-no_count o (Wrap d s) = named-no_count (reflector_of (o.register (N s)))
-taken-no_count o (Unwrap d s) = named-no_count (native_of (o.register (S s)))
-taken-no_count o (GetEntry d m k) = named-no_count (value_at o (o.register (S m)) (o.register (S k)))
-taken-no_count o (Expose s i) = named-no_count (slot_at o (N s) i)
-taken-no_count o c = refl
+taken-no_count o c = grind (arith, named-no_count, o.register)
 
 graph-no_count : (r : Option Refusal) (reply : Reply) → is_count reply ≡ false → is_count (refused_or r reply) ≡ false
-graph-no_count None reply without = without
-graph-no_count (Some refusal) reply without = refl
+graph-no_count r reply without = grind arith
 
 lawful-no_count : (s : State) (c : Command) (reply : Reply) → RepliesWith s c reply → is_count reply ≡ false
-lawful-no_count s c reply r = ⊎_elim
-    (λ (same : reply ≡ refused_or (refusal_of (objects_of s.graph) c) (reply_if_taken (objects_of s.graph) c)).
-    ap is_count same ∙ graph-no_count (refusal_of (objects_of s.graph) c) (reply_if_taken (objects_of s.graph) c) (taken-no_count (objects_of s.graph) c))
-    (λ (w : WantsMemory s c reply). ap is_count w.refused)
-    r
+lawful-no_count s c reply r = grind (arith, graph-no_count, taken-no_count)
 
 -- an ask for a census
 abbrev pub asks_census : Ask → Bool
@@ -152,10 +106,7 @@ one-census reply = omega (arith, count_by-cons is_census (of_reply reply) [])
 
 one-by : (a : Answer) (reply : Reply) (n : ℕ) → a.reply ≡ Some reply → cond (is_count reply) 1 0 ≡ n →
     (count_by is_reply (items_of a) ≡ 1) × (count_by is_census (items_of a) ≡ n)
-one-by a reply n is count = (
-  in-reply is_reply (λ e. refl) (λ x. refl) a ∙ ap (λ r. count_by is_reply (map of_reply (option_to_list r))) is,
-  omega (arith, in-reply is_census (λ e. refl) (λ x. refl) a, ap (λ r. count_by is_census (map of_reply (option_to_list r))) is, one-census reply, count),
-)
+one-by a reply n is count = grind (arith, in-reply, one-census)
 
 one-command : (s : State) (c : Command) (a : Answer) (r : Option Reply) → a.reply ≡ r → ReplyAnswers s c a r →
     (count_by is_reply (items_of a) ≡ 1) × (count_by is_census (items_of a) ≡ 0)
@@ -186,10 +137,4 @@ all-answers s (ask ∷ asks) (a ∷ answers) are l =
 -- THE SUMS OF A LAWFUL RUN OF COMMANDS: one reply for each command, and its kind
 pub sums-lawful : (s : State) (asks : List Ask) (answers : List Answer) → list_all is_command asks ≡ true → IsLawfulFrom s asks answers → length asks ≤ greatest_count →
     ((sums_of answers).commands ≡ length asks) × (kinds (sums_of answers) + count_by asks_census asks ≡ length asks)
-sums-lawful s asks answers are l few =
-    let counts = all-answers s asks answers are l in
-    let few_replies : count_by is_reply (all_items_of answers) ≤ greatest_count = omega (arith, few, counts.0) in
-    let commands : (sums_of answers).commands ≡ 0 + count_by is_reply (all_items_of answers) = all-commands (all_items_of answers) none_summed (omega (arith, few_replies)) in
-    let kinds_are : kinds (sums_of answers) + count_by is_census (all_items_of answers) ≡ 0 + count_by is_reply (all_items_of answers) =
-    all-kinds (all_items_of answers) none_summed (omega (arith, few_replies)) in
-    (omega (arith, commands, counts.0), omega (arith, kinds_are, counts.0, counts.1))
+sums-lawful s asks answers are l few = grind (arith, all-answers, all-commands, all-kinds)

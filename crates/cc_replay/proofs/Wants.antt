@@ -1,19 +1,15 @@
 -- SUMS THAT COUNT NO WANT OF MEMORY: none was told.
-use Rattle.std.proofs.Common.{◌≡◌, ℕ, ◌+◌, ◌≤◌, Bool, false, List, [], ◌∷◌, ◌++◌, map, Option, Some, None, refl, ap, arith, option_to_list, count_by, cond}
+use Rattle.std.proofs.Common.{◌≡◌, ℕ, ◌+◌, ◌≤◌, Bool, false, List, [], ◌∷◌, map, Option, refl, ap, arith, option_to_list, count_by, cond}
 use Rattle.cc_lists.specs.Faults.{raised}
 use Rattle.cc_lists.proofs.Counting.{count_by-append, count_by-cons, count_by-map}
 use Rattle.cc_model.specs.declared.sums.Sums.{Sums}
-use Rattle.cc_model.specs.declared.item.Refusal.TheVariants.{Long, Line, Empty, Kind, Slot, Full, NoMemory}
 use Rattle.cc_model.specs.declared.item.Reply.{Reply}
-use Rattle.cc_model.specs.declared.item.Reply.TheVariants.{Refused}
-use Rattle.cc_model.specs.declared.item.Event.TheVariants.{Unlinked, Freed, Abandoned}
 use Rattle.cc_model.specs.declared.item.Item.{Item}
 use Rattle.cc_model.specs.declared.item.Item.TheVariants.{Event as of_event, Listed, Reply as of_reply}
-use Rattle.cc_model.specs.declared.command.Command.TheVariants.{Gc}
-use Rattle.cc_model.specs.Summed.{none_summed, summed, with_item}
+use Rattle.cc_model.specs.Summed.{summed, with_item}
 use Rattle.cc_model.specs.Lawful.{is_abandonment, is_without_memory}
 use Rattle.cc_model.specs.Answers.{Answer, items_of, all_items_of}
-use Rattle.cc_model.specs.Asks.{Ask, taken}
+use Rattle.cc_model.specs.Asks.{Ask}
 use Rattle.cc_laws_run.specs.Memory.{noes_of_reply, noes_told, all_noes_told}
 use Rattle.cc_replay.specs.Summaries.{sums_of}
 
@@ -34,32 +30,10 @@ raised-some n e = omega (arith, e)
 
 -- where an item leaves none counted, none was counted before, and it is none
 unmet-before : (item : Item) (s : Sums) → (with_item item s).nomem ≡ 0 → (s.nomem ≡ 0) × (is_unmet item ≡ false)
-unmet-before (of_event (Unlinked x)) s n = (n, refl)
-unmet-before (of_event (Freed x)) s n = (n, refl)
-unmet-before (of_event Abandoned) s n = (n, refl)
-unmet-before (Listed x) s n = (n, refl)
-unmet-before (of_reply (Refused Long)) s n = (n, refl)
-unmet-before (of_reply (Refused Line)) s n = (n, refl)
-unmet-before (of_reply (Refused Empty)) s n = (n, refl)
-unmet-before (of_reply (Refused Kind)) s n = (n, refl)
-unmet-before (of_reply (Refused Slot)) s n = (n, refl)
-unmet-before (of_reply (Refused Full)) s n = (n, refl)
-unmet-before (of_reply (Refused NoMemory)) s n = absurd (raised-some s.nomem n)
-unmet-before (of_reply reply) s n = (n, refl)
+unmet-before item s n = grind (arith, raised-some)
 
 given_up-before : (item : Item) (s : Sums) → (with_item item s).abandoned ≡ 0 → (s.abandoned ≡ 0) × (is_given_up item ≡ false)
-given_up-before (of_event (Unlinked x)) s a = (a, refl)
-given_up-before (of_event (Freed x)) s a = (a, refl)
-given_up-before (of_event Abandoned) s a = absurd (raised-some s.abandoned a)
-given_up-before (Listed x) s a = (a, refl)
-given_up-before (of_reply (Refused Long)) s a = (a, refl)
-given_up-before (of_reply (Refused Line)) s a = (a, refl)
-given_up-before (of_reply (Refused Empty)) s a = (a, refl)
-given_up-before (of_reply (Refused Kind)) s a = (a, refl)
-given_up-before (of_reply (Refused Slot)) s a = (a, refl)
-given_up-before (of_reply (Refused Full)) s a = (a, refl)
-given_up-before (of_reply (Refused NoMemory)) s a = (a, refl)
-given_up-before (of_reply reply) s a = (a, refl)
+given_up-before item s a = grind (arith, raised-some)
 
 -- where a count is zero after items, none of them is counted there
 none-counted : (count : Sums → ℕ) (test : Item → Bool) → ((item : Item) (s : Sums) → count (with_item item s) ≡ 0 → (count s ≡ 0) × (test item ≡ false)) →
@@ -78,28 +52,16 @@ none-given_up items s e = (none-counted (λ (t : Sums). t.abandoned) is_given_up
 
 -- what an answer tells of memory is among its items
 in-reply : (r : Option Reply) → noes_of_reply r ≤ count_by is_unmet (map of_reply (option_to_list r))
-in-reply None = omega arith
-in-reply (Some (Refused NoMemory)) = omega arith
-in-reply (Some reply) = omega arith
+in-reply r = grind arith
 
 pub reply-counted : (a : Answer) → noes_of_reply a.reply ≤ count_by is_unmet (items_of a)
-reply-counted a = omega (
-  arith,
-  count_by-append is_unmet (map of_event a.events) (map Listed a.listed ++ map of_reply (option_to_list a.reply)),
-  count_by-append is_unmet (map Listed a.listed) (map of_reply (option_to_list a.reply)),
-  in-reply a.reply,
-)
+reply-counted a = grind (arith, count_by-append, in-reply)
 
 events-counted : (a : Answer) → count_by is_abandonment a.events ≤ count_by is_given_up (items_of a)
-events-counted a = omega (
-  arith,
-  count_by-append is_given_up (map of_event a.events) (map Listed a.listed ++ map of_reply (option_to_list a.reply)),
-  count_by-map is_given_up of_event a.events,
-)
+events-counted a = grind (arith, count_by-append, count_by-map)
 
 in-ask : (ask : Ask) (a : Answer) → noes_told ask a ≤ count_by is_abandonment a.events + noes_of_reply a.reply
-in-ask (taken Gc) a = omega arith
-in-ask ask a = omega arith
+in-ask ask a = grind arith
 
 in-answers : (asks : List Ask) (answers : List Answer) →
     all_noes_told asks answers ≤ count_by is_given_up (all_items_of answers) + count_by is_unmet (all_items_of answers)
@@ -117,5 +79,4 @@ in-answers (ask ∷ asks) (a ∷ answers) = omega (
 
 -- SUMS THAT COUNT NO WANT OF MEMORY AND NO ABANDONMENT are of answers that tell none
 pub none-told : (asks : List Ask) (answers : List Answer) → (sums_of answers).nomem ≡ 0 → (sums_of answers).abandoned ≡ 0 → all_noes_told asks answers ≡ 0
-none-told asks answers n a =
-    omega (arith, in-answers asks answers, none-unmet (all_items_of answers) none_summed n, none-given_up (all_items_of answers) none_summed a)
+none-told asks answers n a = grind (arith, in-answers, none-unmet, none-given_up)

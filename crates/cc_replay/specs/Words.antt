@@ -33,7 +33,7 @@ number_option name most default = record (named_option name) {
 abbrev pub natives_option : Rule
 natives_option = number_option (codes "natives") 1000000 (codes "1000000")
 
--- the limit on plain objects and weak maps
+-- the limit on plain objects, weak maps and proxies
 abbrev pub scripts_option : Rule
 scripts_option = number_option (codes "scripts") 1000000 (codes "1000000")
 

@@ -65,7 +65,7 @@ fn natives_option<'a>(alloc: Global) -> Arg<'a>
     number_option(alloc, "natives", 1_000_000, "1000000")
 }
 
-/// The limit on plain objects and weak maps.
+/// The limit on plain objects, weak maps and proxies.
 fn scripts_option<'a>(alloc: Global) -> Arg<'a>
     ensures rule { rule_of result ≡ scripts_option }
     ensures local { result.global ≡ false }

@@ -1,5 +1,5 @@
 -- THE PARTS AS LISTS: what they stand for once the chains are known, and after a change of one object or of those that wait.
-use Rattle.std.proofs.Common.{◌≡◌, ℕ, List, length, refl, sym, ap, subst}
+use Rattle.std.proofs.Common.{◌≡◌, ℕ, List, refl, sym, ap, subst, arith}
 use Rattle.slab.specs.Slab.{Slab}
 use Rattle.cc_chain.specs.declared.chain.Chain.{Chain}
 use Rattle.cc_chain.specs.Chains.{IsChain}
@@ -20,20 +20,7 @@ pub record AreLists (p : ScriptParts) (l : Lists) (waiting : List ℕ) : Type 0 
 -- where the cells are those, and the chains the lists
 pub are-lists : (p : ScriptParts) (l : Lists) (waiting : List ℕ) → cells_of p.cells.slots ≡ l.cells → IsChain (order_links p.cells.slots) p.order l.order →
     IsChain (waiting_links p.cells.slots) p.waiting waiting → AreLists p l waiting
-are-lists p l waiting cells order waits = record {
-  lists = λ i. record { cells = cells i; order = ordered i };
-  waits = read;
-  chained = record {
-    order = subst (IsChain (order_links p.cells.slots) p.order) (sym ordered) order;
-    waiting = subst (IsChain (waiting_links p.cells.slots) p.waiting) (sym read) waits;
-  };
-}
-  where
-    ordered : (lists_of p).order ≡ l.order
-    ordered = chain-bounded (order_links p.cells.slots) p.order l.order (length p.cells.slots) order (slots-below (λ c. c.order) p.cells.slots)
-
-    read : (marking_of p).waiting ≡ waiting
-    read = chain-bounded (waiting_links p.cells.slots) p.waiting waiting (length p.cells.slots) waits (slots-below (λ c. c.waiting) p.cells.slots)
+are-lists p l waiting cells order waits = grind (arith, chain-bounded, slots-below)
 
 -- the slab written where no link changes
 module _ (p : ScriptParts) (h : IsChained p) (cells : Slab Linked) (order : order_links cells.slots ≡ order_links p.cells.slots)

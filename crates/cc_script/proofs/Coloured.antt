@@ -1,5 +1,5 @@
 -- WHAT STANDS AT A KEY, label, content and colour: what is read there, and what a write of each changes.
-use Rattle.std.proofs.Common.{◌≡◌, ◌≢◌, ◌≤◌, Bool, false, ℕ, ◌<◌, zero, suc, List, [], ◌∷◌, map, length, drop, get_or, replicate, Option, Some, None, option_map, is_some, ⊎_elim, refl, sym, ◌∙◌, ap, subst}
+use Rattle.std.proofs.Common.{◌≡◌, ◌≢◌, ◌≤◌, Bool, false, ℕ, ◌<◌, zero, suc, List, [], ◌∷◌, map, length, drop, get_or, replicate, Option, Some, None, option_map, is_some, refl, sym, ◌∙◌, ap, subst, arith}
 use Rattle.std.proofs.Math.ListN.{set, get_or-map, length-set}
 use Rattle.std.proofs.Math.Path.{fun_ext}
 use Rattle.std.proofs.lemmas.Bool.{cases_lt, false≢true}
@@ -27,8 +27,7 @@ coloured slots colours = paired in_colour White slots colours
 
 -- all colours white
 next-white : (colours : List Colour) (key : ℕ) → get_or (drop 1 colours) key White ≡ get_or colours (suc key) White
-next-white [] key = refl
-next-white (c ∷ colours) key = refl
+next-white colours key = grind arith
 
 abbrev pub white_cell : Linked → Linked
 white_cell z = record z { placed = painted White z.placed }
@@ -165,12 +164,7 @@ module _ (s : Slab Label) (contents : List Content) (key : ℕ) where
 
   -- a content written where no object stands
   pub emptied : (content : Content) → get s key ≡ None → filled_slab s (set contents key content) ≡ filled_slab s contents
-  emptied content gone = ap (λ slots. record (filled_slab s contents) { slots = slots })
-      (paired-same filled nothing s.slots contents (set contents key content)
-      (λ k held. ⊎_elim
-      (λ t. absurd (false≢true (ap is_some (sym gone) ∙ (ap (λ i. is_some (get s i)) (sym t.1) ∙ held))))
-      (λ t. let other : k ≢ key = t.1 in get_or-set_other contents key k content nothing other)
-      (eqb_tells k key)))
+  emptied content gone = grind (arith, paired-same, set, false≢true, get_or-set_other, eqb_tells)
 
 -- each that has its content has its colour too
 pub reaches-filled : (s : Slab Label) (contents : List Content) (colours : List Colour) → Reaches s colours → Reaches (filled_slab s contents) colours
@@ -188,35 +182,15 @@ gray-nowhere s colours now same colour gray none noted key is =
 -- more colours, which are white
 pub more-white : (old more : List Colour) → ((k : ℕ) → k < length old → get_or more k White ≡ get_or old k White) → ((k : ℕ) → length old ≤ k → k < length more → get_or more k White ≡ White) →
     (k : ℕ) → get_or more k White ≡ get_or old k White
-more-white old more below above k = ⊎_elim
-    (λ l. below k l)
-    (λ past. ⊎_elim
-    (λ l. above k past l)
-    (λ beyond. get_or_past more k White beyond) (cases_lt k (length more)) ∙ sym (get_or_past old k White past))
-    (cases_lt k (length old))
+more-white old more below above k = grind (arith, get_or_past, cases_lt)
 
 -- a colour written, which is noted where it is gray
 pub noted-written : {before after : Bool} (old colours : List Colour) (key : ℕ) (colour : Colour) → key < length colours →
     ((k : ℕ) → get_or colours k White ≡ get_or old k White) →
     (after ≡ false → (before ≡ false) × (colour ≢ Gray)) → AreGrayNoted before old → AreGrayNoted after (set colours key colour)
-noted-written old colours key colour within kept tells noted none k gray =
-    let f = tells none in
-    ⊎_elim
-    (λ t. f.1 (sym (get_or-set_same colours key colour White within) ∙ (ap (λ i. get_or (set colours key colour) i White) (sym t.1) ∙ gray)))
-    (λ t.
-    let other : k ≢ key = t.1 in
-    noted f.0 k (sym (kept k) ∙ (sym (get_or-set_other colours key k colour White other) ∙ gray)))
-    (eqb_tells k key)
+noted-written old colours key colour within kept tells noted none k gray = grind (arith, get_or-set_same, set, get_or-set_other, eqb_tells)
 
 -- a content written where an object stands
 pub HaveAll-written : (s : Slab Label) (contents : List Content) (colours : List Colour) (key : ℕ) (content : Content) {may_be_gray : Bool} → ContainsKey s key →
     HaveAll s contents colours may_be_gray → HaveAll s (set contents key content) colours may_be_gray
-HaveAll-written s contents colours key content held all = record {
-  filled = λ k there. subst (λ n. k < n) (sym (length-set contents key content)) (all.filled k there);
-  coloured = all.coloured;
-  emptied = λ k none. ⊎_elim
-      (λ t. absurd (false≢true (ap is_some (sym none) ∙ (ap (λ i. is_some (get s i)) t.1 ∙ held))))
-      (λ t. let other : k ≢ key = t.1 in get_or-set_other contents key k content nothing other ∙ all.emptied k none)
-      (eqb_tells k key);
-  gray = all.gray;
-}
+HaveAll-written s contents colours key content held all = grind (arith, length-set, emptied, false≢true, get_or-set_other, eqb_tells, all.filled, all.emptied)

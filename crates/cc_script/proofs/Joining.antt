@@ -1,5 +1,5 @@
 -- AN OBJECT MADE in the slab, and put last in the order.
-use Rattle.std.proofs.Common.{◌≡◌, ◌≢◌, ℕ, List, ◌∷◌, [], ◌++◌, Option, Some, None, sym, ◌∙◌, ap, subst}
+use Rattle.std.proofs.Common.{◌≡◌, ◌≢◌, ℕ, List, ◌∷◌, [], ◌++◌, Option, Some, None, sym, ap, subst, arith}
 use Rattle.std.specs.Prelude.{slice_index_or}
 use Rattle.slab.specs.Slab.{Slab, Updates, get}
 use Rattle.cc_chain.specs.declared.chain.Chain.{Chain}
@@ -23,13 +23,7 @@ pub record IsJoined (p : ScriptParts) (mid : List (Option Linked)) (key : ℕ) (
 
 pub joined : (p : ScriptParts) (reserved mid : Slab Linked) (key : ℕ) (x : Linked) → reserved.slots ≡ p.cells.slots → get reserved key ≡ None → Updates reserved mid key (Some x) →
     x.order ≡ None → x.waiting ≡ None → IsJoined p mid.slots key x
-joined p reserved mid key x same vacant updates unordered idle = record {
-  vacant = ap (λ (xs : List (Option Linked)). slice_index_or xs key None) (sym same) ∙ vacant;
-  at = updates.changed;
-  others = λ k o. updates.others k o ∙ ap (λ (xs : List (Option Linked)). slice_index_or xs k None) same;
-  unordered = unordered;
-  idle = idle;
-}
+joined p reserved mid key x same vacant updates unordered idle = grind arith
 
 module _ (p : ScriptParts) (h : IsChained p) (mid : List (Option Linked)) (key : ℕ) (x : Linked) (j : IsJoined p mid key x) where
   -- both lists are what they were

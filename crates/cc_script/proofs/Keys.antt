@@ -2,7 +2,7 @@
 use Rattle.cc_lists.proofs.Held.{is_some-map}
 use Rattle.std.proofs.Math.Path.{fun_ext}
 use Rattle.cc_lists.proofs.ListWrites.{changed_where-either}
-use Rattle.std.proofs.Common.{◌≡◌, ℕ, true, List, map, Option, Some, None, option_map, is_some, refl, ◌∙◌, ap, subst, ◌==◌, if◌then◌else◌, sym}
+use Rattle.std.proofs.Common.{◌≡◌, ℕ, true, List, map, Some, None, option_map, is_some, refl, ◌∙◌, ap, ◌==◌, if◌then◌else◌, sym, arith}
 use Rattle.std.specs.List.{find}
 use Rattle.std.proofs.lemmas.Bool.{eqb-true, eq-eqb}
 use Rattle.cc_lists.specs.Members.{Among}
@@ -18,11 +18,7 @@ find-key keys key m =
     f.1 ∙ ap Some (eqb-true f.0 key (find-passes (λ k. k == key) keys f.0 f.1))
 
 pub find-no_key : (keys : List ℕ) (key : ℕ) → ¬ (Among key keys) → find (λ k. k == key) keys ≡ None
-find-no_key keys key none = go (find (λ k. k == key) keys) refl
-  where
-    go : (o : Option ℕ) → find (λ k. k == key) keys ≡ o → o ≡ None
-    go None e = refl
-    go (Some k) e = absurd (none (subst (λ j. Among j keys) (eqb-true k key (find-passes (λ k. k == key) keys k e)) (find-among (λ k. k == key) keys k e)))
+find-no_key keys key none = grind (arith, eqb-true, find-passes, find-among)
 
 -- what is found at a key stands in the list, and has the key
 pub object_at-among : (objects : List Object) (key : ℕ) (o : Object) → object_at objects key ≡ Some o → Among o objects
@@ -33,8 +29,7 @@ object_at-key objects key o e = eqb-true o.key key (find-passes (λ z. z.key == 
 
 -- a change that keeps the keys changes what is found
 pub object_at-map : (g : Object → Object) → ((o : Object) → (g o).key ≡ o.key) → (objects : List Object) (key : ℕ) → object_at (map g objects) key ≡ option_map g (object_at objects key)
-object_at-map g keeps objects key =
-    find-map (λ z. z.key == key) g objects ∙ ap (λ t. option_map g (find t objects)) (fun_ext (λ (z : Object). ap (λ k. k == key) (keeps z)))
+object_at-map g keeps objects key = grind (arith, find-map, fun_ext)
 
 -- of the object at a key alone
 abbrev pub changed_at : ℕ → (Object → Object) → Object → Object

@@ -9,8 +9,8 @@ use Rattle.cc_lists.proofs.Members.{Among-filter, Among-filtered, Among-passes}
 use Rattle.cc_lists.proofs.Filtering.{count_by-filter-le}
 use Rattle.cc_lists.proofs.Searching.{filter-map}
 use Rattle.cc_lists.proofs.ListWrites.{map-agree}
-use Rattle.cc_script.specs.Objects.{Object, without_object}
-use Rattle.cc_script.specs.Lists.{Placed, Lists, cell_at, placed_or_nothing, with_key, shown_at, objects_of, taken_out, IsPlaced}
+use Rattle.cc_script.specs.Objects.{without_object}
+use Rattle.cc_script.specs.Lists.{Placed, Lists, cell_at, objects_of, taken_out, IsPlaced}
 
 module _ (l : Lists) (p : IsPlaced l) (key : ℕ) (c : Placed) (at : cell_at l.cells key ≡ Some c) where
   within : key < length l.cells
@@ -33,9 +33,7 @@ module _ (l : Lists) (p : IsPlaced l) (key : ℕ) (c : Placed) (at : cell_at l.c
 
   -- what stands there then stood there, at another key
   left : (k : ℕ) (b : Placed) → cell_at after.cells k ≡ Some b → (k ≢ key) × (cell_at l.cells k ≡ Some b)
-  left k b e = ⊎_elim
-      (λ t. let bad : None ≡ Some b = sym (ap (cell_at after.cells) t.1 ∙ same) ∙ e in absurd (cc))
-      (λ t. (t.1, sym (other k t.1) ∙ e)) (eqb_tells k key)
+  left k b e = grind (arith, same, other, eqb_tells)
 
   pub IsPlaced-left : IsPlaced (taken_out l key)
   IsPlaced-left = record {
@@ -51,6 +49,4 @@ module _ (l : Lists) (p : IsPlaced l) (key : ℕ) (c : Placed) (at : cell_at l.c
   }
 
   pub objects-left : objects_of (taken_out l key) ≡ without_object (objects_of l) key
-  objects-left =
-      map-agree (shown_at after.cells) (shown_at l.cells) after.order (λ k m. ap (λ o. with_key k (placed_or_nothing o)) (other k (stayed k m)))
-      ∙ sym (filter-map (λ (o : Object). not (o.key == key)) (shown_at l.cells) l.order)
+  objects-left = search (map-agree, other, stayed, filter-map)

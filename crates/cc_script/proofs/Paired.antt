@@ -7,8 +7,7 @@ use Rattle.cc_script.specs.Paired.{paired, paired_slab, Reaches}
 module _ {X Y Z : Type 0} (pair : Y → X → Z) (none : Y) where
   -- what stands in the list at the next key
   next-apart : (apart : List Y) (key : ℕ) → get_or (drop 1 apart) key none ≡ get_or apart (suc key) none
-  next-apart [] key = refl
-  next-apart (y ∷ apart) key = refl
+  next-apart apart key = grind arith
 
   -- what stands at a key
   pub paired-at : (slots : List (Option X)) (apart : List Y) (key : ℕ) → get_or (paired pair none slots apart) key None ≡ option_map (pair (get_or apart key none)) (get_or slots key None)
@@ -17,8 +16,7 @@ module _ {X Y Z : Type 0} (pair : Y → X → Z) (none : Y) where
   paired-at (o ∷ slots) apart (suc key) = paired-at slots (drop 1 apart) key ∙ ap (λ y. option_map (pair y) (get_or slots key None)) (next-apart apart key)
 
   map-held : (y : Y) (o : Option X) → is_some (option_map (pair y) o) ≡ is_some o
-  map-held y None = refl
-  map-held y (Some x) = refl
+  map-held y o = grind arith
 
   -- it stands there where something stands in the slab
   pub paired-held : (slots : List (Option X)) (apart : List Y) (key : ℕ) → is_some (get_or (paired pair none slots apart) key None) ≡ is_some (get_or slots key None)
@@ -72,20 +70,8 @@ module _ {X Y Z : Type 0} (pair : Y → X → Z) (none : Y) where
     -- one made at the key
     pub updates-made : (mid : Slab X) (list : List Y) (x : X) (y : Y) → Reaches s apart → Updates s mid key (Some x) → get_or list key none ≡ y →
         ((k : ℕ) → k ≢ key → k < length apart → get_or list k none ≡ get_or apart k none) → Updates (paired_slab pair none s apart) (paired_slab pair none mid list) key (Some (pair y x))
-    updates-made mid list x y reaches updates here others = record {
-      changed = paired-at mid.slots list key ∙ (λ i. option_map (pair (here i)) (updates.changed i));
-      others = λ k other. paired-at mid.slots list k
-          ∙ (ap (option_map (pair (get_or list k none))) (updates.others k other)
-          ∙ (go k other (get s k) refl ∙ sym (paired-at s.slots apart k)));
-    }
-      where
-        go : (k : ℕ) → k ≢ key → (o : Option X) → get s k ≡ o → option_map (pair (get_or list k none)) (get s k) ≡ option_map (pair (get_or apart k none)) (get s k)
-        go k other None e = ap (option_map (pair (get_or list k none))) e ∙ sym (ap (option_map (pair (get_or apart k none))) e)
-        go k other (Some x) e = ap (λ y. option_map (pair y) (get s k)) (others k other (reaches k (ap is_some e)))
+    updates-made mid list x y reaches updates here others = grind (arith, paired-at, updates.changed, updates.others)
 
     -- the one there taken out
     pub updates-taken : (mid : Slab X) → Updates s mid key None → Updates (paired_slab pair none s apart) (paired_slab pair none mid apart) key None
-    updates-taken mid updates = record {
-      changed = paired-at mid.slots apart key ∙ ap (option_map (pair (get_or apart key none))) updates.changed;
-      others = λ k other. paired-at mid.slots apart k ∙ (ap (option_map (pair (get_or apart k none))) (updates.others k other) ∙ sym (paired-at s.slots apart k));
-    }
+    updates-taken mid updates = grind (arith, paired-at, updates.others)

@@ -1,6 +1,6 @@
 -- WHAT IS REACHED OVER SLOTS is raised, and nothing else is.
 use Rattle.std.specs.Prelude.{◌↔◌, IsTrue}
-use Rattle.std.proofs.Common.{◌≡◌, ℕ, ◌==◌, Bool, true, false, List, if◌then◌else◌, refl, subst}
+use Rattle.std.proofs.Common.{◌≡◌, ℕ, ◌==◌, Bool, true, false, List, if◌then◌else◌, refl, arith}
 use Rattle.cc_lists.specs.Members.{Among, has}
 use Rattle.cc_lists.proofs.Members.{Among-map}
 use Rattle.cc_lists.proofs.Closure.{closure-decides}
@@ -19,8 +19,7 @@ module _ (objects : List Object) (keys : List ℕ) (to : Colour) (o : Object) (m
 
   -- an object is raised, or left as it was, by the test
   by_test : (b : Bool) → is_reached ≡ b → Among (if b then raised to o else o) (raised_among (keys_reached objects keys) to objects)
-  by_test b e = subst (λ c. Among (if c then raised to o else o) (raised_among (keys_reached objects keys) to objects)) e
-      (Among-map (λ p. if has ◌==◌ (keys_reached objects keys) p.key then raised to p else p) o objects m)
+  by_test b e = grind (arith, Among-map)
 
   -- WHAT IS REACHED IS RAISED,
   pub reached-raised : IsReachedOverSlots objects keys o.key → Among (raised to o) (raised_among (keys_reached objects keys) to objects)

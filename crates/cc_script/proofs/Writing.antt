@@ -1,5 +1,5 @@
 -- A SLOT WRITTEN.
-use Rattle.std.proofs.Common.{◌≡◌, ℕ, ◌≤◌, List, Option, Some, None, option_map, IfSome, refl, sym, ◌∙◌, ap, subst}
+use Rattle.std.proofs.Common.{◌≡◌, ℕ, ◌≤◌, List, Option, Some, option_map, IfSome, refl, sym, ◌∙◌, ap, subst, arith}
 use Rattle.std.proofs.Math.ListN.{set}
 use Rattle.std.proofs.lemmas.List.{length-set}
 use Rattle.cc_names.specs.declared.number.SKey.{SKey}
@@ -22,5 +22,4 @@ module _ (l : Lists) (p : IsPlaced l) (key : ℕ) (c : Placed) (at : cell_at l.c
 
 -- what holds of an item holds of the key that it is
 pub each-held : (P : ℕ → Type 0) (item : Option SKey) → IfSome item (λ (k : SKey). P k.0) → (q : ℕ) → held_key item ≡ Some q → P q
-each-held P None h q e = absurd (cc)
-each-held P (Some k) h q e = let same : k.0 ≡ q = cc in subst P same h
+each-held P item h q e = grind arith

@@ -1,6 +1,6 @@
 -- THE PARTS OF A SCRIPT HEAP AS LISTS, by keys, and the objects that they show.
-use Rattle.std.specs.Prelude.{◌≡◌, ℕ, ◌≤◌, ◌==◌, not, List, [], ◌∷◌, ◌++◌, length, map, filter, count_by, Option, Some, None, slice_index_or, slice_set}
-use Rattle.cc_lists.specs.Members.{Among}
+use Rattle.std.specs.Prelude.{◌≡◌, ℕ, ◌≤◌, ◌==◌, List, [], ◌∷◌, ◌++◌, length, map, count_by, Option, Some, None, slice_index_or, slice_set}
+use Rattle.cc_lists.specs.Members.{Among, without}
 use Rattle.cc_names.specs.declared.name.Name.{Name}
 use Rattle.cc_names.specs.declared.kind.Kind.{Kind}
 use Rattle.cc_names.specs.declared.kind.Kind.TheVariants.{Plain}
@@ -69,10 +69,6 @@ pub record IsPlaced (l : Lists) : Type 0 where
   pub reflected : (key : ℕ) (c : Placed) → cell_at l.cells key ≡ Some c → FitsKind c.kind c.native
   pub delegated : (key : ℕ) (c : Placed) → cell_at l.cells key ≡ Some c → FitsDelegate c.kind c.delegate
 
--- the keys but for one
-abbrev pub without_key : ℕ → List ℕ → List ℕ
-without_key key keys = filter (λ k. not (k == key)) keys
-
 -- the lists with the object at a key changed
 abbrev pub with_cell : Lists → ℕ → Option Placed → Lists
 with_cell l key o = record { cells = slice_set l.cells key o; order = l.order }
@@ -83,4 +79,4 @@ made l cells key = record { cells = cells; order = l.order ++ key ∷ [] }
 
 -- with the object at a key taken out
 abbrev pub taken_out : Lists → ℕ → Lists
-taken_out l key = record { cells = slice_set l.cells key None; order = without_key key l.order }
+taken_out l key = record { cells = slice_set l.cells key None; order = without ◌==◌ key l.order }

@@ -87,6 +87,7 @@ fn white_at(graph: &Graph, counted: &Counted, native: NativeNo, node: u32) -> Op
 
 /// The white native with the least number above that of `after`, or of all where there is no `after`. It looks at natives
 /// that are nodes, by rising number, up to the one that it finds, and at no others.
+#[inline(always)]
 fn next_white<L: Ledger>(
     graph: &Graph,
     heaps: &Heaps,

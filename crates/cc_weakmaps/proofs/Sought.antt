@@ -82,10 +82,7 @@ module _ (es : List KeyedEntry) (m k object : ℕ) (lacks : (e : KeyedEntry) →
 
   -- no next place
   pub followed-none : IsFollowed es m k object None → (i : ℕ) (d : KeyedEntry) → i < length es → is_entry_of m k (get_or es i d) ≡ false
-  followed-none h i d l = ⊎_elim
-      (λ b. let below : i < h.end = ltb-true i h.end b in lacks (get_or es i d) (below-none es object h.end (sym h.place) i d below l))
-      (λ b. let past : h.end ≤ i = ltb-false i h.end b in h.past i d past l)
-      (cases_Bool (nat_lt i h.end))
+  followed-none h i d l = grind (arith, ltb-true, below-none, ltb-false, cases_Bool, h.past)
 
 -- Both chains
 
@@ -95,10 +92,7 @@ pub record IsSought (es : List KeyedEntry) (m k : ℕ) (of_map of_key : Option �
 
 pub sought-next : (es : List KeyedEntry) (m k i j : ℕ) (of_map of_key : Option ℕ) (d e : KeyedEntry) → IsSought es m k (Some i) (Some j) →
     is_entry_of m k (get_or es i d) ≡ false → is_entry_of m k (get_or es j e) ≡ false → of_map ≡ place_below es m i → of_key ≡ place_below es k j → IsSought es m k of_map of_key
-sought-next es m k i j of_map of_key d e h one other first second = record {
-  by_map = followed-next es m k m (other-map m k) i of_map d h.by_map one first;
-  by_key = followed-next es m k k (other-key m k) j of_key e h.by_key other second;
-}
+sought-next es m k i j of_map of_key d e h one other first second = search (followed-next, other-map, other-key)
 
 pub sought-no_map : (es : List KeyedEntry) (m k : ℕ) (of_key : Option ℕ) → IsSought es m k None of_key → has_value_in es m k ≡ false
 sought-no_map es m k of_key h = none-found es m k (followed-none es m k m (other-map m k) h.by_map)
@@ -118,11 +112,7 @@ sought-places es m k i j h = ((below-last es m h.by_map.end i (sym h.by_map.plac
 -- where none passes, the others are all
 filter-none : (p : KeyedEntry → Bool) (es : List KeyedEntry) → count_by p es ≤ 0 → filter (λ e. not (p e)) es ≡ es
 filter-none p [] h = refl
-filter-none p (e ∷ es) h = go (filter-none p es) (p e) refl
-  where
-    go : (count_by p es ≤ 0 → filter (λ x. not (p x)) es ≡ es) → (b : Bool) → p e ≡ b → filter (λ x. not (p x)) (e ∷ es) ≡ e ∷ es
-    go ih true is = let here : count_by p (e ∷ es) ≡ 1 + count_by p es = rw (count_by-cons p e es, is) refl in absurd (omega (arith, here, h))
-    go ih false is = let here : count_by p (e ∷ es) ≡ 0 + count_by p es = rw (count_by-cons p e es, is) refl in rw (is, ih (omega (arith, here, h))) refl
+filter-none p (e ∷ es) h = grind (arith, count_by-cons, filter-none p es)
 
 without-counted : (es : List KeyedEntry) (m k place : ℕ) → count_by (is_entry_of m k) es ≤ 1 → StandsAt es m k place → without_entry es m k ≡ remove es place
 without-counted [] m k place once s = absurd s
@@ -138,11 +128,7 @@ without-removed es m k place h s = without-counted es m k place (h.at_most m k) 
 
 pub without-absent : (es : List KeyedEntry) (m k : ℕ) → has_value_in es m k ≡ false → without_entry es m k ≡ es
 without-absent [] m k h = refl
-without-absent (e ∷ es) m k h = go (without-absent es m k) (is_entry_of m k e) refl h
-  where
-    go : (has_value_in es m k ≡ false → without_entry es m k ≡ es) → (b : Bool) → is_entry_of m k e ≡ b → is_some (elim b [ true ↦ Some e.value | false ↦ value_in es m k ]) ≡ false → without_entry (e ∷ es) m k ≡ e ∷ es
-    go ih true is f = absurd (true≢false f)
-    go ih false is f = rw (is, ih f) refl
+without-absent (e ∷ es) m k h = grind (arith, true≢false, without-absent es m k)
 
 -- How many places a chain can still have
 
@@ -150,5 +136,4 @@ abbrev pub places_left : Option ℕ → ℕ
 places_left o = elim o [ None ↦ 0 | Some place ↦ suc place ]
 
 pub left-smaller : (next : Option ℕ) (place : ℕ) → IfSome next (λ i. i < place) → places_left next < places_left (Some place)
-left-smaller None place h = omega arith
-left-smaller (Some i) place h = omega (arith, h)
+left-smaller next place h = grind arith

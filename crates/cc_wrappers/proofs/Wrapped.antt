@@ -18,7 +18,7 @@ use Rattle.cc_names.specs.declared.kind.Colour.TheVariants.{Black}
 use Rattle.cc_names.specs.Names.{native, reflector}
 use Rattle.cc_model.specs.Slots.{reflector_slots}
 use Rattle.cc_model.specs.Checks.{native_of}
-use Rattle.cc_model.specs.Entries.{joints}
+use Rattle.cc_model.specs.Entries.{joints, rules_of}
 use Rattle.cc_model.specs.Exposure.{exposed}
 use Rattle.cc_model.specs.Effects.{with_reflector, wrapped}
 use Rattle.cc_model.specs.Graph as graph
@@ -96,7 +96,7 @@ module _ {owned : List ℕ} (v w : Keyed) (o : IsInOrder owned v) (p : IsInOrder
 module _ {owned : List ℕ} (v w : Keyed) (p : IsInOrder owned w) (k : ℕ) (none : has_reflector v.heap k ≡ false) where
   -- it is the last of the script objects, and black
   made-black : IsHeldBlack (with_reflector v.heap k).scripts (Some (reflector k))
-  made-black = each-push (λ s. Among s.name (reflector k ∷ []) → s.colour ≡ Black) v.heap.scripts (blank (reflector k) Reflector reflector_slots)
+  made-black = each-push (λ s. Among s.name (reflector k ∷ []) → s.colour ≡ Black) v.heap.scripts (blank (reflector k) Reflector reflector_slots None)
       (λ s m i. absurd (has_reflector-none v.heap k none
       (⊎_elim (λ e. subst (λ x. Among x (script_names v.heap)) (sym e) (Among-map (λ (q : HeapScript). q.name) s v.heap.scripts m)) (λ t. absurd t) i)))
       (λ i. refl)
@@ -167,7 +167,7 @@ found-has {owned} v o key k e = go (has_reflector v.heap k) refl
 
 -- the native of a reflector that is reached is reached
 pub behind-reached : (h : Heap) (k : ℕ) → Among (reflector k) (script_names h) → ReachedIn (view h) (reflector k) → ReachedIn (view h) (native k)
-behind-reached h k there d = derive-along (view h).registers (view h).edges (joints h.entries) (reflector k) (native k) (edge-from_reflector h k there) d
+behind-reached h k there d = derive-along (view h).registers (view h).edges (rules_of (joints h.entries)) (reflector k) (native k) (edge-from_reflector h k there) d
 
 -- What is no reflector holds what it may.
 pub no_reflector-may_hold : (h : Heap) (x : Option Name) → native_of x ≡ None → MayHold h x

@@ -162,7 +162,13 @@ impl Build {
     /// nothing where the place is empty or has a black script object.
     ///
     /// `NoMemory` leaves the build as it was.
-    fn note_place(&mut self, node: u32, object: Held, i: SlotNo, heaps: &Heaps) -> Result<(), NoMemory>
+    fn note_place(
+        &mut self,
+        node: u32,
+        object: Held,
+        i: SlotNo,
+        heaps: &Heaps,
+    ) -> Result<(), NoMemory>
         requires built { IsBuilt self.old heaps.now }
         requires held { AreHeld self.old.graph (HasKey heaps.now) }
         requires order { IsInOrder [] heaps.now }

@@ -1,4 +1,4 @@
-use Rattle.std.proofs.Common.{refl}
+use Rattle.std.proofs.Common.{refl, arith}
 use Rattle.cc_marking.proofs.Turns.{starting-next, starting-done}
 use Rattle.cc_marking.proofs.marking.start_each.Goals as goal
 
@@ -11,5 +11,4 @@ loop-key-preserved g c =
     c.in-Some.ensures c.start.ensures.started c.start.ensures.there c.start.ensures.whole c.loop-key.invariant
 
 pub returns-clause-started : goal.returns-clause-started
-returns-clause-started g c =
-    starting-done (g.R.Roots.left c.args.roots.now) c.args.marking.now (g.R.Roots.left c.loop-key.roots) c.loop-key.marking c.in_default.ensures.0 c.loop-key.invariant
+returns-clause-started g c = grind (arith, starting-done, g.R.Roots.left)

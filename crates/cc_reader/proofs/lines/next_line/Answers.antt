@@ -7,8 +7,7 @@ use Rattle.cc_reader.proofs.Given.{Begins-line, Begins-byte, Begins-ended, Begin
 use Rattle.cc_reader.proofs.lines.next_line.Goals as goal
 
 pub returns-then-is_spent-clause-whole : goal.returns-then-is_spent-clause-whole
-returns-then-is_spent-clause-whole g c = λ _ start lines.
-    whole-spent start (g.S.Source.left c.args.source.now) c.args.window.now lines (c.is_spent.ensures.0 c.if-is_spent.true)
+returns-then-is_spent-clause-whole g c = search (whole-spent, c.is_spent.ensures.0)
 
 pub bytes-init : goal.bytes-init
 bytes-init g c = record {

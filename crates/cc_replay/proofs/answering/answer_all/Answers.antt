@@ -1,7 +1,5 @@
-use Rattle.std.proofs.Common.{◌≡◌, ◌≢◌, false, Option, Result, Ok, Err, refl, sym, ap, subst, ◌∙◌}
-use Rattle.cc_lists.specs.Faults.{raised, Rose}
+use Rattle.std.proofs.Common.{◌≡◌, ◌≢◌, Option, Result, Ok, Err, sym, ap, subst, ◌∙◌, arith}
 use Rattle.cc_model.specs.Telling.{Telling}
-use Rattle.cc_reader.specs.Given.{AreAllGiven, IsBroken, IsOver}
 use Rattle.cc_reader.specs.declared.read_stop.ReadStop.{ReadStop}
 use Rattle.cc_reader.specs.declared.read_stop.ReadStop.TheVariants as stop
 use Rattle.cc_heaps.specs.Keyed.{Keyed}
@@ -20,71 +18,28 @@ still_machine : {v w : Keyed} {b d : Option Built} {t u : Telling} → (w ≡ v)
 still_machine {v} {w} {b} {d} same = (ap (λ (k : Keyed). machine_of k.heap d) same.0 ∙ ap (machine_of v.heap) same.1, same.2)
 
 pub lines-init : goal.lines-init
-lines-init g c = record {
-  lines = Answers-none _;
-  runs = c.requires.runs;
-  going = c.requires.going;
-  limit = refl;
-  reads = λ start h. h;
-  whole = c.requires.whole;
-  calm = refl;
-  written = refl;
-  source = refl;
-  sink = refl;
-}
+lines-init g c = search (Answers-none)
 
 -- what holds of each way to end
 by_ending : (came : Result Next ReadStop) (how : Status) (P : Status → Type 0) → EndsBy came how → (came ≡ Ok End → P status.Done) → (came ≡ Err stop.Fault → P status.ReadFault) →
     (came ≡ Err stop.Limit → P status.Limit) → P how
-by_ending came status.Done P h done fault limit = done h
-by_ending came status.ReadFault P h done fault limit = fault h
-by_ending came status.Limit P h done fault limit = limit h
-by_ending came status.WriteFault P h done fault limit = absurd h
-by_ending came status.Usage P h done fault limit = absurd h
-by_ending came status.NoMemory P h done fault limit = absurd h
+by_ending came how P h done fault limit = grind arith
 
 -- nothing is told where a run ends
 pub returns-in-Some-clause-sink : goal.returns-in-Some-clause-sink
-returns-in-Some-clause-sink g c =
-    let telling = g.N.Notices.telling in
-    let next = c.answer_next.ensures in
-    by_ending c.answer_next.result c.in-Some.status (λ _. (telling c.answer_next.new.out).sink ≡ (telling c.args.out.now).sink) c.in-Some.ensures.ending
-    (λ was. ap (λ (t : Telling). t.sink) (next.quiet was).2 ∙ c.lines.invariant.sink)
-    (λ was. let still = rw was at next.still in ap (λ (t : Telling). t.sink) still.2 ∙ c.lines.invariant.sink)
-    (λ was. let still = rw was at next.still in ap (λ (t : Telling). t.sink) still.2 ∙ c.lines.invariant.sink)
+returns-in-Some-clause-sink g c = grind (arith, by_ending)
 
 pub returns-in-Some-clause-whole : goal.returns-in-Some-clause-whole
-returns-in-Some-clause-whole g c = λ _.
-    let telling = g.N.Notices.telling in
-    let next = c.answer_next.ensures in
-    by_ending c.answer_next.result c.in-Some.status (λ _. (telling c.answer_next.new.out).broken ≡ false) c.in-Some.ensures.ending
-    (λ was. ap (λ (t : Telling). t.broken) (next.quiet was).2 ∙ c.lines.invariant.whole)
-    (λ was. let still = rw was at next.still in ap (λ (t : Telling). t.broken) still.2 ∙ c.lines.invariant.whole)
-    (λ was. let still = rw was at next.still in ap (λ (t : Telling). t.broken) still.2 ∙ c.lines.invariant.whole)
+returns-in-Some-clause-whole g c = grind (arith, by_ending)
 
 pub returns-in-Some-clause-written : goal.returns-in-Some-clause-written
-returns-in-Some-clause-written g c = λ _.
-    let telling = g.N.Notices.telling in
-    let next = c.answer_next.ensures in
-    by_ending c.answer_next.result c.in-Some.status (λ _. (telling c.answer_next.new.out).faults ≡ (telling c.args.out.now).faults) c.in-Some.ensures.ending
-    (λ was. ap (λ (t : Telling). t.faults) (next.quiet was).2 ∙ c.lines.invariant.written)
-    (λ was. let still = rw was at next.still in ap (λ (t : Telling). t.faults) still.2 ∙ c.lines.invariant.written)
-    (λ was. let still = rw was at next.still in ap (λ (t : Telling). t.faults) still.2 ∙ c.lines.invariant.written)
+returns-in-Some-clause-written g c = grind (arith, by_ending)
 
 pub returns-in-Some-clause-calm : goal.returns-in-Some-clause-calm
-returns-in-Some-clause-calm g c =
-    let faults = g.S.Source.faults in
-    let next = c.answer_next.ensures in
-    by_ending c.answer_next.result c.in-Some.status (λ how. how ≢ status.ReadFault → faults c.answer_next.new.lines.source.now ≡ faults c.args.lines.now.source.now) c.in-Some.ensures.ending
-    (λ was other. let calm = rw was at next.calm in calm ∙ c.lines.invariant.calm)
-    (λ was other. absurd (other refl))
-    (λ was other. next.unfaulted was ∙ c.lines.invariant.calm)
+returns-in-Some-clause-calm g c = grind (arith, by_ending)
 
 pub returns-in-Some-clause-read : goal.returns-in-Some-clause-read
-returns-in-Some-clause-read g c = λ e.
-    let faults = g.S.Source.faults in
-    let was : c.answer_next.result ≡ Err stop.Fault = subst (λ (how : Status). EndsBy c.answer_next.result how) e c.in-Some.ensures.ending in
-    subst (λ n. Rose n (faults c.answer_next.new.lines.source.now)) c.lines.invariant.calm (c.answer_next.ensures.rose was)
+returns-in-Some-clause-read g c = grind (arith, c.answer_next.ensures.rose)
 
 pub returns-in-Some-clause-limit : goal.returns-in-Some-clause-limit
 returns-in-Some-clause-limit g c = c.answer_next.ensures.limit ∙ c.lines.invariant.limit
@@ -112,27 +67,16 @@ pub returns-in-Some-clause-once : goal.returns-in-Some-clause-once
 returns-in-Some-clause-once g c = λ e. absurd (never c.answer_next.result c.in-Some.status c.in-Some.ensures.ending e)
 
 pub returns-in-Some-clause-others : goal.returns-in-Some-clause-others
-returns-in-Some-clause-others g c = (
-  (λ e. subst (λ (s : Status). EndsBy c.answer_next.result s) e c.in-Some.ensures.ending),
-  (λ e. subst (λ (s : Status). EndsBy c.answer_next.result s) e c.in-Some.ensures.ending),
-)
+returns-in-Some-clause-others g c = grind arith
 
 pub returns-in-Some-clause-done : goal.returns-in-Some-clause-done
-returns-in-Some-clause-done g c = λ e.
-    let was : c.answer_next.result ≡ Ok End = subst (λ (how : Status). EndsBy c.answer_next.result how) e c.in-Some.ensures.ending in
-    Answers-still AreAllGiven c.lines.invariant.lines (c.answer_next.ensures.whole was) (still_machine (c.answer_next.ensures.quiet was))
+returns-in-Some-clause-done g c = grind (arith, Answers-still, still_machine, c.answer_next.ensures.whole, c.answer_next.ensures.quiet)
 
 pub returns-in-Some-clause-fault : goal.returns-in-Some-clause-fault
-returns-in-Some-clause-fault g c = λ e.
-    let was : c.answer_next.result ≡ Err stop.Fault = subst (λ (how : Status). EndsBy c.answer_next.result how) e c.in-Some.ensures.ending in
-    let still = rw was at c.answer_next.ensures.still in
-    Answers-still IsBroken c.lines.invariant.lines (c.answer_next.ensures.fault was) (still_machine still)
+returns-in-Some-clause-fault g c = grind (arith, Answers-still, still_machine, c.answer_next.ensures.fault)
 
 pub returns-in-Some-clause-over : goal.returns-in-Some-clause-over
-returns-in-Some-clause-over g c = λ e.
-    let was : c.answer_next.result ≡ Err stop.Limit = subst (λ (how : Status). EndsBy c.answer_next.result how) e c.in-Some.ensures.ending in
-    let still = rw was at c.answer_next.ensures.still in
-    Answers-still IsOver c.lines.invariant.lines (c.answer_next.ensures.over was) (still_machine still)
+returns-in-Some-clause-over g c = grind (arith, Answers-still, still_machine, c.answer_next.ensures.over)
 
 pub lines-preserved : goal.lines-preserved
 lines-preserved g c =
@@ -153,22 +97,13 @@ lines-preserved g c =
     }
 
 pub returns-then-is_broken-clause-first : goal.returns-then-is_broken-clause-first
-returns-then-is_broken-clause-first g c = λ _.
-    let was = c.ended_by.ensures.going c.in_default.is in
-    Answers-first (Answers-more c.lines.invariant.lines (c.answer_next.ensures.answered was))
+returns-then-is_broken-clause-first g c = search (Answers-first, Answers-more, c.ended_by.ensures.going, c.answer_next.ensures.answered)
 
 pub returns-then-is_broken-clause-calm : goal.returns-then-is_broken-clause-calm
-returns-then-is_broken-clause-calm g c = λ _.
-    let was = c.ended_by.ensures.going c.in_default.is in
-    let calm = rw was at c.answer_next.ensures.calm in
-    calm ∙ c.lines.invariant.calm
+returns-then-is_broken-clause-calm g c = grind (arith, c.ended_by.ensures.going)
 
 pub returns-then-is_broken-clause-sink : goal.returns-then-is_broken-clause-sink
-returns-then-is_broken-clause-sink g c =
-    let l = c.answer_next.ensures.answered (c.ended_by.ensures.going c.in_default.is) in
-    l.2.answered.told.sink ∙ c.lines.invariant.sink
+returns-then-is_broken-clause-sink g c = grind (arith, c.answer_next.ensures.answered, c.ended_by.ensures.going)
 
 pub returns-then-is_broken-clause-once : goal.returns-then-is_broken-clause-once
-returns-then-is_broken-clause-once g c = λ _.
-    let l = c.answer_next.ensures.answered (c.ended_by.ensures.going c.in_default.is) in
-    (l.2.answered.told.broke c.lines.invariant.whole (sym c.is_broken.ensures ∙ c.if-is_broken.true)).faults ∙ ap (λ n. raised n 1) c.lines.invariant.written
+returns-then-is_broken-clause-once g c = grind (arith, c.answer_next.ensures.answered, c.ended_by.ensures.going)

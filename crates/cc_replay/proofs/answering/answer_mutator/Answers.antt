@@ -7,16 +7,11 @@ pub apply-reply-requires-clause-order : goal.apply-reply-requires-clause-order
 apply-reply-requires-clause-order g c = none-owned c.args.heaps.now c.requires.runs.order
 
 pub returns-clause-answered : goal.returns-clause-answered
-returns-clause-answered g c =
-    let telling = g.N.Notices.telling in
-    answered-applied c.args.command.now c.requires.applied c.args.heaps.now c.apply-reply.new.heaps c.args.collector.now
-    (telling c.args.out.now) (telling c.apply-reply.new.out) (telling c.tell.new.self)
-    c.apply-reply.result c.apply-reply.ensures.refused c.apply-reply.ensures.done c.apply-reply.ensures.memory c.tell.ensures
+returns-clause-answered g c = search (answered-applied)
 
 -- what a command changes may come between units
 pub returns-clause-runs : goal.returns-clause-runs
-returns-clause-runs g c =
-    RunsIn-kept c.args.heaps.now c.apply-reply.new.heaps c.args.collector.now c.requires.runs c.apply-reply.ensures.kept
+returns-clause-runs g c = search (RunsIn-kept)
 
 pub returns-clause-remembers : goal.returns-clause-remembers
 returns-clause-remembers g c = c.apply-reply.ensures.kept.suspected

@@ -1,10 +1,9 @@
-use Rattle.std.proofs.Common.{◌≡◌, Ok, refl}
+use Rattle.std.proofs.Common.{◌≡◌, Ok, refl, arith}
 use Rattle.cc_model.specs.declared.item.Refusal.TheVariants.{NoMemory}
 use Rattle.cc_model.specs.declared.item.Reply.TheVariants.{Done, Refused}
 use Rattle.cc_model.specs.End.{refused}
 use Rattle.cc_model.specs.Collecting.{reply_to_units}
 use Rattle.cc_collector.specs.declared.collector.Ended.{Ended}
-use Rattle.cc_collector.specs.declared.collector.Ended.TheVariants.{Yes, No}
 use Rattle.cc_collector.specs.Kept.{machine_of}
 use Rattle.cc_collector.specs.Collected.{progress_of}
 use Rattle.cc_replay.proofs.Replying.{answered-slice}
@@ -12,8 +11,7 @@ use Rattle.cc_replay.proofs.answering.answer_slice.Goals as goal
 
 -- a slice that is not refused is done
 done-either : (e : Ended) → reply_to_units (progress_of (Ok e)) ≡ Done
-done-either Yes = refl
-done-either No = refl
+done-either e = grind arith
 
 pub returns-in-Ok-clause-answered : goal.returns-in-Ok-clause-answered
 returns-in-Ok-clause-answered g c =

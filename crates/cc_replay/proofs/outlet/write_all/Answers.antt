@@ -1,4 +1,4 @@
-use Rattle.std.proofs.Common.{arith, take, drop, sym, ◌∙◌}
+use Rattle.std.proofs.Common.{arith, take, drop, sym}
 use Rattle.std.proofs.lemmas.List.{take-append-drop}
 use Rattle.std.proofs.lemmas.Grind.{common_steps}
 use Rattle.cc_lists.proofs.KnownBytes.{on_err_of, Appends-kept, Appends-more}
@@ -17,11 +17,4 @@ returns-in_err-taken-clause-part g c =
     on_err_of c.from_residual.result part
 
 pub pieces-preserved : goal.pieces-preserved
-pieces-preserved g c =
-    let written = g.K.Sink.written in
-    record {
-      within = grind (arith, common_steps);
-      grown = Appends-more (written c.args.sink.now) (written c.pieces.sink) (written c.write.new.self) c.args.bytes.now c.pieces.done c.in_ok-taken.taken
-          c.pieces.invariant.grown (grind (arith, common_steps));
-      calm = c.in_ok-taken.ensures.cause.stays ∙ c.pieces.invariant.calm;
-    }
+pieces-preserved g c = grind (arith, common_steps, Appends-more)

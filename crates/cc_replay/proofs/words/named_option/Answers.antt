@@ -1,13 +1,10 @@
-use Rattle.std.proofs.Common.{◌∙◌, ap, Some}
-use Rattle.clap.specs.Words.{Rule, rule_of}
+use Rattle.std.proofs.Common.{◌∙◌, ap, Some, arith}
 use Rattle.clap.specs.declared.builder.action.ArgAction.TheVariants.{Set}
 use Rattle.clap.specs.declared.builder.arg.Arg.{Arg}
 use Rattle.cc_replay.proofs.words.named_option.Goals as goal
 
 pub returns-clause-rule : goal.returns-clause-rule
-returns-clause-rule c =
-    ap rule_of (c.action.ensures ∙ ap (λ (a : Arg). record a { action = Some Set }) c.long.ensures)
-    ∙ ap (λ (r : Rule). record r { long = Some c.args.name.now; action = Some Set }) c.new.ensures.rule
+returns-clause-rule c = grind arith
 
 pub returns-clause-local : goal.returns-clause-local
 returns-clause-local c = ap (λ (a : Arg). a.global) (c.action.ensures ∙ ap (λ (a : Arg). record a { action = Some Set }) c.long.ensures) ∙ c.new.ensures.optional.1

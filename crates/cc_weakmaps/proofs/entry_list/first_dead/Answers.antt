@@ -1,20 +1,15 @@
-use Rattle.std.proofs.Common.{◌≡◌, sym, subst, arith, length}
+use Rattle.std.proofs.Common.{◌≡◌, subst, arith, length}
 use Rattle.std.proofs.lemmas.List.Elements.{Contains-get_or}
-use Rattle.cc_lists.specs.Members.{Among}
 use Rattle.cc_lists.proofs.Members.{Among-contains}
 use Rattle.cc_weakmaps.specs.Living.{Stays, StayBefore}
 use Rattle.cc_weakmaps.proofs.Keeping.{stay-further}
 use Rattle.cc_weakmaps.proofs.entry_list.first_dead.Goals as goal
 
 pub stays-requires-clause-the_map : goal.stays-requires-clause-the_map
-stays-requires-clause-the_map g c =
-    let x = c.index-entries-place.result in
-    (c.requires x (subst (λ y. Among y c.args.entries.now) (sym c.index-entries-place.is) (Among-contains _ _ (Contains-get_or c.args.entries.now c.loop-place.place x c.loop-place-test.true)))).0
+stays-requires-clause-the_map g c = grind (arith, Among-contains, Contains-get_or, c.requires)
 
 pub stays-requires-clause-key : goal.stays-requires-clause-key
-stays-requires-clause-key g c =
-    let x = c.index-entries-place.result in
-    (c.requires x (subst (λ y. Among y c.args.entries.now) (sym c.index-entries-place.is) (Among-contains _ _ (Contains-get_or c.args.entries.now c.loop-place.place x c.loop-place-test.true)))).1
+stays-requires-clause-key g c = grind (arith, Among-contains, Contains-get_or, c.requires)
 
 pub loop-place-preserved : goal.loop-place-preserved
 loop-place-preserved g c =

@@ -1,7 +1,7 @@
-use Rattle.std.proofs.Common.{◌+◌, Ok, subst, ap}
+use Rattle.std.proofs.Common.{◌+◌, Ok, subst, ap, arith}
 use Rattle.cc_lists.proofs.KnownBytes.{on_err_of}
 use Rattle.cc_model.proofs.Tellings.{Tells-nil}
-use Rattle.cc_model.specs.End.{Progress, went_on, at_end, refused}
+use Rattle.cc_model.specs.End.{Progress, went_on}
 use Rattle.cc_collector.specs.declared.collector.Ended.{Ended}
 use Rattle.cc_collector.specs.Collected.{progress_of}
 use Rattle.cc_collector.specs.Kept.{machine_of}
@@ -19,21 +19,10 @@ units-init g c = record {
 }
 
 pub returns-in_err-unit-clause-refused : goal.returns-in_err-unit-clause-refused
-returns-in_err-unit-clause-refused g c =
-    let telling = g.N.Notices.telling in
-    let i = c.units.invariant in
-    on_err_of c.from_residual.result
-    (all-done c.args.heaps.now c.args.self.now c.requires i.so_far.0 c.units.heaps c.units.self c.unit.new.heaps c.unit.new.self refused
-    (telling c.args.out.now) (telling c.units.out) (telling c.unit.new.out) (λ e. cc) i.so_far.1 i.told i.keeps c.in_err-unit.ensures)
+returns-in_err-unit-clause-refused g c = grind (arith, on_err_of, all-done)
 
 pub returns-in-Yes-clause-done : goal.returns-in-Yes-clause-done
-returns-in-Yes-clause-done g c =
-    let telling = g.N.Notices.telling in
-    let i = c.units.invariant in
-    all-done c.args.heaps.now c.args.self.now c.requires i.so_far.0 c.units.heaps c.units.self c.unit.new.heaps c.unit.new.self at_end
-    (telling c.args.out.now) (telling c.units.out) (telling c.unit.new.out) (λ e. cc) i.so_far.1 i.told i.keeps
-    (subst (λ (p : Progress). HasDoneUnit c.units.heaps c.units.self c.unit.new.heaps c.unit.new.self p (telling c.units.out) (telling c.unit.new.out))
-    (ap (λ (e : Ended). progress_of (Ok e)) c.in-Yes.is) c.in_ok-unit.ensures)
+returns-in-Yes-clause-done g c = grind (arith, all-done)
 
 pub units-preserved : goal.units-preserved
 units-preserved g c =

@@ -17,8 +17,7 @@ pub returns-in_err-whole-clause-suspected : goal.returns-in_err-whole-clause-sus
 returns-in_err-whole-clause-suspected g c = λ s. c.whole.ensures.suspected (c.gc.ensures.suspected s)
 
 pub returns-in_err-whole-clause-kept : goal.returns-in_err-whole-clause-kept
-returns-in_err-whole-clause-kept g c = kept-then _ _ _ _ _ c.gc.ensures.runs.order.sound.well_formed c.whole.ensures.runs.order.sound.well_formed
-    c.whole.ensures.tells c.gc.ensures.kept c.whole.ensures.kept
+returns-in_err-whole-clause-kept g c = search (kept-then)
 
 -- All is done
 
@@ -32,13 +31,10 @@ returns-clause-exact g c = λ s. settled-exact _ _ _ _ _ c.requires.runs s (reco
 
 -- what is told until the collection has ended
 pub returns-clause-tells : goal.returns-clause-tells
-returns-clause-tells g c = tells-then _ _ _ _ _ _ c.gc.ensures.keeps (keeps-then _ _ _ c.whole.ensures.keeps c.gc-2.ensures.keeps) c.gc.ensures.tells
-    (tells-then _ _ _ _ _ _ c.whole.ensures.keeps c.gc-2.ensures.keeps c.whole.ensures.tells c.gc-2.ensures.tells)
+returns-clause-tells g c = search (tells-then, keeps-then)
 
 pub returns-clause-suspected : goal.returns-clause-suspected
 returns-clause-suspected g c = λ s. c.gc-2.ensures.suspected (c.whole.ensures.suspected (c.gc.ensures.suspected s))
 
 pub returns-clause-kept : goal.returns-clause-kept
-returns-clause-kept g c = kept-then _ _ _ _ _ c.whole.ensures.runs.order.sound.well_formed c.gc-2.ensures.runs.order.sound.well_formed c.gc-2.ensures.tells
-    (kept-then _ _ _ _ _ c.gc.ensures.runs.order.sound.well_formed c.whole.ensures.runs.order.sound.well_formed c.whole.ensures.tells c.gc.ensures.kept c.whole.ensures.kept)
-    c.gc-2.ensures.kept
+returns-clause-kept g c = search (kept-then)

@@ -1,13 +1,13 @@
 use Rattle.std.specs.Prelude.{IsErr}
-use Rattle.std.proofs.Common.{◌≡◌, ℕ, Result, Ok, Err, refl, sym, ap, subst, arith}
+use Rattle.std.proofs.Common.{◌≡◌, Result, Ok, ap, subst, arith}
 use Rattle.cc_lists.proofs.KnownBytes.{on_err_of}
 use Rattle.cc_names.specs.declared.no_memory.NoMemory.{NoMemory}
 use Rattle.cc_model.proofs.Tellings.{Tells-nil}
-use Rattle.cc_model.specs.End.{Progress, went_on, at_end, refused}
+use Rattle.cc_model.specs.End.{Progress, went_on, refused}
 use Rattle.cc_collector.specs.declared.collector.Ended.{Ended}
 use Rattle.cc_collector.specs.Kept.{machine_of}
 use Rattle.cc_collector.specs.Collected.{IsSliced, progress_of}
-use Rattle.cc_collector.specs.Units.{HasGoneOn, HasDoneUnit, Keeps}
+use Rattle.cc_collector.specs.Units.{HasDoneUnit, Keeps}
 use Rattle.cc_collector.proofs.GivingUp.{sliced-given_up}
 use Rattle.cc_collector.proofs.Rows.{HasGoneOn-none, HasGoneOn-more}
 use Rattle.cc_collector.proofs.Keeping.{Keeps-nothing, Keeps-then}
@@ -18,8 +18,7 @@ use Rattle.cc_collector.proofs.collector.Collector.slice.Goals as goal
 
 -- an error is progress that was refused
 err-refused : (r : Result Ended NoMemory) → IsErr r → progress_of r ≡ refused
-err-refused (Ok e) i = cc
-err-refused (Err e) i = refl
+err-refused r i = grind arith
 
 pub loop-init : goal.loop-init
 loop-init g c = record {
@@ -32,14 +31,7 @@ loop-init g c = record {
 -- A unit is refused
 
 pub returns-in_err-ended-clause-sliced : goal.returns-in_err-ended-clause-sliced
-returns-in_err-ended-clause-sliced g c =
-    let telling = g.N.Notices.telling in
-    let i = c.loop.invariant in
-    let v = c.args.heaps.now in
-    subst (λ (p : Progress). IsSliced c.args.units (machine_of v.heap c.args.self.now) (machine_of c.unit.new.heaps.heap c.unit.new.self) p c.args.steps.now c.loop.steps
-    (telling c.args.out.now) (telling c.unit.new.out)) (sym (err-refused c.from_residual.result c.from_residual.ensures.0))
-    (sliced-stopped v c.args.self.now c.requires.runs c.args.units c.loop.counter c.loop.heaps c.loop.self c.unit.new.heaps c.unit.new.self refused c.args.steps.now c.loop.steps
-    (telling c.args.out.now) (telling c.loop.out) (telling c.unit.new.out) (omega (arith, c.loop-test.true)) (λ e. cc) i.gone_on i.told c.in_err-ended.ensures (omega (arith, i.counted)))
+returns-in_err-ended-clause-sliced g c = grind (arith, err-refused, sliced-stopped)
 
 pub returns-in_err-ended-clause-given_up : goal.returns-in_err-ended-clause-given_up
 returns-in_err-ended-clause-given_up g c =
@@ -70,17 +62,7 @@ returns-in_err-ended-clause-kept g c = (err-keeps g c).kept
 -- A unit ends the collection
 
 pub returns-in-Yes-clause-sliced : goal.returns-in-Yes-clause-sliced
-returns-in-Yes-clause-sliced g c =
-    let telling = g.N.Notices.telling in
-    let i = c.loop.invariant in
-    let v = c.args.heaps.now in
-    let u : HasDoneUnit c.loop.heaps c.loop.self c.unit.new.heaps c.unit.new.self at_end (telling c.loop.out) (telling c.unit.new.out) =
-    subst (λ (p : Progress). HasDoneUnit c.loop.heaps c.loop.self c.unit.new.heaps c.unit.new.self p (telling c.loop.out) (telling c.unit.new.out))
-    (ap (λ (e : Ended). progress_of (Ok e)) c.in-Yes.is) c.in_ok-ended.ensures in
-    subst (λ (p : Progress). IsSliced c.args.units (machine_of v.heap c.args.self.now) (machine_of c.unit.new.heaps.heap c.unit.new.self) p c.args.steps.now c.tick.new.self
-    (telling c.args.out.now) (telling c.unit.new.out)) (sym (ap (λ (e : Ended). progress_of (Ok e)) c.in-Yes.is))
-    (sliced-stopped v c.args.self.now c.requires.runs c.args.units c.loop.counter c.loop.heaps c.loop.self c.unit.new.heaps c.unit.new.self at_end c.args.steps.now c.tick.new.self
-    (telling c.args.out.now) (telling c.loop.out) (telling c.unit.new.out) (omega (arith, c.loop-test.true)) (λ e. cc) i.gone_on i.told u (omega (arith, i.counted, c.tick.ensures)))
+returns-in-Yes-clause-sliced g c = grind (arith, sliced-stopped)
 
 pub returns-in-Yes-clause-keeps : goal.returns-in-Yes-clause-keeps
 returns-in-Yes-clause-keeps g c = sliced-keeps _ _ c.requires.runs _ _ _ _ _ _ _ (returns-in-Yes-clause-sliced g c)
@@ -117,12 +99,7 @@ loop-preserved g c =
 -- All units are done
 
 pub returns-clause-sliced : goal.returns-clause-sliced
-returns-clause-sliced g c =
-    let telling = g.N.Notices.telling in
-    let i = c.loop.invariant in
-    let all : c.loop.counter ≡ c.args.units = omega (arith, c.loop-test.false, c.loop.auto.counter-end) in
-    sliced-went_on c.args.heaps.now c.args.self.now c.requires.runs c.args.units c.loop.heaps c.loop.self c.args.steps.now c.loop.steps (telling c.args.out.now) (telling c.loop.out)
-    (subst (λ (k : ℕ). HasGoneOn k (machine_of c.args.heaps.now.heap c.args.self.now) (machine_of c.loop.heaps.heap c.loop.self)) all i.gone_on) i.told (omega (arith, all, i.counted))
+returns-clause-sliced g c = grind (arith, sliced-went_on)
 
 pub returns-clause-keeps : goal.returns-clause-keeps
 returns-clause-keeps g c = sliced-keeps _ _ c.requires.runs _ _ _ _ _ _ _ (returns-clause-sliced g c)

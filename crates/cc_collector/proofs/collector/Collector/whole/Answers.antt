@@ -1,8 +1,8 @@
 use Rattle.std.specs.Prelude.{OnOk, OnErr}
-use Rattle.std.proofs.Common.{Result, Ok, Err, Option, None, sym, subst}
+use Rattle.std.proofs.Common.{Result, Option, None, sym, subst, arith}
 use Rattle.std.proofs.lemmas.Result.{on_ok_weaker, on_err_weaker}
 use Rattle.cc_lists.proofs.KnownBytes.{on_err_of}
-use Rattle.cc_model.specs.End.{at_end, refused}
+use Rattle.cc_model.specs.End.{refused, at_end}
 use Rattle.cc_builder.specs.Building.{Built}
 use Rattle.cc_collector.specs.Kept.{machine_of}
 use Rattle.cc_collector.specs.Collected.{IsCollected}
@@ -16,22 +16,14 @@ use Rattle.cc_collector.proofs.collector.Collector.whole.Goals as goal
 
 -- what holds of each result holds
 on_both : {T E P : Type 0} (r : Result T E) → OnOk r P → OnErr r P → P
-on_both (Ok x) p q = p
-on_both (Err e) p q = q
+on_both r p q = grind arith
 
 -- The end of the running collection is refused
 
 -- what this comes to
 first-refused : (g : given.Over) (c : goal.After-from_residual g) → let telling = g.N.Notices.telling in let f = c.finish_running in
     IsCollected (machine_of c.args.heaps.now.heap c.args.self.now) (machine_of f.new.heaps.heap f.new.self) refused (telling c.args.out.now) (telling f.new.out)
-first-refused g c =
-    let telling = g.N.Notices.telling in
-    let v = c.args.heaps.now in
-    let w = c.finish_running.new.heaps in
-    let t = telling c.args.out.now in
-    let t₁ = telling c.finish_running.new.out in
-    subst (λ (d : Option Built). IsCollected (machine_of v.heap c.args.self.now) (machine_of w.heap d) refused t t₁) (sym c.finish_running.ensures.over)
-    (collected-refused v c.args.self.now c.requires.runs w t t₁ c.in_err-finish_running.ensures.ran c.in_err-finish_running.ensures.refused)
+first-refused g c = grind (arith, collected-refused)
 
 pub returns-in_err-finish_running-clause-refused : goal.returns-in_err-finish_running-clause-refused
 returns-in_err-finish_running-clause-refused g c = on_err_of c.from_residual.result (first-refused g c)

@@ -1,4 +1,4 @@
-use Rattle.std.proofs.Common.{◌≡◌, ℕ, List, Option, Some, None, option_map, false, refl, ap, sym, ◌∙◌, subst}
+use Rattle.std.proofs.Common.{◌≡◌, ℕ, List, Option, Some, None, false, refl, ap, sym, ◌∙◌, subst, arith}
 use Rattle.slab.specs.Slab.{Slab, Updates, get}
 use Rattle.cc_chain.specs.declared.link.Link.{Link}
 use Rattle.cc_counted.specs.declared.held.Held.{Held}
@@ -38,10 +38,7 @@ push_back-requires-clause-chain c =
     )
 
 pub push_back-requires-clause-free : goal.push_back-requires-clause-free
-push_back-requires-clause-free c =
-    let same = c.insert_reserved.ensures.key ∙ (sym c.vacant_key.ensures.value ∙ sym c.in_ok-key.ensures.key) in
-    let made = updates-at c.reserve.new.self c.insert_reserved.new.self c.insert_reserved.result c.in_ok-key.key _ same c.insert_reserved.ensures.updates in
-    ap (option_map (λ (n : Node). n.order)) made.changed ∙ ap Some c.of.ensures
+push_back-requires-clause-free c = grind (arith, updates-at)
 
 pub invariant_of-self-2 : goal.invariant_of-self-2
 invariant_of-self-2 c =

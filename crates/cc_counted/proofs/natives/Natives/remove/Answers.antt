@@ -1,15 +1,15 @@
 use Rattle.std.proofs.Common.{sym, subst}
+use Rattle.cc_chain.proofs.Slots.{among-linked}
 use Rattle.cc_lists.specs.Members.{Among}
 use Rattle.cc_counted.specs.Stored.{Stored}
 use Rattle.cc_counted.specs.Nodes.{order_links}
 use Rattle.cc_counted.specs.Natives.{slots_in, lists_of}
-use Rattle.cc_counted.proofs.Nodes.{linked-there}
 use Rattle.cc_counted.proofs.Threading.{stored-removed}
 use Rattle.cc_counted.proofs.natives.Natives.remove.Goals as goal
 
 pub unlink_at-requires-clause-linked : goal.unlink_at-requires-clause-linked
 unlink_at-requires-clause-linked c =
-    linked-there (order_links (slots_in c.self.inside)) c.self.inside.order (lists_of c.self.inside).order c.self.invariant.order c.args.key.0
+    among-linked (order_links (slots_in c.self.inside)) c.self.inside.order (lists_of c.self.inside).order c.self.invariant.order c.args.key.0
     (subst (λ (s : Stored). Among c.args.key.0 s.lists.order) (sym c.self.view_is) c.requires.order)
 
 pub invariant_of-self : goal.invariant_of-self

@@ -1,4 +1,4 @@
-use Rattle.std.proofs.Common.{Option, refl, ap, ◌∙◌}
+use Rattle.std.proofs.Common.{Option, ap, ◌∙◌}
 use Rattle.cc_chain.specs.declared.link.Link.{Link}
 use Rattle.cc_chain.specs.Links.{with_link}
 use Rattle.cc_chain.proofs.Stores.{slot_at-set, slot_at-live}
@@ -14,12 +14,4 @@ returns-clause-links c =
     ∙ ap (λ (link : Option Link). with_link (order_links slots) c.args.key link) c.of.ensures
 
 pub returns-clause-rest : goal.returns-clause-rest
-returns-clause-rest c =
-    let slots = c.args.self.now.slab.slots in
-    let read = c.index_mut.ensures.value in
-    threads-same _ _ _ _ _ _ _ _ _ _ _
-    (cells-kept slots c.args.key _ _ read refl)
-    refl
-    (links-kept slots c.args.key _ _ read (λ (n : Node). n.queue) refl)
-    (links-kept slots c.args.key _ _ read (λ (n : Node). n.suspects) refl)
-    (marks-kept slots c.args.key _ _ read refl)
+returns-clause-rest c = search (threads-same, cells-kept, links-kept, marks-kept)

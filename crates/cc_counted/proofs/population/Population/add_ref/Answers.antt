@@ -1,13 +1,11 @@
-use Rattle.std.proofs.Common.{◌≡◌, ℕ, Some, false, ap, sym, subst, ◌∙◌, option_map, arith, [], ◌∷◌}
+use Rattle.std.proofs.Common.{◌≡◌, ℕ, Some, false, ap, sym, subst, ◌∙◌, option_map, arith}
 use Rattle.std.proofs.Math.ListN.{set}
 use Rattle.cc_purple.specs.Marks.{with_mark}
-use Rattle.cc_counted.specs.Lists.{Placed, Lists, cell_at, count_placed, with_one_more, counts_of}
+use Rattle.cc_counted.specs.Lists.{Placed, Lists, cell_at, with_one_more, counts_of}
 use Rattle.cc_counted.specs.Stored.{Stored, with_marks}
 use Rattle.cc_counted.specs.Resting.{IsAtRest}
 use Rattle.cc_counted.proofs.Reading.{live-found, count_of-cell}
 use Rattle.cc_counted.proofs.Adding.{counts-added, placed-added}
-use Rattle.cc_counted.specs.Owning.{Transfers}
-use Rattle.cc_counted.specs.Counts.{Counts, the_number}
 use Rattle.cc_counted.proofs.Owned.{owned-add_ref}
 use Rattle.cc_counted.proofs.population.Population.add_ref.Goals as goal
 
@@ -16,10 +14,7 @@ raised : (l : Lists) (key : ℕ) (c : Placed) → cell_at l.cells key ≡ Some c
 raised l key c at = ap (λ o. set l.cells key (option_map with_one_more o)) at
 
 pub raise-requires-clause-below : goal.raise-requires-clause-below
-raise-requires-clause-below c =
-    let l = c.args.self.now.lists in
-    let f = live-found l c.args.key.0 c.requires.live in
-    omega (arith, ap count_placed f.1, count_of-cell l c.requires.at_rest.placed c.args.key.0 f.0 f.1, c.requires.below)
+raise-requires-clause-below c = grind (arith, live-found, count_of-cell)
 
 pub returns-clause-shows : goal.returns-clause-shows
 returns-clause-shows c =
@@ -39,7 +34,4 @@ returns-clause-at_rest c =
     })
 
 pub returns-clause-owned : goal.returns-clause-owned
-returns-clause-owned c =
-    let l = c.args.self.now.lists in
-    subst (λ (n : Counts). Transfers [] (the_number (counts_of l) c.args.key.0 ∷ []) (counts_of l) n) (sym (returns-clause-shows c))
-    (owned-add_ref l c.requires.at_rest.placed c.args.key.0 (live-found l c.args.key.0 c.requires.live))
+returns-clause-owned c = search (returns-clause-shows, owned-add_ref, live-found)

@@ -1,4 +1,4 @@
-use Rattle.std.proofs.Common.{◌≡◌, ◌≢◌, ℕ, List, [], ◌∷◌, ◌++◌, drop, Option, Some, is_some, refl, ap, sym, subst, ◌∙◌, inl, true}
+use Rattle.std.proofs.Common.{◌≡◌, ◌≢◌, ℕ, List, [], ◌∷◌, ◌++◌, drop, Option, Some, is_some, refl, ap, sym, subst, ◌∙◌, inl, true, arith}
 use Rattle.cc_lists.specs.Members.{Among}
 use Rattle.cc_lists.specs.Walks.{first_of}
 use Rattle.cc_names.specs.Names.{native}
@@ -18,8 +18,7 @@ use Rattle.cc_counted.proofs.population.Population.free_front.Goals as goal
 
 -- a list with a first key is that key and the others
 front-others : (keys : List ℕ) (key : ℕ) → Some key ≡ first_of keys → keys ≡ key ∷ drop 1 keys
-front-others [] key e = absurd (cc)
-front-others (k ∷ ks) key e = ap (λ j. j ∷ ks) (cc)
+front-others keys key e = grind arith
 
 -- the front of the queue is that of a native
 front-there : (l : Lists) → IsPlaced l → (key : ℕ) (keys : List ℕ) → l.queue ≡ key ∷ keys → (c : Placed) × (cell_at l.cells key ≡ Some c)
@@ -27,8 +26,7 @@ front-there l p key keys front = p.queued key (subst (λ ks. Among key ks) (sym 
 
 -- the lists with the native in front taken out
 left-lists : (s mid new : Stored) (key : ℕ) → mid ≡ with_queue (drop 1) s → new ≡ without_cell key mid → taken_out s.lists key (drop 1 s.lists.queue) ≡ new.lists
-left-lists s mid new key e f =
-    sym (ap (λ (t : Stored). t.lists) f ∙ ap (λ (t : Stored). (without_cell key t).lists) e)
+left-lists s mid new key e f = grind arith
 
 -- the native at the key is still there before
 still-there : (s mid : Stored) (key : ℕ) (c : Placed) → mid ≡ with_queue (drop 1) s → cell_at mid.lists.cells key ≡ Some c → cell_at s.lists.cells key ≡ Some c

@@ -1,6 +1,4 @@
-use Rattle.std.proofs.Common.{true, ap, sym, subst, ◌∙◌, []}
-use Rattle.cc_counted.specs.Counts.{Counts}
-use Rattle.cc_counted.specs.Owning.{Transfers}
+use Rattle.std.proofs.Common.{true, ap, sym, subst, ◌∙◌}
 use Rattle.cc_counted.specs.Lists.{counts_of}
 use Rattle.cc_counted.specs.Stored.{Stored}
 use Rattle.cc_counted.specs.Resting.{IsAtRest}
@@ -26,7 +24,4 @@ returns-clause-at_rest c =
     })
 
 pub returns-clause-owned : goal.returns-clause-owned
-returns-clause-owned c =
-    let l = c.args.self.now.lists in
-    subst (λ (n : Counts). Transfers [] [] (counts_of l) n) (sym (returns-clause-shows c))
-    (owned-suspect l c.requires.at_rest.placed c.args.key.0 (live-found l c.args.key.0 c.requires.live))
+returns-clause-owned c = search (returns-clause-shows, owned-suspect, live-found)

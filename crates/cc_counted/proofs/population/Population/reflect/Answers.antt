@@ -1,4 +1,4 @@
-use Rattle.std.proofs.Common.{◌≡◌, is_some, true, option_map, refl, sym, subst}
+use Rattle.std.proofs.Common.{◌≡◌, is_some, true, option_map, refl, sym, subst, arith}
 use Rattle.cc_names.specs.declared.number.SKey.{SKey}
 use Rattle.cc_counted.specs.Lists.{Placed, cell_at, reflected_by}
 use Rattle.cc_counted.specs.Stored.{Stored}
@@ -10,22 +10,13 @@ pub has_preserved_reflector-before-requires : goal.has_preserved_reflector-befor
 has_preserved_reflector-before-requires c = subst (λ (v : Stored). is_some (cell_at v.lists.cells c.args.key.0) ≡ true) (sym c.self.view_is) c.requires
 
 pub has_preserved_reflector-after-requires : goal.has_preserved_reflector-after-requires
-has_preserved_reflector-after-requires c =
-    let s = c.self.inside.natives in
-    let f = placed-there (cell_at s.lists.cells c.args.key.0) (subst (λ (v : Stored). is_some (cell_at v.lists.cells c.args.key.0) ≡ true) (sym c.self.view_is) c.requires) in
-    live-then s c.reflect.new.self c.self.inside.holders c.self.invariant c.args.key.0 (reflected_by (option_map (λ (k : SKey). k.0) c.args.to)) c.reflect.ensures f.0 f.1 refl
+has_preserved_reflector-after-requires c = grind (arith, placed-there, live-then)
 
 pub recount-requires-clause-live : goal.recount-requires-clause-live
-recount-requires-clause-live c =
-    let s = c.self.inside.natives in
-    let f = placed-there (cell_at s.lists.cells c.args.key.0) (subst (λ (v : Stored). is_some (cell_at v.lists.cells c.args.key.0) ≡ true) (sym c.self.view_is) c.requires) in
-    live-then s c.reflect.new.self c.self.inside.holders c.self.invariant c.args.key.0 (reflected_by (option_map (λ (k : SKey). k.0) c.args.to)) c.reflect.ensures f.0 f.1 refl
+recount-requires-clause-live c = grind (arith, placed-there, live-then)
 
 pub recount-requires-clause-room : goal.recount-requires-clause-room
-recount-requires-clause-room c =
-    let s = c.self.inside.natives in
-    let f = placed-there (cell_at s.lists.cells c.args.key.0) (subst (λ (v : Stored). is_some (cell_at v.lists.cells c.args.key.0) ≡ true) (sym c.self.view_is) c.requires) in
-    room-then s c.reflect.new.self c.self.inside.holders c.self.invariant c.args.key.0 (reflected_by (option_map (λ (k : SKey). k.0) c.args.to)) c.reflect.ensures f.0 f.1 refl
+recount-requires-clause-room c = grind (arith, placed-there, room-then)
 
 pub invariant_of-self : goal.invariant_of-self
 invariant_of-self c =

@@ -17,6 +17,4 @@ drain-requires-clause-balanced g c =
     )
 
 pub returns-clause-comes_to : goal.returns-clause-comes_to
-returns-clause-comes_to g c =
-    ComesTo-cascade c.args.self.now.lists c.give_up.new.self.lists c.drain.new.self.lists (g.N.Notices.telling c.args.out.now) (g.N.Notices.telling c.drain.new.out)
-    (the_number (keyed c.args.self.now.lists.cells) c.args.key.0) c.requires.placed c.requires.emptied c.give_up.ensures.gives_up c.drain.ensures.drains
+returns-clause-comes_to g c = search (ComesTo-cascade)

@@ -1,6 +1,4 @@
-use Rattle.std.proofs.Common.{[], refl, sym, subst, ap, ◌∙◌}
-use Rattle.cc_counted.specs.Counts.{Counts, the_number}
-use Rattle.cc_counted.specs.Owning.{Transfers}
+use Rattle.std.proofs.Common.{refl, sym, subst, ap, ◌∙◌}
 use Rattle.cc_counted.specs.Lists.{counts_of}
 use Rattle.cc_counted.specs.Stored.{Stored}
 use Rattle.cc_counted.specs.Resting.{IsAtRest}
@@ -16,9 +14,7 @@ returns-clause-shows c =
     ap (λ (s : Stored). counts_of s.lists) c.preserve.ensures ∙ counts-flagged l c.requires.at_rest.placed c.args.key.0 f.0 f.1 c.args.on _ refl
 
 pub returns-clause-owned : goal.returns-clause-owned
-returns-clause-owned c =
-    let l = c.args.self.now.lists in
-    subst (λ (n : Counts). Transfers [] [] (counts_of l) n) (sym (returns-clause-shows c)) (owned-flagged (counts_of l) (the_number (counts_of l) c.args.key.0) c.args.on)
+returns-clause-owned c = search (returns-clause-shows, owned-flagged)
 
 pub returns-clause-at_rest : goal.returns-clause-at_rest
 returns-clause-at_rest c =

@@ -1,7 +1,5 @@
-use Rattle.std.proofs.Common.{[], option_map, refl, sym, subst, ap, ◌∙◌}
+use Rattle.std.proofs.Common.{option_map, refl, sym, subst, ap, ◌∙◌}
 use Rattle.cc_names.specs.declared.number.SKey.{SKey}
-use Rattle.cc_counted.specs.Counts.{Counts}
-use Rattle.cc_counted.specs.Owning.{Transfers}
 use Rattle.cc_counted.specs.Lists.{counts_of}
 use Rattle.cc_counted.specs.Stored.{Stored}
 use Rattle.cc_counted.specs.Resting.{IsAtRest}
@@ -17,9 +15,7 @@ returns-clause-shows c =
     ap (λ (s : Stored). counts_of s.lists) c.reflect.ensures ∙ counts-reflected l c.requires.at_rest.placed c.args.key.0 f.0 f.1 (option_map (λ (k : SKey). k.0) c.args.to) _ refl
 
 pub returns-clause-owned : goal.returns-clause-owned
-returns-clause-owned c =
-    let l = c.args.self.now.lists in
-    subst (λ (n : Counts). Transfers [] [] (counts_of l) n) (sym (returns-clause-shows c)) (owned-reflected (counts_of l) c.args.key.0 (option_map (λ (k : SKey). k.0) c.args.to))
+returns-clause-owned c = search (returns-clause-shows, owned-reflected)
 
 pub returns-clause-at_rest : goal.returns-clause-at_rest
 returns-clause-at_rest c =

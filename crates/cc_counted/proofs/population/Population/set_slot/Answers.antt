@@ -1,7 +1,7 @@
 use Rattle.std.proofs.Common.{◌≡◌, ◌<◌, ℕ, Option, Some, None, length, get_or, ap, ◌∙◌, option_map, arith, subst, sym}
 use Rattle.std.proofs.Math.ListN.{set}
 use Rattle.cc_counted.specs.declared.held.Held.{Held}
-use Rattle.cc_counted.specs.Counts.{name_of, is_live, numbers_held}
+use Rattle.cc_counted.specs.Counts.{name_of, numbers_held}
 use Rattle.cc_counted.specs.Lists.{Placed, Lists, cell_at, slots_placed, with_slot, counts_of}
 use Rattle.cc_counted.specs.Stored.{Stored}
 use Rattle.cc_counted.specs.Resting.{IsAtRest}
@@ -36,12 +36,7 @@ returns-clause-name c =
     ap (name_of (counts_of l)) read ∙ slot-name l c.requires.at_rest.placed c.args.key.0 f.0 f.1 c.args.i
 
 pub returns-clause-live : goal.returns-clause-live
-returns-clause-live c =
-    let l = c.args.self.now.lists in
-    let f = live-found l c.args.key.0 c.requires.live in
-    let read : c.write.result ≡ get_or f.0.slots c.args.i None = c.write.ensures.value ∙ ap (λ o. get_or (slots_placed o) c.args.i None) f.1 in
-    let within : c.args.i < length f.0.slots = omega (arith, length-slots_of l c.requires.at_rest.placed c.args.key.0 f.0 f.1, c.requires.within) in
-    ap (is_live (counts_of l)) read ∙ slot-live l c.requires.at_rest.placed c.args.key.0 f.0 f.1 c.args.i within
+returns-clause-live c = grind (arith, live-found, length-slots_of, slot-live)
 
 pub returns-clause-at_rest : goal.returns-clause-at_rest
 returns-clause-at_rest c =

@@ -1,5 +1,5 @@
 use Rattle.cc_counted.specs.Owning.{AreOwned}
-use Rattle.std.proofs.Common.{◌≡◌, ◌≤◌, ℕ, [], ◌∷◌, length, Option, Some, is_some, ap, arith, sym, subst, ◌∙◌}
+use Rattle.std.proofs.Common.{◌≡◌, ◌≤◌, [], ◌∷◌, length, Some, ap, arith, sym, subst, ◌∙◌}
 use Rattle.cc_names.specs.Names.{native}
 use Rattle.cc_names.specs.Sizes.{most_slots}
 use Rattle.cc_model.specs.declared.item.Event.TheVariants.{Unlinked}
@@ -32,10 +32,7 @@ empty_each-requires-clause-owned g c =
     )
 
 pub set_preserved-requires-clause-live : goal.set_preserved-requires-clause-live
-set_preserved-requires-clause-live g c =
-    let mid = c.empty_each.new.self.lists in
-    let e = c.empty_each.ensures.empties in
-    ap (λ (o : Option ℕ). is_some o) (number_at-cell mid.cells c.args.key.0 e.cell e.there)
+set_preserved-requires-clause-live g c = grind (arith, number_at-cell)
 
 pub returns-clause-shows : goal.returns-clause-shows
 returns-clause-shows g c =

@@ -1,4 +1,4 @@
-use Rattle.std.proofs.Common.{◌≡◌, ◌<◌, ◌≤◌, None, is_some, true, length, get_or, refl, sym, ◌∙◌, ap, subst}
+use Rattle.std.proofs.Common.{◌≡◌, ◌<◌, ◌≤◌, None, is_some, true, length, get_or, refl, sym, ◌∙◌, ap, subst, arith}
 use Rattle.std.proofs.Math.ListN.{length-set}
 use Rattle.cc_names.specs.Sizes.{most_slots}
 use Rattle.cc_counted.specs.Lists.{cell_at, slots_placed, with_slot}
@@ -7,16 +7,10 @@ use Rattle.cc_counted.proofs.Scripts.{live-then, placed-there, recounted-then, r
 use Rattle.cc_counted.proofs.population.Population.write.Goals as goal
 
 pub recount-requires-clause-live : goal.recount-requires-clause-live
-recount-requires-clause-live c =
-    let s = c.self.inside.natives in
-    let f = placed-there (cell_at s.lists.cells c.args.key.0) (subst (λ (v : Stored). is_some (cell_at v.lists.cells c.args.key.0) ≡ true) (sym c.self.view_is) c.requires.live) in
-    live-then s c.write-old.new.self c.self.inside.holders c.self.invariant c.args.key.0 (with_slot c.args.i c.args.item) c.write-old.ensures.lists f.0 f.1 refl
+recount-requires-clause-live c = grind (arith, placed-there, live-then)
 
 pub recount-requires-clause-room : goal.recount-requires-clause-room
-recount-requires-clause-room c =
-    let s = c.self.inside.natives in
-    let f = placed-there (cell_at s.lists.cells c.args.key.0) (subst (λ (v : Stored). is_some (cell_at v.lists.cells c.args.key.0) ≡ true) (sym c.self.view_is) c.requires.live) in
-    room-then s c.write-old.new.self c.self.inside.holders c.self.invariant c.args.key.0 (with_slot c.args.i c.args.item) c.write-old.ensures.lists f.0 f.1 refl
+recount-requires-clause-room c = grind (arith, placed-there, room-then)
 
 pub invariant_of-self : goal.invariant_of-self
 invariant_of-self c =

@@ -1,4 +1,4 @@
-use Rattle.std.proofs.Common.{◌≡◌, ◌≢◌, true, Err, Some, None, is_some, refl, sym, subst, arith}
+use Rattle.std.proofs.Common.{◌≡◌, ◌≢◌, true, Err, Some, None, is_some, refl, sym, subst}
 use Rattle.cc_names.specs.declared.register.Reg.TheVariants.{N}
 use Rattle.cc_model.specs.Graph.{objects_of, register}
 use Rattle.cc_document.specs.Words.{element_of, parent_of, child_of}
@@ -62,8 +62,15 @@ returns-clause-makes g c =
     subst (λ p. Makes 0 0 p c.write-2.new.self) c.self.view_is (makes-then 0 0 0 0 c.self.inside.parts c.write.new.self c.write-2.new.self c.write.ensures.makes c.write-2.ensures.makes)
 
 pub returns-then-is_some-clause-stops : goal.returns-then-is_some-clause-stops
-returns-then-is_some-clause-stops g c =
-    grind (arith, read-some, read-is_some, stopped-alike, both-there, c.element.ensures, c.element-else-is_none.ensures, c.parent.ensures)
+returns-then-is_some-clause-stops g c = λ e is k s.
+    let o = objects_of k in
+    let x = element_of (register k (N c.args.parent.0)) in
+    let y = element_of (register k (N c.args.child.0)) in
+    let here = read-some c.element.result x c.is_none.result (c.element.ensures k s) c.is_none.ensures c.if-is_none.false in
+    let there = read-some c.element-else-is_none.result y c.is_none-else-is_none.result (c.element-else-is_none.ensures k s) c.is_none-else-is_none.ensures c.if-is_none-2.false in
+    let has : parent_of o (register k (N c.args.child.0)) ≢ None =
+    read-is_some c.parent.result (parent_of o (register k (N c.args.child.0))) c.is_some.result (c.parent.ensures k s) c.is_some.ensures c.if-is_some.true in
+    stopped-alike (StopsAppending o c.args.parent.0 c.args.child.0) (Err HasParent) HasParent refl (both-there x y here there, has) e is
 
 pub returns-in_default-clause-stops : goal.returns-in_default-clause-stops
 returns-in_default-clause-stops g c = λ e is k s.

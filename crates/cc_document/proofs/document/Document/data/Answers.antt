@@ -1,4 +1,5 @@
-use Rattle.std.proofs.Common.{arith}
+use Rattle.std.proofs.Common.{sym, ◌∙◌, subst}
+use Rattle.cc_document.specs.Shown.{Shows}
 use Rattle.cc_document.proofs.ReadAlike.{data-alike}
 use Rattle.cc_document.proofs.document.Document.data.Goals as goal
 

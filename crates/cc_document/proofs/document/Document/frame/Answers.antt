@@ -1,6 +1,6 @@
-use Rattle.std.proofs.Common.{None, get_or, ◌∙◌, ap, arith}
+use Rattle.std.proofs.Common.{None, get_or, sym, ◌∙◌, ap, subst}
 use Rattle.cc_model.specs.Slots.{Slots}
-use Rattle.cc_document.specs.Shown.{IsIdle}
+use Rattle.cc_document.specs.Shown.{Shows, IsIdle}
 use Rattle.cc_document.proofs.Calls.{collected-shown}
 use Rattle.cc_document.proofs.document.Document.frame.Given as given
 use Rattle.cc_document.proofs.document.Document.frame.Goals as goal

@@ -40,7 +40,10 @@ returns-clause-assigned g c = λ k s.
     )
 
 pub returns-clause-tells : goal.returns-clause-tells
-returns-clause-tells g c = grind (arith, g.N.Notices.telling)
+returns-clause-tells g c =
+    let before = g.N.Notices.telling c.args.out.now in
+    let after = g.N.Notices.telling c.set_native_reg.new.out in
+    subst (λ (p : Parts). TellsWhatIsFreed p.heaps.heap c.set_native_reg.new.self.heap before after) c.self.view_is c.set_native_reg.ensures.tells
 
 pub returns-clause-makes : goal.returns-clause-makes
 returns-clause-makes g c =

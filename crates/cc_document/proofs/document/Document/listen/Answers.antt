@@ -39,7 +39,10 @@ returns-clause-listens g c = λ k s.
     )
 
 pub empty-requires-clause-shown : goal.empty-requires-clause-shown
-empty-requires-clause-shown g c = search (c.hand_over.ensures.shows, c.in_ok-close_over.ensures.closed)
+empty-requires-clause-shown g c =
+    let s = c.self.invariant.0 in
+    let h = closed_over c.args.about.0 s.0 in
+    (written c.args.to.0 1 (Some (S 1)) h, c.hand_over.ensures.shows h (c.in_ok-close_over.ensures.closed s.0 s.1))
 
 pub invariant_of-self : goal.invariant_of-self
 invariant_of-self g c =
@@ -98,7 +101,17 @@ returns-in_err-close_over-clause-tried g c = on_err_of c.from_residual.result
     (⊎_elim (λ t. inl (record { running = c.close_over.ensures.running; made = t.made })) (λ t. inr (record { running = c.close_over.ensures.running; made = t.made })) c.in_err-close_over.ensures.tried))
 
 pub returns-in_err-close_over-clause-empty : goal.returns-in_err-close_over-clause-empty
-returns-in_err-close_over-clause-empty g c = grind (arith, read-some, both-there, c.element.ensures, c.element-else-is_none.ensures)
+returns-in_err-close_over-clause-empty g c = λ k s lacks.
+    let x = element_of (register k (N c.args.to.0)) in
+    let y = element_of (register k (N c.args.about.0)) in
+    let here = read-some c.element.result x c.is_none.result (c.element.ensures k s) c.is_none.ensures c.if-is_none.false in
+    let there = read-some c.element-else-is_none.result y c.is_none-else-is_none.result (c.element-else-is_none.ensures k s) c.is_none-else-is_none.ensures c.if-is_none-2.false in
+    absurd (both-there x y here there lacks)
 
 pub returns-clause-empty : goal.returns-clause-empty
-returns-clause-empty g c = grind (arith, read-some, both-there, c.element.ensures, c.element-else-is_none.ensures)
+returns-clause-empty g c = λ k s lacks.
+    let x = element_of (register k (N c.args.to.0)) in
+    let y = element_of (register k (N c.args.about.0)) in
+    let here = read-some c.element.result x c.is_none.result (c.element.ensures k s) c.is_none.ensures c.if-is_none.false in
+    let there = read-some c.element-else-is_none.result y c.is_none-else-is_none.result (c.element-else-is_none.ensures k s) c.is_none-else-is_none.ensures c.if-is_none-2.false in
+    absurd (both-there x y here there lacks)

@@ -1,4 +1,4 @@
-use Rattle.std.proofs.Common.{[], ◌≤◌, sym, subst, arith}
+use Rattle.std.proofs.Common.{[], ◌≤◌, sym, subst}
 use Rattle.cc_model.specs.Heap.{Heap}
 use Rattle.cc_document.specs.Shown.{Shows, parts, empty_document}
 use Rattle.cc_document.proofs.Beginning.{Shows-empty, empty-idle}

@@ -12,6 +12,7 @@ use Rattle.cc_document.proofs.Assigning.{made-reads}
 use Rattle.cc_document.proofs.Documents.{made_in-document}
 use Rattle.cc_document.proofs.Holding.{room-for_native}
 use Rattle.cc_document.proofs.Freed.{make_native-made}
+use Rattle.cc_heaps.specs.Leaving.{TellsWhatIsFreed}
 use Rattle.cc_document.proofs.Idle.{idle-after, made_in-left}
 use Rattle.cc_document.proofs.Steps.{Shows-step}
 use Rattle.cc_document.proofs.document.Document.new_element.Goals as goal
@@ -52,14 +53,20 @@ returns-clause-made g c = λ k s.
     )
 
 pub returns-in_err-number-clause-tells : goal.returns-in_err-number-clause-tells
-returns-in_err-number-clause-tells g c = grind (arith, g.N.Notices.telling)
+returns-in_err-number-clause-tells g c =
+    let before = g.N.Notices.telling c.args.out.now in
+    let after = g.N.Notices.telling c.new_native.new.out in
+    subst (λ (p : Parts). TellsWhatIsFreed p.heaps.heap c.new_native.new.self.heap before after) c.self.view_is c.new_native.ensures.tells
 
 -- there was room
 below : (limit made : ℕ) → ¬ (limit ≤ made) → made < limit
 below limit made room = ⊎_elim (λ l. l) (λ m. absurd (room m)) (cases_lt made limit)
 
 pub returns-clause-tells : goal.returns-clause-tells
-returns-clause-tells g c = grind (arith, g.N.Notices.telling)
+returns-clause-tells g c =
+    let before = g.N.Notices.telling c.args.out.now in
+    let after = g.N.Notices.telling c.new_native.new.out in
+    subst (λ (p : Parts). TellsWhatIsFreed p.heaps.heap c.new_native.new.self.heap before after) c.self.view_is c.new_native.ensures.tells
 
 pub returns-clause-makes : goal.returns-clause-makes
 returns-clause-makes g c =

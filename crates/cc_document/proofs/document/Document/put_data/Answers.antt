@@ -103,7 +103,10 @@ returns-in-Err-clause-same c = λ k s.
     )
 
 pub empty-requires-2-clause-shown : goal.empty-requires-2-clause-shown
-empty-requires-2-clause-shown c = search (c.in_default.ensures.entered, c.in_ok-close_over.ensures.closed)
+empty-requires-2-clause-shown c =
+    let s = c.self.invariant.0 in
+    let h = closed_over c.args.about.0 s.0 in
+    (entered c.args.of.0 h, c.in_default.ensures.entered h (c.in_ok-close_over.ensures.closed s.0 s.1))
 
 pub invariant_of-self-2 : goal.invariant_of-self-2
 invariant_of-self-2 c =
@@ -115,13 +118,28 @@ invariant_of-self-2 c =
     ((k, t), idle-after c.self.inside.parts c.empty-2.new.self s.0 k s.1 t (with_data-left s.0 c.args.of.0 c.args.about.0 s.1.well.registers.1 one.well.registers.1) c.self.invariant.1)
 
 pub returns-in_err-close_over-clause-empty : goal.returns-in_err-close_over-clause-empty
-returns-in_err-close_over-clause-empty c = grind (arith, read-some, both-there, c.element.ensures, c.element-else-is_none.ensures)
+returns-in_err-close_over-clause-empty c = λ k s lacks.
+    let x = element_of (register k (N c.args.of.0)) in
+    let y = element_of (register k (N c.args.about.0)) in
+    let here = read-some c.element.result x c.is_none.result (c.element.ensures k s) c.is_none.ensures c.if-is_none.false in
+    let there = read-some c.element-else-is_none.result y c.is_none-else-is_none.result (c.element-else-is_none.ensures k s) c.is_none-else-is_none.ensures c.if-is_none-2.false in
+    absurd (both-there x y here there lacks)
 
 pub returns-in-Err-clause-empty : goal.returns-in-Err-clause-empty
-returns-in-Err-clause-empty c = grind (arith, read-some, both-there, c.element.ensures, c.element-else-is_none.ensures)
+returns-in-Err-clause-empty c = λ k s lacks.
+    let x = element_of (register k (N c.args.of.0)) in
+    let y = element_of (register k (N c.args.about.0)) in
+    let here = read-some c.element.result x c.is_none.result (c.element.ensures k s) c.is_none.ensures c.if-is_none.false in
+    let there = read-some c.element-else-is_none.result y c.is_none-else-is_none.result (c.element-else-is_none.ensures k s) c.is_none-else-is_none.ensures c.if-is_none-2.false in
+    absurd (both-there x y here there lacks)
 
 pub returns-clause-empty : goal.returns-clause-empty
-returns-clause-empty c = grind (arith, read-some, both-there, c.element.ensures, c.element-else-is_none.ensures)
+returns-clause-empty c = λ k s lacks.
+    let x = element_of (register k (N c.args.of.0)) in
+    let y = element_of (register k (N c.args.about.0)) in
+    let here = read-some c.element.result x c.is_none.result (c.element.ensures k s) c.is_none.ensures c.if-is_none.false in
+    let there = read-some c.element-else-is_none.result y c.is_none-else-is_none.result (c.element-else-is_none.ensures k s) c.is_none-else-is_none.ensures c.if-is_none-2.false in
+    absurd (both-there x y here there lacks)
 
 pub returns-in_err-close_over-clause-stays : goal.returns-in_err-close_over-clause-stays
 returns-in_err-close_over-clause-stays c =

@@ -1,4 +1,4 @@
-use Rattle.std.proofs.Common.{◌≡◌, ◌≢◌, true, Err, None, option_map, refl, is_some, sym, ◌∙◌, ap, subst, arith}
+use Rattle.std.proofs.Common.{◌≡◌, ◌≢◌, true, Err, None, option_map, refl, is_some, sym, ◌∙◌, ap, subst}
 use Rattle.cc_names.specs.declared.number.NativeNo.{NativeNo}
 use Rattle.cc_names.specs.declared.register.Reg.TheVariants.{N}
 use Rattle.cc_model.specs.Graph.{objects_of, register}

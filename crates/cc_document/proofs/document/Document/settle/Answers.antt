@@ -1,4 +1,4 @@
-use Rattle.std.proofs.Common.{None, get_or, ◌∙◌, ap, arith}
+use Rattle.std.proofs.Common.{None, get_or, sym, ◌∙◌, ap, subst}
 use Rattle.cc_model.specs.Slots.{Slots}
 use Rattle.cc_document.specs.Shown.{Shows, IsIdle, parts}
 use Rattle.cc_document.proofs.Calls.{collected-shown}

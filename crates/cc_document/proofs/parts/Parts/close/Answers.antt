@@ -1,4 +1,4 @@
-use Rattle.std.proofs.Common.{◌≡◌, [], Some, sym, ◌∙◌, ap, subst, arith}
+use Rattle.std.proofs.Common.{◌≡◌, ◌<◌, [], Some, sym, ◌∙◌, ap, subst, arith}
 use Rattle.cc_names.specs.Names.{object}
 use Rattle.cc_names.specs.declared.register.Reg.TheVariants.{S}
 use Rattle.cc_model.specs.Graph.{set_slot}

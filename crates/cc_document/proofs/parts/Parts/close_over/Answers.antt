@@ -1,4 +1,4 @@
-use Rattle.std.proofs.Common.{◌≡◌, Err, refl, sym, ◌∙◌, ap, subst, inr, arith}
+use Rattle.std.proofs.Common.{◌≡◌, Err, refl, sym, ◌∙◌, ap, subst, inr}
 use Rattle.cc_names.specs.declared.register.Reg.TheVariants.{N}
 use Rattle.cc_model.specs.Graph as graph
 use Rattle.cc_model.specs.Heap as heap
@@ -78,7 +78,10 @@ empty-requires-2-clause-shown c =
     (closing h, c.close.ensures.shows h (c.in_default.ensures.wrapped m.0 m.1))
 
 pub returns-clause-closed : goal.returns-clause-closed
-returns-clause-closed c = search (c.empty-2.ensures.shows, c.close.ensures.shows, c.in_default.ensures.wrapped, c.in_ok-make_closure.ensures.made)
+returns-clause-closed c = λ g s.
+    let m = making_closure g in
+    let h = wrapping c.args.about.0 m in
+    c.empty-2.ensures.shows (closing h) (c.close.ensures.shows h (c.in_default.ensures.wrapped m (c.in_ok-make_closure.ensures.made g s)))
 
 pub returns-clause-has : goal.returns-clause-has
 returns-clause-has c =

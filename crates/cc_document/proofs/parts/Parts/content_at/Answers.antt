@@ -1,4 +1,4 @@
-use Rattle.std.proofs.Common.{◌≡◌, [], get_or, None, IsTrue, subst, arith}
+use Rattle.std.proofs.Common.{◌≡◌, ◌<◌, [], length, get_or, None, IsTrue, sym, subst}
 use Rattle.cc_counted.specs.Counts.{Counts, name_of, is_live, slots_of}
 use Rattle.cc_mutator.proofs.NativesRead.{slot-named}
 use Rattle.cc_heaps.proofs.ContentNames.{IsHeldAs}

@@ -33,7 +33,9 @@ returns-in_err-entered-clause-same c = on_err_of c.from_residual-in_err-entered.
     (without 2 h, u, record { before = unwrapped-reads g c.args.of.0 s.well.registers.1; scripts = unwrapped-left g c.args.of.0 s.well.registers.1 }))
 
 pub returns-clause-entered : goal.returns-clause-entered
-returns-clause-entered c = search (c.empty.ensures.shows, c.in_ok-entered.ensures.entered, c.in_ok-wrap_into_register.ensures.wrapped)
+returns-clause-entered c = λ g s.
+    let h = wrapping c.args.of.0 g in
+    c.empty.ensures.shows (entering h) (c.in_ok-entered.ensures.entered h (c.in_ok-wrap_into_register.ensures.wrapped g s))
 
 pub returns-in_err-entered-clause-grows : goal.returns-in_err-entered-clause-grows
 returns-in_err-entered-clause-grows c =

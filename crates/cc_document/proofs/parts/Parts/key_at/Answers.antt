@@ -1,4 +1,6 @@
-use Rattle.std.proofs.Common.{arith}
+use Rattle.std.proofs.Common.{◌∙◌, ap}
+use Rattle.cc_heaps.specs.Changes.{native_name}
+use Rattle.cc_document.specs.Words.{element_of, elements}
 use Rattle.cc_document.proofs.ElementNames.{held-element}
 use Rattle.cc_document.proofs.parts.Parts.key_at.Goals as goal
 

@@ -1,5 +1,6 @@
-use Rattle.std.proofs.Common.{[], sym, subst, arith}
+use Rattle.std.proofs.Common.{[], ◌≤◌, sym, subst}
 use Rattle.cc_laws_heap.proofs.Face.{objects-stand}
+use Rattle.cc_model.specs.Graph as graph
 use Rattle.cc_document.specs.Shown.{making_closure}
 use Rattle.cc_document.proofs.Closures.{new_closure-made}
 use Rattle.cc_document.specs.Told.{Grows}

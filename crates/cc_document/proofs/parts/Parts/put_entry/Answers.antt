@@ -1,4 +1,4 @@
-use Rattle.std.proofs.Common.{◌≡◌, [], true, Some, sym, ◌∙◌, ap, subst, arith}
+use Rattle.std.proofs.Common.{◌≡◌, [], true, Some, sym, ◌∙◌, ap, subst}
 use Rattle.std.specs.Option.{is_none, option_and_then}
 use Rattle.cc_names.specs.declared.register.Reg.TheVariants.{S}
 use Rattle.cc_model.specs.Checks.{is_map_in}
@@ -10,6 +10,7 @@ use Rattle.cc_heaps.specs.Standing.{IsReached}
 use Rattle.cc_heaps.proofs.Kept.{KeepsAll-black}
 use Rattle.cc_heaps.proofs.EntryNames.{is_map-named}
 use Rattle.cc_document.specs.Shown.{Shows, parts, entering}
+use Rattle.cc_document.specs.Told.{Grows}
 use Rattle.cc_document.proofs.Growing.{grows-entry}
 use Rattle.cc_document.proofs.Documents.{set_entry-document}
 use Rattle.cc_document.proofs.Holding.{script-black}

@@ -1,7 +1,9 @@
-use Rattle.std.proofs.Common.{ℕ, List, Option, arith}
+use Rattle.std.proofs.Common.{◌≡◌, ℕ, length, get_or, List, Option, Some, None, option_map, sym, ◌∙◌, ap, subst, arith}
 use Rattle.std.specs.Option.{option_and_then}
+use Rattle.cc_names.specs.declared.number.NativeNo.{NativeNo}
 use Rattle.cc_model.specs.Checks.{native_of}
 use Rattle.cc_script.specs.Objects.{Object, name_at}
+use Rattle.cc_script.specs.Objects as objects
 use Rattle.cc_document.specs.Words.{element_of}
 use Rattle.cc_document.proofs.ClosureKeys.{spoken-key, slot-there, no-slot}
 use Rattle.cc_document.proofs.parts.Parts.spoken_of.Goals as goal

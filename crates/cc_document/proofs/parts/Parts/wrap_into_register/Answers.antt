@@ -1,10 +1,10 @@
-use Rattle.std.proofs.Common.{◌≡◌, [], Some, sym, ◌∙◌, ap, subst, inr, arith}
+use Rattle.std.proofs.Common.{◌≡◌, [], Some, sym, ◌∙◌, ap, subst, inr}
 use Rattle.cc_names.specs.Names.{native, reflector}
 use Rattle.cc_names.specs.declared.register.Reg.TheVariants.{N, S}
 use Rattle.cc_model.specs.Checks.{reflector_of}
 use Rattle.cc_model.specs.Graph as graph
 use Rattle.cc_model.specs.Graph.{set_register, wrapped}
-use Rattle.cc_model.specs.Heap.{register}
+use Rattle.cc_model.specs.Heap.{objects_of, register}
 use Rattle.cc_counted.specs.Counts.{number_or_none}
 use Rattle.cc_script.specs.Objects.{name_at}
 use Rattle.cc_heaps.proofs.FewCounts.{none-owned}
@@ -12,6 +12,7 @@ use Rattle.cc_heaps.specs.Keyed.{the_number}
 use Rattle.cc_heaps.specs.Standing.{IsReached, IsReachedOrReflects}
 use Rattle.cc_heaps.proofs.Kept.{KeepsAll-reached}
 use Rattle.cc_mutator.proofs.NativesRead.{native-at}
+use Rattle.cc_document.specs.Stops.{StopsWrapping, out_of_memory}
 use Rattle.cc_document.specs.Shown.{Shows, parts, wrapping}
 use Rattle.cc_document.specs.Told.{Grows}
 use Rattle.cc_document.proofs.Growing.{grows-held, grows-then, grows-wrapped}

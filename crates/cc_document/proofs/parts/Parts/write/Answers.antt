@@ -14,7 +14,9 @@ pub store_native-requires-clause-order : goal.store_native-requires-clause-order
 store_native-requires-clause-order g c = none-owned c.args.self.now.heaps c.requires.shown.1.runs.order
 
 pub store_native-requires-clause-within : goal.store_native-requires-clause-within
-store_native-requires-clause-within g c = grind (arith, slots-of_key)
+store_native-requires-clause-within g c =
+    let s = c.requires.shown in
+    subst (λ n. c.args.i < n) (sym (slots-of_key c.args.self.now.heaps c.args.self.now.running s.0 s.1 c.args.of.0 c.in-Some.element c.in-Some.ensures.name c.in-Some.ensures.there)) c.requires.within
 
 pub returns-in-Some-clause-shows : goal.returns-in-Some-clause-shows
 returns-in-Some-clause-shows g c = λ k s.

@@ -1,6 +1,7 @@
-use Rattle.std.proofs.Common.{sym, ◌∙◌}
-use Rattle.cc_graph.proofs.NodesByName.{numbers-found}
+use Rattle.std.proofs.Common.{Some}
+use Rattle.cc_pages.proofs.Places.{value-then}
+use Rattle.cc_graph.proofs.NodesByName.{native-changed}
 use Rattle.cc_graph.proofs.numbers.Numbers.get_or_add.Goals as goal
 
-pub returns-in-Some-clause-added : goal.returns-in-Some-clause-added
-returns-in-Some-clause-added c = numbers-found c.args.self.now c.args.name c.in-Some.found (sym c.get.ensures ∙ c.in-Some.is)
+pub returns-in-Native-clause-added : goal.returns-in-Native-clause-added
+returns-in-Native-clause-added c = rw c.in-Native.is (value-then c.get_or_insert.result c.get_or_insert.ensures.values (λ n given. native-changed c.args.self.now c.get_or_insert.new.self c.in-Native.k (Some n) given))

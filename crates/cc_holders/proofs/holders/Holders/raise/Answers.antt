@@ -1,5 +1,4 @@
 use Rattle.std.proofs.Common.{◌<◌, rules, ap, sym, ◌∙◌}
-use Rattle.cc_holders.specs.declared.entry.Entry.TheVariants.{Unknown}
 use Rattle.cc_holders.specs.Entries.{is_known, one_more}
 use Rattle.cc_holders.specs.Known.{entry_at}
 use Rattle.cc_holders.proofs.Known.{entries-changed, entry-within}

@@ -1,5 +1,4 @@
-use Rattle.std.proofs.Common.{◌≡◌, ℕ, zero, ◌-◌, ◌+◌, set, count_by, rules, sym, subst, ◌∙◌, ap, arith, inl}
-use Rattle.cc_holders.specs.declared.entry.Entry.TheVariants.{Unknown}
+use Rattle.std.proofs.Common.{◌≡◌, ◌-◌, ◌+◌, set, count_by, rules, sym, ◌∙◌, ap, arith, inl}
 use Rattle.cc_holders.specs.Entries.{in_page, is_known, is_marked}
 use Rattle.cc_holders.proofs.Counting.{are-unknown, count-written, marked-known, none-known}
 use Rattle.cc_holders.proofs.Places.{page-written}

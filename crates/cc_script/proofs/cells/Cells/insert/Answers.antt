@@ -1,10 +1,10 @@
-use Rattle.std.proofs.Common.{rules, ◌≡◌, ◌≢◌, ℕ, ◌+◌, ◌<◌, List, Option, length, get_or, set, Some, None, ap, sym, subst, ◌∙◌, arith}
+use Rattle.std.proofs.Common.{rules, ◌≡◌, ◌≢◌, ℕ, ◌+◌, ◌<◌, List, length, get_or, set, Some, None, ap, sym, subst, ◌∙◌, arith}
 use Rattle.std.proofs.lemmas.List.{get_or-set_same, get_or-set_other}
 use Rattle.slab.specs.Slab.{Slab, Updates, get}
 use Rattle.cc_names.specs.declared.kind.Colour.{Colour}
 use Rattle.cc_names.specs.declared.kind.Colour.TheVariants.{White}
 use Rattle.cc_script.specs.Paired.{paired}
-use Rattle.cc_script.specs.Cells.{Bare, Content, Label, Linked, filled, filled_slab, in_colour, nothing}
+use Rattle.cc_script.specs.Cells.{Content, Label, filled, filled_slab, in_colour, nothing}
 use Rattle.cc_script.specs.declared.cells.Cells.TheInside.{Inside}
 use Rattle.cc_script.proofs.Paired.{paired-same, updates-made, vacant-at}
 use Rattle.cc_script.proofs.Coloured.{inserted, more-white, noted-written, reaches-filled, vacant-coloured}
@@ -14,25 +14,13 @@ use Rattle.cc_script.proofs.cells.Cells.insert.Goals.{then-place-len+in_ok-resiz
 -- the same stands at each key where room was made alone
 unchanged : (s mid : Slab Label) (contents more : List Content) (colours : List Colour) → mid.slots ≡ s.slots → ((k : ℕ) → get_or more k nothing ≡ get_or contents k nothing) →
     paired in_colour White (paired filled nothing mid.slots more) colours ≡ paired in_colour White (paired filled nothing s.slots contents) colours
-unchanged s mid contents more colours slots same =
-    ap (λ (z : List (Option Label)). paired in_colour White (paired filled nothing z more) colours) slots
-    ∙ ap (λ (z : List (Option Bare)). paired in_colour White z colours) (paired-same filled nothing s.slots contents more (λ k held. same k))
+unchanged s mid contents more colours slots same = grind (arith, paired-same)
 
 pub returns-in_err-reach-clause-err : goal.returns-in_err-reach-clause-err
-returns-in_err-reach-clause-err c =
-    let same : paired in_colour White (paired filled nothing c.reserve.new.self.slots c.reach.new.bodies.items) c.self.inside.colours.items ≡ c.args.self.now.slots =
-    unchanged c.self.inside.slab c.reserve.new.self c.self.inside.bodies.items c.reach.new.bodies.items c.self.inside.colours.items (ap (λ (z : Slab Label). z.slots) c.reserve.ensures.rest_kept) c.reach.ensures.same
-    ∙ ap (λ (z : Slab Linked). z.slots) c.self.view_is in
-    search rules
+returns-in_err-reach-clause-err c = grind (arith, unchanged)
 
 pub returns-in_err-resize-clause-err : goal.returns-in_err-resize-clause-err
-returns-in_err-resize-clause-err c =
-    let kept : c.resize.new.self.items ≡ c.self.inside.colours.items = search rules in
-    let same : paired in_colour White (paired filled nothing c.reserve.new.self.slots c.reach.new.bodies.items) c.resize.new.self.items ≡ c.args.self.now.slots =
-    ap (λ colours. paired in_colour White (paired filled nothing c.reserve.new.self.slots c.reach.new.bodies.items) colours) kept
-    ∙ (unchanged c.self.inside.slab c.reserve.new.self c.self.inside.bodies.items c.reach.new.bodies.items c.self.inside.colours.items (ap (λ (z : Slab Label). z.slots) c.reserve.ensures.rest_kept) c.reach.ensures.same
-    ∙ ap (λ (z : Slab Linked). z.slots) c.self.view_is) in
-    search rules
+returns-in_err-resize-clause-err c = grind (arith, unchanged)
 
 pub returns-clause-was_vacant : goal.returns-clause-was_vacant
 returns-clause-was_vacant c =

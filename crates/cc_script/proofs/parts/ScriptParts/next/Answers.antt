@@ -20,9 +20,7 @@ returns-in_err-next-clause-key c =
     ap (option_map (λ (k : SKey). k.0)) c.from_residual.ensures ∙ (c.in_err-next.ensures l.order c.requires.at_rest.chained.order ∙ sym (behind-shown l c.args.key.0))
 
 pub returns-clause-key : goal.returns-clause-key
-returns-clause-key c =
-    let l = lists_of c.args.self.now in
-    c.in_ok-next.ensures l.order c.requires.at_rest.chained.order ∙ sym (behind-shown l c.args.key.0)
+returns-clause-key c = search (behind-shown, c.in_ok-next.ensures)
 
 pub returns-clause-live : goal.returns-clause-live
 returns-clause-live c =

@@ -1,4 +1,4 @@
-use Rattle.std.proofs.Common.{◌≡◌, ℕ, List, [], ◌∷◌, ◌++◌, Some, option_map, true, false, ap, sym, subst, ◌∙◌}
+use Rattle.std.proofs.Common.{◌≡◌, ℕ, List, [], ◌∷◌, ◌++◌, Some, option_map, true, false, ap, sym, subst, ◌∙◌, arith}
 use Rattle.cc_chain.specs.Links.{is_live}
 use Rattle.cc_chain.proofs.Slots.{absent-free, held-live}
 use Rattle.cc_script.specs.Objects.{Object, object_at, is_below, raised}
@@ -26,10 +26,7 @@ pub paint-requires : goal.paint-requires
 paint-requires c = record { live = live-some (lists_of c.args.self.now) c.requires.under_way.placed c.args.key.0 c.requires.live }
 
 pub push_back-requires-clause-chain : goal.push_back-requires-clause-chain
-push_back-requires-clause-chain c =
-    let p = c.args.self.now in
-    let changes = c.paint.ensures.changes in
-    ((marking_of p).waiting, waiting-kept p c.requires.under_way.chained c.paint.new.self changes.order changes.waiting)
+push_back-requires-clause-chain c = grind (arith, waiting-kept)
 
 pub push_back-requires-clause-free : goal.push_back-requires-clause-free
 push_back-requires-clause-free c =

@@ -1,4 +1,4 @@
-use Rattle.std.proofs.Common.{◌≡◌, ◌↔◌, ℕ, List, Option, Some, None, option_map, option_and_then, is_some, IsSome, refl, ap, sym, subst, ◌∙◌}
+use Rattle.std.proofs.Common.{◌≡◌, ◌↔◌, ℕ, List, Option, Some, option_map, option_and_then, is_some, IsSome, ap, sym, subst, ◌∙◌, arith}
 use Rattle.cc_names.specs.declared.kind.Kind.{Kind}
 use Rattle.cc_names.specs.declared.kind.Kind.TheVariants.{Reflector}
 use Rattle.cc_names.specs.declared.number.NKey.{NKey}
@@ -13,14 +13,10 @@ abbrev native_key : Option NKey → Option ℕ
 native_key native = option_map (λ (k : NKey). k.0) native
 
 as-many : (native : Option NKey) → is_some (native_key native) ≡ is_some native
-as-many None = refl
-as-many (Some k) = refl
+as-many native = grind arith
 
 exactly : (native : Option NKey) (kind : Kind) (found : Option Kind) → FitsKind kind (native_key native) → found ≡ Some kind → IsSome native ↔ (found ≡ Some Reflector)
-exactly native kind found fits e = (
-  λ there. e ∙ ap Some (fits.0 (as-many native ∙ there)),
-  λ is. let both : Some kind ≡ Some Reflector = sym e ∙ is in sym (as-many native) ∙ fits.1 (cc),
-)
+exactly native kind found fits e = grind (arith, as-many, fits.0, fits.1)
 
 pub returns-clause-native : goal.returns-clause-native
 returns-clause-native c =

@@ -1,4 +1,4 @@
-use Rattle.std.proofs.Common.{◌≡◌, ◌<◌, ◌∙◌, ap, subst, sym, arith, length, false}
+use Rattle.std.proofs.Common.{◌≡◌, ◌<◌, ◌∙◌, ap, subst, sym, arith, false}
 use Rattle.cc_weakmaps.specs.Entries.{has_value_in, is_entry_of}
 use Rattle.cc_weakmaps.specs.Kept.{Kept}
 use Rattle.cc_weakmaps.specs.Index.{place_below, IsPlaceOf}
@@ -9,12 +9,7 @@ use Rattle.cc_weakmaps.proofs.Sought.{IsSought, followed-start, left-smaller, pl
 use Rattle.cc_weakmaps.proofs.entry_list.EntryList.place_of.Goals as goal
 
 pub loop-of_map-init : goal.loop-of_map-init
-loop-of_map-init c = record {
-  by_map = followed-start c.self.inside.entries.items c.args.the_map.0 c.args.key.0 c.args.the_map.0 c.first_with-of_map.result
-      (c.first_with-of_map.ensures.place ∙ ap (λ (z : Kept). place_below z.entries c.args.the_map.0 (length z.entries)) (sym c.self.view_is));
-  by_key = followed-start c.self.inside.entries.items c.args.the_map.0 c.args.key.0 c.args.key.0 c.first_with-of_key.result
-      (c.first_with-of_key.ensures.place ∙ ap (λ (z : Kept). place_below z.entries c.args.key.0 (length z.entries)) (sym c.self.view_is));
-}
+loop-of_map-init c = grind (arith, followed-start)
 
 pub returns-in_err-other-clause-none : goal.returns-in_err-other-clause-none
 returns-in_err-other-clause-none c =
