@@ -16,7 +16,7 @@ pub record KeepsWhatIsReached (old new : Heap) : Type 0 where
   pub native_registers : new.native_registers ≡ old.native_registers
   pub script_registers : new.script_registers ≡ old.script_registers
   pub alike : (x : Name) → ReachedIn (view old) x ↔ ReachedIn (view new) x
-  -- each of these objects is there, with the slots and the flag that it had
+  -- each of these objects is there, with the slots, the delegate and the flag that it had
   pub there : (x : Name) → ReachedIn (view old) x → Among x (names_there new)
   pub shape : (x : Name) → ReachedIn (view old) x → shape_at new x ≡ shape_at old x
   -- and a map has the value for a key that it had, or none

@@ -27,9 +27,9 @@ fn round<N: Notices>(heaps: &mut Heaps, out: &mut N) -> bool
 
 /// A whole script collection: marks and sweeps, again and again, until a round sweeps nothing. What is swept is told.
 ///
-/// What the registers reach stays as it was: each such object is there, with its slots, its flag and its key, and an entry
-/// of a reached map and a reached key keeps its value. No register reaches what is freed, before or after, and what is
-/// freed is all that leaves. Afterwards no script object is white: each is reached from a script register, or a native
+/// What the registers reach stays as it was: each such object is there, with its slots, its delegate, its flag and its key,
+/// and an entry of a reached map and a reached key keeps its value. No register reaches what is freed, before or after, and
+/// what is freed is all that leaves. Afterwards no script object is white: each is reached from a script register, or a native
 /// holds what reaches it. The heaps go on standing for the same graph.
 ///
 /// No native that nothing reaches is forgotten, where no collection runs: references lead to it from a suspect, or from a

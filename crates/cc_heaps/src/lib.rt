@@ -7,9 +7,10 @@
 //!
 //! Natives hold natives by counted references, and script objects, which are not counted; script objects hold script
 //! objects. A native has at most one reflector, a script object that stands for it and owns one counted reference to it;
-//! the native refers to its reflector once that is preserved (`places` and `place` list what an object refers to). What
-//! comes into a script register is exposed. A weak map holds nothing by itself: an entry keeps its value while its map and
-//! its key live, and never its own key.
+//! the native refers to its reflector once that is preserved (`places` and `place` list what an object refers to). A proxy
+//! refers to its delegate, a script object that it stands for, for good. What comes into a script register is exposed. A weak
+//! map holds nothing by itself: an entry keeps its value while its map and its key live, and never its own key by itself:
+//! where that is a proxy, the entry keeps it while its map and the key's delegate live.
 //!
 //! What the laws make of these equations is said beside them, for callers who know no law. For which graph the heaps
 //! stand afterwards is one clause (`stands`). What a change keeps is another (`kept`), one promise of six parts

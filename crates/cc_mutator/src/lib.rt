@@ -3,9 +3,9 @@
 //!
 //! Each command is checked before it changes anything, in one order of causes: an empty register, an object of the wrong
 //! kind, an index of no slot, a content of the wrong kind, no room. What comes into a script register, into a slot of a
-//! script object or into an entry is black: it came from a script register, or script has just touched it. A reflector
-//! whose slot is written is preserved first, also where the slot is emptied, and so is one that gets a value in a weak map:
-//! one that is not preserved is blank, and no key.
+//! script object or into an entry, and what a proxy stands for, is black: it came from a script register, or script has just
+//! touched it. A reflector whose slot is written is preserved first, also where the slot is emptied, and so is one that gets a
+//! value in a weak map or a proxy: one that is not preserved is blank, no key and no delegate.
 #![tactic(auto)]
 
 mod applying;

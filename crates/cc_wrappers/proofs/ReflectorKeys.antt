@@ -3,23 +3,15 @@ use Rattle.cc_heaps.proofs.GrayNames.{gray-named}
 use Rattle.cc_heaps.proofs.Keys.{name-in}
 use Rattle.cc_laws_heap.proofs.Face.{option_map-found}
 use Rattle.cc_lists.proofs.Held.{is_some-found}
-use Rattle.std.proofs.Common.{◌≡◌, ℕ, ◌==◌, ◌≤◌, true, false, List, Option, Some, None, is_some, option_map, refl, sym, ◌∙◌, ap, subst, inl, IsSome, option_to_list}
+use Rattle.std.proofs.Common.{◌≡◌, ℕ, false, List, Option, Some, None, option_map, refl, sym, ◌∙◌, ap, subst, inl, IsSome, option_to_list}
 use Rattle.std.specs.Prelude.{IsTrue}
-use Rattle.std.specs.List.{find, filter}
 use Rattle.std.specs.Option.{option_and_then}
 use Rattle.std.proofs.Math.ListN.{get_or-map}
-use Rattle.std.proofs.lemmas.Bool.{false≢true, eq-eqb}
 use Rattle.cc_lists.specs.Members.{Among}
-use Rattle.cc_lists.proofs.Members.{Among-map, Among-filtered, Among-passes}
-use Rattle.cc_lists.proofs.Counting.{count_by-map}
-use Rattle.cc_lists.proofs.Filtering.{find-among, find-passes}
-use Rattle.cc_lists.proofs.ListWrites.{only-member}
-use Rattle.cc_lists.proofs.Searching.{find-only}
 use Rattle.cc_names.specs.declared.name.Name.{Name}
 use Rattle.cc_names.specs.declared.kind.Colour.TheVariants.{Black}
-use Rattle.cc_names.specs.Names.{reflector, same_name}
-use Rattle.cc_names.proofs.NameTests.{same_name-true, same_name-refl}
-use Rattle.cc_model.specs.Heap.{HeapScript, is_gray_in, is_gray_colour}
+use Rattle.cc_names.specs.Names.{reflector}
+use Rattle.cc_model.specs.Heap.{is_gray_in, is_gray_colour}
 use Rattle.cc_model.specs.WellFormed.{script_names}
 use Rattle.cc_laws_heap.proofs.Face.{IsHeldBlack}
 use Rattle.cc_counted.specs.Counts.{reflector_at}

@@ -17,8 +17,8 @@ ghost use Rattle.cc_heaps.specs.Keeping.{KeepsAllIfBlack, KeepsAllIfReached};
 use cc_heaps::Heaps;
 use cc_names::{NKey, NoMemory, SKey};
 
-/// The reflector of a native, for script: it is black, with all that it reaches over slots. The one that the native has
-/// is exposed; where it has none, one is made.
+/// The reflector of a native, for script: it is black, with all that it reaches over slots and from proxies to their
+/// delegates. The one that the native has is exposed; where it has none, one is made.
 ///
 /// `NoMemory` only where the native has no reflector; it changes nothing.
 pub fn wrap(heaps: &mut Heaps, key: NKey) -> Result<SKey, NoMemory>
