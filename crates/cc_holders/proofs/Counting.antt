@@ -1,7 +1,7 @@
 -- HOW MANY ELEMENTS OF A LIST PASS A TEST, where one of them is written.
-use Rattle.std.proofs.Common.{◌≡◌, ℕ, zero, suc, ◌+◌, ◌-◌, ◌<◌, ◌≤◌, Bool, true, false, cond, nat_lt, List, [], ◌∷◌, ◌++◌, length, get_or, set, count_by, refl, ◌∙◌, ap, ⊎_elim, arith}
+use Rattle.std.proofs.Common.{◌≡◌, ℕ, zero, suc, ◌+◌, ◌-◌, ◌<◌, ◌≤◌, Bool, true, false, cond, nat_lt, List, [], ◌∷◌, length, get_or, set, count_by, refl, ◌∙◌, ap, ⊎_elim, arith}
 use Rattle.std.proofs.lemmas.Bool.{cases_lt}
-use Rattle.std.proofs.lemmas.List.Sums.{sum_by-append, sum_by-cons, sum_by-set}
+use Rattle.std.proofs.lemmas.List.Sums.{sum_by-cons, sum_by-set}
 use Rattle.cc_holders.specs.declared.entry.Entry.{Entry}
 use Rattle.cc_holders.specs.declared.entry.Entry.TheVariants.{Unknown, Known}
 use Rattle.cc_holders.specs.Entries.{AreUnknown, is_known, is_marked, one_if}
@@ -29,10 +29,6 @@ none-passes p xs i d fails none = ⊎_elim
     go : (b : Bool) → p (get_or xs i d) ≡ b → count_by p (set xs i d) + one_if (p (get_or xs i d)) ≡ count_by p xs + one_if (p d) → p (get_or xs i d) ≡ false
     go false e f = e
     go true e f = absurd (omega (arith, rw (e, fails, none) at f))
-
--- an element that does not pass goes last
-pub counted-last : {X : Type 0} (p : X → Bool) (xs : List X) (y : X) → p y ≡ false → count_by p (xs ++ y ∷ []) ≡ count_by p xs
-counted-last p xs y fails = sum_by-append (λ x. cond (p x) 1 0) xs (y ∷ []) ∙ rw fails (omega arith)
 
 -- Known and marked numbers of a page
 

@@ -1,6 +1,6 @@
 -- WHAT STANDS AT A PLACE, where an element is written, and where empty ones are added.
-use Rattle.std.specs.Prelude.{Result, Ok, Err, OnErr, OnOk}
-use Rattle.std.proofs.Common.{◌≡◌, ◌≢◌, ℕ, zero, suc, ◌/◌, ◌%◌, ◌<◌, ◌==◌, true, false, List, [], ◌∷◌, ◌++◌, length, get_or, set, if◌then◌else◌, refl, sym, ◌∙◌, ap, subst, ⊎_elim, arith}
+use Rattle.std.specs.Prelude.{Result, Ok, Err, OnErr}
+use Rattle.std.proofs.Common.{◌≡◌, ◌≢◌, ℕ, zero, suc, ◌/◌, ◌%◌, ◌<◌, ◌==◌, true, false, List, [], ◌∷◌, length, get_or, set, if◌then◌else◌, refl, sym, ◌∙◌, ap, subst, ⊎_elim, arith}
 use Rattle.std.proofs.lemmas.Bool.{cases_lt}
 use Rattle.std.proofs.lemmas.Bool.Decides.{eqb_tells}
 use Rattle.std.proofs.lemmas.List.{get_or-set_same, get_or-set_other}
@@ -14,13 +14,6 @@ pub got-any : {X : Type 0} (xs : List X) (k : ℕ) (d e : X) → k < length xs �
 got-any [] k d e inside = absurd (omega (arith, inside))
 got-any (x ∷ xs) zero d e inside = refl
 got-any (x ∷ xs) (suc k) d e inside = got-any xs k d e (omega (arith, inside))
-
--- an empty element that goes last
-pub got-last : {X : Type 0} (xs : List X) (d : X) (k : ℕ) → get_or (xs ++ d ∷ []) k d ≡ get_or xs k d
-got-last [] d zero = refl
-got-last [] d (suc k) = refl
-got-last (x ∷ xs) d zero = refl
-got-last (x ∷ xs) d (suc k) = got-last xs d k
 
 pub page-written : (es : List Entry) (place i : ℕ) (e : Entry) → place < length es → in_page (set es place e) i ≡ (if place == i then e else in_page es i)
 page-written es place i e inside = ⊎_elim
@@ -55,11 +48,7 @@ has-room gs n known = record {
     unknown : in_groups gs n ≡ Unknown → ⊥
     unknown e = let f : true ≡ false = sym known ∙ ap is_known e in cc
 
--- What follows where a call went well
-
-pub ok-then : {A E P Q : Type 0} (r : Result A E) → OnOk r P → (P → Q) → OnOk r Q
-ok-then (Ok a) h f = f h
-ok-then (Err e) h f = tt
+-- What holds in any case holds where a call fails
 
 pub err-always : {A E P : Type 0} (r : Result A E) → P → OnErr r P
 err-always (Ok a) h = tt
