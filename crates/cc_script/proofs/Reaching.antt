@@ -1,5 +1,5 @@
 -- WHAT IS REACHED OVER SLOTS: edges are slots, and where every slot holds what is there, all that is reached is there.
-use Rattle.std.proofs.Common.{◌≡◌, ℕ, List, [], ◌∷◌, Option, Some, None, refl, sym, ap, subst, inl, inr, ⊎_elim}
+use Rattle.std.proofs.Common.{◌≡◌, ℕ, List, [], ◌∷◌, Option, Some, None, refl, sym, ap, subst, inl, inr, ⊎_elim, arith}
 use Rattle.std.specs.List.{flat_map}
 use Rattle.std.specs.Option.{option_to_list}
 use Rattle.cc_lists.specs.Members.{Among}
@@ -22,10 +22,7 @@ pub slot-edge : (objects : List Object) (o : Object) (q : ℕ) → Among o objec
 slot-edge objects o q m s = Among-flat_map slot_edges o (o.key, q) objects m (Among-map (λ (r : ℕ). (o.key, r)) q (flat_map option_to_list (places_of o)) (among-held (places_of o) q s))
 
 pub edge-slot : (objects : List Object) (x y : ℕ) → Among (x, y) (edges objects) → (o : Object) × Among o objects × (o.key ≡ x) × Among (Some y) (places_of o)
-edge-slot objects x y m =
-    let k = Among-flat_map_cases slot_edges objects (x, y) m in
-    let h = Among-map_cases (λ (r : ℕ). (k.0.key, r)) (flat_map option_to_list (places_of k.0)) (x, y) k.2 in
-    (k.0, k.1, ap (λ (e : ℕ × ℕ). e.0) h.2, subst (λ z. Among (Some z) (places_of k.0)) (ap (λ (e : ℕ × ℕ). e.1) h.2) (held-among (places_of k.0) h.0 h.1))
+edge-slot objects x y m = grind (arith, Among-flat_map_cases, Among-map_cases, held-among)
 
 -- the start is reached, and what the slots of a reached object hold
 pub reached-root : (objects : List Object) (root : ℕ) → IsReachedOverSlots objects (root ∷ []) root

@@ -219,26 +219,14 @@ module _ (to : Colour) where
   looked_by m ks = elim ks [ [] ↦ m | k ∷ ks ↦ raise_each to (places_at m.objects k) (record { objects = m.objects; waiting = ks }) ]
 
   pub whole-looked : (m : Marking) → AreWhole m.objects → AreWhole (with_first_looked_into to m).objects
-  whole-looked m h = go m.waiting
-    where
-      go : (ks : List ℕ) → AreWhole (looked_by m ks).objects
-      go [] = h
-      go (k ∷ ks) = whole-each (places_at m.objects k) (record { objects = m.objects; waiting = ks }) h
+  whole-looked m h = grind (arith, whole-each)
 
   pub there-looked : (m : Marking) (q : ℕ) → is_there (with_first_looked_into to m).objects q ≡ is_there m.objects q
-  there-looked m q = go m.waiting
-    where
-      go : (ks : List ℕ) → is_there (looked_by m ks).objects q ≡ is_there m.objects q
-      go [] = refl
-      go (k ∷ ks) = there-each (places_at m.objects k) (record { objects = m.objects; waiting = ks }) q
+  there-looked m q = grind (arith, there-each)
 
   -- less is to be done then, and nothing is done where none waits
   pub looked-spends : (m : Marking) → is_some (first_of m.waiting) ≡ true → to_do to (with_first_looked_into to m) < to_do to m
-  looked-spends m = go m.waiting
-    where
-      go : (ks : List ℕ) → is_some (first_of ks) ≡ true → to_do to (looked_by m ks) < to_do to (record { objects = m.objects; waiting = ks })
-      go [] some = absurd (true≢false (sym some))
-      go (k ∷ ks) some = omega (arith, popped-does to m.objects (k ∷ ks) ks k refl, raise_each-spends to (places_at m.objects k) (record { objects = m.objects; waiting = ks }))
+  looked-spends m = grind (arith, true≢false, popped-does, raise_each-spends)
 
   pub looked-none : (m : Marking) → m.waiting ≡ [] → with_first_looked_into to m ≡ m
   looked-none m none = ap (looked_by m) none

@@ -1,4 +1,4 @@
-use Rattle.std.proofs.Common.{◌≡◌, ℕ, List, Option, Some, drop, ap, sym, subst, ◌∙◌, refl, inl}
+use Rattle.std.proofs.Common.{◌≡◌, ℕ, List, Option, Some, drop, ap, sym, subst, ◌∙◌, refl, inl, arith}
 use Rattle.cc_lists.specs.Members.{Among}
 use Rattle.cc_script.specs.Objects.{Object, object_at, is_there, places_at}
 use Rattle.cc_script.specs.Lists.{Lists, objects_of, IsPlaced}
@@ -71,18 +71,7 @@ raise_places-requires-clause-held c q n =
     (subst (λ (xs : List (Option ℕ)). Among (Some q) xs) (ap (λ (l : Lists). places_at (objects_of l) c.in_ok-key.key) a.lists) n)
 
 pub returns-clause-looked : goal.returns-clause-looked
-returns-clause-looked c =
-    let p = c.args.self.now in
-    let m = marking_of p in
-    let u = c.requires.begun.under_way in
-    let popped = c.pop_front.ensures.keys m.waiting u.chained.waiting in
-    let a = lists-waiting p u.chained c.pop_front.new.store c.pop_front.new.self _ popped c.pop_front.ensures.rest in
-    let front = front-popped m.waiting c.in_ok-key.key (sym c.in_ok-key.was ∙ c.pop_front.ensures.first m.waiting u.chained.waiting) in
-    let lists = a.lists in
-    let marks = marking-is _ _ _ a in
-    let raises : marking_of c.raise_places.new.self ≡ raise_each c.args.to (places_at (shows p) c.in_ok-key.key) (record { objects = shows p; waiting = drop 1 m.waiting }) =
-    c.raise_places.ensures.raises ∙ (λ i. raise_each c.args.to (places_at (objects_of (lists i)) c.in_ok-key.key) (marks i)) in
-    raises ∙ sym (first-looked c.args.to m c.in_ok-key.key (drop 1 m.waiting) front)
+returns-clause-looked c = grind (arith, lists-waiting, front-popped, marking-is, first-looked, c.pop_front.ensures.keys, c.pop_front.ensures.first)
 
 pub returns-clause-begun : goal.returns-clause-begun
 returns-clause-begun c =
