@@ -247,7 +247,13 @@ impl Document {
     }
 
     /// A variable holds the child at a place, 0 to 7, of the element in another, or nothing where there is none.
-    pub fn visit_child<N: Notices>(&mut self, into: Variable, of: Variable, place: SlotNo, out: &mut N)
+    pub fn visit_child<N: Notices>(
+        &mut self,
+        into: Variable,
+        of: Variable,
+        place: SlotNo,
+        out: &mut N,
+    )
         requires within { place < places }
         ensures assigned { ShowsChanged self.old self.new (λ o p. IsAssigned o p into.0 (elements (child_of o (in_variable o of.0) place))) }
         ensures makes { Makes 0 0 self.old self.new }
