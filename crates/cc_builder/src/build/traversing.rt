@@ -239,6 +239,7 @@ fn is_noted(heaps: &Heaps, object: Held) -> bool
 }
 
 /// What an object refers to at place `i`, where the reference is noted.
+#[inline(always)]
 fn noted_at(heaps: &Heaps, object: Held, i: SlotNo) -> Option<Held>
     requires order { IsInOrder [] heaps.now }
     requires there { IsThere heaps.now (Some object) }
