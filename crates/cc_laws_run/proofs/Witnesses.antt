@@ -48,11 +48,11 @@ left_by-suspected input = run-suspected enough [] (asks_of version_one_forms inp
 
 -- A white native
 
--- A cycle from a native over its reflector, which is a key, to the key's value and back; the collection has
+-- A cycle from a native over its reflector to a proxy of it, which is a key, to the key's value and back; the collection has
 -- traversed every node of it, and is about to end.
 abbrev half_collected_script : List ℕ
-half_collected_script = codes "native n0 0\nwrap s1 n0\nweakmap s0\nscript s2 1\nput s2 0 s1\nwset s0 s1 s2\n"
-    ++ codes "drop n0\ndrop s1\ndrop s2\ngc\nslice 4\n"
+half_collected_script = codes "native n0 0\nwrap s1 n0\nweakmap s0\nproxy s2 s1\nscript s3 1\nput s3 0 s1\nwset s0 s2 s3\n"
+    ++ codes "drop n0\ndrop s1\ndrop s2\ndrop s3\ngc\nslice 5\n"
 
 abbrev pub half_collected : Machine
 half_collected = left_by half_collected_script
@@ -60,9 +60,9 @@ half_collected = left_by half_collected_script
 abbrev pub half_collected_snapshot : Snapshot
 half_collected_snapshot = record {
   candidates = 1 ∷ [];
-  nodes = node (native 1) (traversed (Some 1)) ∷ node (reflector 1) (traversed None) ∷ node (object 2) (traversed None) ∷ [];
-  references = (native 1, reflector 1) ∷ (reflector 1, native 1) ∷ (object 2, reflector 1) ∷ [];
-  mappings = record { the_map = None; key = Some (reflector 1); value = object 2 } ∷ [];
+  nodes = node (native 1) (traversed (Some 1)) ∷ node (reflector 1) (traversed None) ∷ node (object 2) (traversed None) ∷ node (object 3) (traversed None) ∷ [];
+  references = (native 1, reflector 1) ∷ (reflector 1, native 1) ∷ (object 2, reflector 1) ∷ (object 3, reflector 1) ∷ [];
+  mappings = record { the_map = None; key = Some (reflector 1); value = object 2 } ∷ record { the_map = None; key = Some (object 2); value = object 3 } ∷ [];
 }
 
 -- A script leaves it.
@@ -97,9 +97,9 @@ half_collected-white = inl refl
 
 -- An unreached native that is suspected
 
--- A native that holds itself and another one: the first is purple, and the second is not.
+-- A native that holds itself and another one, beside a proxy: the first is purple, and the second is not.
 abbrev dropped_script : List ℕ
-dropped_script = codes "native n0 2\nnative n1 0\nset n0 0 n0\nset n0 1 n1\ndrop n1\ncollect\ndrop n0\n"
+dropped_script = codes "script s0 0\nproxy s1 s0\nnative n0 2\nnative n1 0\nset n0 0 n0\nset n0 1 n1\ndrop n1\ncollect\ndrop n0\n"
 
 abbrev pub dropped : Machine
 dropped = left_by dropped_script
