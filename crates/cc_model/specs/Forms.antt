@@ -3,7 +3,9 @@ use Rattle.std.specs.Prelude.{ℕ, List, [], ◌∷◌, Option, Some, None, if�
 use Rattle.cc_names.specs.declared.register.Reg.TheVariants.{N, S}
 use Rattle.cc_model.specs.declared.command.Command.{Command}
 use Rattle.cc_model.specs.declared.command.Command.TheVariants as command
-use Rattle.cc_model.specs.Tokens.{number, slots_number, units_number, native_register, script_register, is_none_word}
+use Rattle.cc_model.specs.declared.dialect.Dialect.{Dialect}
+use Rattle.cc_model.specs.declared.dialect.Dialect.TheVariants.{Start, One, Two}
+use Rattle.cc_model.specs.Tokens.{number, slots_number, units_number, native_register, script_register, is_none_word, is_version_two}
 
 -- a word, and how the tokens after it are read; none where they are not of this form
 pub record Form : Type 0 where
@@ -23,14 +25,20 @@ abbrev pub all_three : {A B C D : Type 0} → (A → B → C → D) → Option A
 all_three f None y z = None
 all_three f (Some a) y z = both (f a) y z
 
+-- where all four are read
+abbrev pub all_four : {A B C D E : Type 0} → (A → B → C → D → E) → Option A → Option B → Option C → Option D → Option E
+all_four f None x y z = None
+all_four f (Some a) x y z = all_three (f a) x y z
+
 -- nothing, where the token is the word `none`
 abbrev pub nothing : {A : Type 0} → List ℕ → Option (Option A)
 nothing token = if is_none_word token then Some None else None
 
-abbrev pub native_source : List ℕ → Option (Option ℕ)
-native_source token = option_map Some (native_register token)
+-- nothing more to say, where the token is the number of version 2
+abbrev pub version_two : List ℕ → Option (Unit {0})
+version_two token = if is_version_two token then Some tt else None
 
--- forms of one, two and three tokens, and of none
+-- forms of one to four tokens, and of none
 abbrev pub alone : Command → List (List ℕ) → Option Command
 alone c [] = Some c
 alone c (a ∷ tokens) = None
@@ -47,76 +55,84 @@ abbrev pub of_three : {A B C : Type 0} → (A → B → C → Command) → (List
 of_three f first second third (a ∷ b ∷ c ∷ []) = all_three f (first a) (second b) (third c)
 of_three f first second third _ = None
 
+abbrev pub of_four : {A B C D : Type 0} → (A → B → C → D → Command) → (List ℕ → Option A) → (List ℕ → Option B) → (List ℕ → Option C) → (List ℕ → Option D) → List (List ℕ) → Option Command
+of_four f first second third fourth (a ∷ b ∷ c ∷ d ∷ []) = all_four f (first a) (second b) (third c) (fourth d)
+of_four f first second third fourth _ = None
+
 -- the forms without a script register
-abbrev pub native_form : Form
-native_form = form (codes "native") (of_two command.Native native_register slots_number)
+abbrev pub native_form : Dialect → Form
+native_form v = form (codes "native") (of_two command.Native (native_register v) (slots_number v))
 
-abbrev pub copy_native_form : Form
-copy_native_form = form (codes "copy") (of_two command.CopyNative native_register native_register)
+abbrev pub copy_native_form : Dialect → Form
+copy_native_form v = form (codes "copy") (of_two command.CopyNative (native_register v) (native_register v))
 
-abbrev pub drop_native_form : Form
-drop_native_form = form (codes "drop") (of_one (λ d. command.Drop (N d)) native_register)
+abbrev pub drop_native_form : Dialect → Form
+drop_native_form v = form (codes "drop") (of_one (λ d. command.Drop (N d)) (native_register v))
 
-abbrev pub set_native_form : Form
-set_native_form = form (codes "set") (of_three (λ d i s. command.Set d i (Some (N s))) native_register number native_register)
+abbrev pub set_native_form : Dialect → Form
+set_native_form v = form (codes "set") (of_three (λ d i s. command.Set d i (Some (N s))) (native_register v) number (native_register v))
 
-abbrev pub set_none_form : Form
-set_none_form = form (codes "set") (of_three command.Set native_register number nothing)
+abbrev pub set_none_form : Dialect → Form
+set_none_form v = form (codes "set") (of_three command.Set (native_register v) number nothing)
 
-abbrev pub get_native_form : Form
-get_native_form = form (codes "get") (of_three (λ d s i. command.Get (N d) s i) native_register native_register number)
+abbrev pub get_native_form : Dialect → Form
+get_native_form v = form (codes "get") (of_three (λ d s i. command.Get (N d) s i) (native_register v) (native_register v) number)
 
 -- the forms with script registers
-abbrev pub script_form : Form
-script_form = form (codes "script") (of_two command.Script script_register slots_number)
+abbrev pub script_form : Dialect → Form
+script_form v = form (codes "script") (of_two command.Script (script_register v) (slots_number v))
 
-abbrev pub weak_map_form : Form
-weak_map_form = form (codes "weakmap") (of_one command.WeakMap script_register)
+abbrev pub weak_map_form : Dialect → Form
+weak_map_form v = form (codes "weakmap") (of_one command.WeakMap (script_register v))
 
-abbrev pub proxy_form : Form
-proxy_form = form (codes "proxy") (of_two command.Proxy script_register script_register)
+abbrev pub proxy_form : Dialect → Form
+proxy_form v = form (codes "proxy") (of_two command.Proxy (script_register v) (script_register v))
 
-abbrev pub copy_script_form : Form
-copy_script_form = form (codes "copy") (of_two command.CopyScript script_register script_register)
+abbrev pub copy_script_form : Dialect → Form
+copy_script_form v = form (codes "copy") (of_two command.CopyScript (script_register v) (script_register v))
 
-abbrev pub drop_script_form : Form
-drop_script_form = form (codes "drop") (of_one (λ d. command.Drop (S d)) script_register)
+abbrev pub drop_script_form : Dialect → Form
+drop_script_form v = form (codes "drop") (of_one (λ d. command.Drop (S d)) (script_register v))
 
-abbrev pub set_script_form : Form
-set_script_form = form (codes "set") (of_three (λ d i s. command.Set d i (Some (S s))) native_register number script_register)
+abbrev pub set_script_form : Dialect → Form
+set_script_form v = form (codes "set") (of_three (λ d i s. command.Set d i (Some (S s))) (native_register v) number (script_register v))
 
-abbrev pub get_script_form : Form
-get_script_form = form (codes "get") (of_three (λ d s i. command.Get (S d) s i) script_register native_register number)
+abbrev pub get_script_form : Dialect → Form
+get_script_form v = form (codes "get") (of_three (λ d s i. command.Get (S d) s i) (script_register v) (native_register v) number)
 
-abbrev pub put_script_form : Form
-put_script_form = form (codes "put") (of_three (λ d i s. command.Put d i (Some s)) script_register number script_register)
+abbrev pub put_script_form : Dialect → Form
+put_script_form v = form (codes "put") (of_three (λ d i s. command.Put d i (Some s)) (script_register v) number (script_register v))
 
-abbrev pub put_none_form : Form
-put_none_form = form (codes "put") (of_three command.Put script_register number nothing)
+abbrev pub put_none_form : Dialect → Form
+put_none_form v = form (codes "put") (of_three command.Put (script_register v) number nothing)
 
-abbrev pub take_form : Form
-take_form = form (codes "take") (of_three command.Take script_register script_register number)
+abbrev pub take_form : Dialect → Form
+take_form v = form (codes "take") (of_three command.Take (script_register v) (script_register v) number)
 
-abbrev pub wrap_form : Form
-wrap_form = form (codes "wrap") (of_two command.Wrap script_register native_register)
+abbrev pub wrap_form : Dialect → Form
+wrap_form v = form (codes "wrap") (of_two command.Wrap (script_register v) (native_register v))
 
-abbrev pub unwrap_form : Form
-unwrap_form = form (codes "unwrap") (of_two command.Unwrap native_register script_register)
+abbrev pub unwrap_form : Dialect → Form
+unwrap_form v = form (codes "unwrap") (of_two command.Unwrap (native_register v) (script_register v))
 
-abbrev pub preserve_form : Form
-preserve_form = form (codes "preserve") (of_one command.Preserve script_register)
+abbrev pub preserve_form : Dialect → Form
+preserve_form v = form (codes "preserve") (of_one command.Preserve (script_register v))
 
-abbrev pub set_entry_form : Form
-set_entry_form = form (codes "wset") (of_three (λ m k v. command.SetEntry m k (Some v)) script_register script_register script_register)
+abbrev pub set_entry_form : Dialect → Form
+set_entry_form v = form (codes "wset") (of_three (λ m k x. command.SetEntry m k (Some x)) (script_register v) (script_register v) (script_register v))
 
-abbrev pub unset_entry_form : Form
-unset_entry_form = form (codes "wset") (of_three command.SetEntry script_register script_register nothing)
+abbrev pub unset_entry_form : Dialect → Form
+unset_entry_form v = form (codes "wset") (of_three command.SetEntry (script_register v) (script_register v) nothing)
 
-abbrev pub get_entry_form : Form
-get_entry_form = form (codes "wget") (of_three command.GetEntry script_register script_register script_register)
+abbrev pub get_entry_form : Dialect → Form
+get_entry_form v = form (codes "wget") (of_three command.GetEntry (script_register v) (script_register v) (script_register v))
 
-abbrev pub expose_form : Form
-expose_form = form (codes "expose") (of_two command.Expose native_register number)
+abbrev pub expose_form : Dialect → Form
+expose_form v = form (codes "expose") (of_two command.Expose (native_register v) number)
+
+-- a form of version 2 alone
+abbrev pub move_form : Dialect → Form
+move_form v = form (codes "move") (of_four command.Move (native_register v) number (native_register v) number)
 
 -- the forms without registers
 abbrev pub slice_form : Form
@@ -131,34 +147,44 @@ gc_form = form (codes "gc") (alone command.Gc)
 abbrev pub census_form : Form
 census_form = form (codes "census") (alone command.Census)
 
--- ALL FORMS of version 1
-abbrev pub version_one_forms : List Form
-version_one_forms =
-    native_form
-    ∷ script_form
-    ∷ weak_map_form
-    ∷ proxy_form
-    ∷ copy_native_form
-    ∷ copy_script_form
-    ∷ drop_native_form
-    ∷ drop_script_form
-    ∷ set_native_form
-    ∷ set_script_form
-    ∷ set_none_form
-    ∷ get_native_form
-    ∷ get_script_form
-    ∷ put_script_form
-    ∷ put_none_form
-    ∷ take_form
-    ∷ wrap_form
-    ∷ unwrap_form
-    ∷ preserve_form
-    ∷ set_entry_form
-    ∷ unset_entry_form
-    ∷ get_entry_form
-    ∷ expose_form
+-- the form of the first line of a script of version 2
+abbrev pub version_form : Form
+version_form = form (codes "version") (of_one (λ _. command.Version2) version_two)
+
+-- THE FORMS OF EVERY VERSION, with the registers and slots of one
+abbrev pub common_forms : Dialect → List Form
+common_forms v =
+    native_form v
+    ∷ script_form v
+    ∷ weak_map_form v
+    ∷ proxy_form v
+    ∷ copy_native_form v
+    ∷ copy_script_form v
+    ∷ drop_native_form v
+    ∷ drop_script_form v
+    ∷ set_native_form v
+    ∷ set_script_form v
+    ∷ set_none_form v
+    ∷ get_native_form v
+    ∷ get_script_form v
+    ∷ put_script_form v
+    ∷ put_none_form v
+    ∷ take_form v
+    ∷ wrap_form v
+    ∷ unwrap_form v
+    ∷ preserve_form v
+    ∷ set_entry_form v
+    ∷ unset_entry_form v
+    ∷ get_entry_form v
+    ∷ expose_form v
     ∷ slice_form
     ∷ collect_form
     ∷ gc_form
     ∷ census_form
     ∷ []
+
+-- ALL FORMS of a line: at the start of a script the version may be asked for, and version 2 has more words
+abbrev pub forms_of : Dialect → List Form
+forms_of Start = version_form ∷ common_forms Start
+forms_of One = common_forms One
+forms_of Two = move_form Two ∷ common_forms Two

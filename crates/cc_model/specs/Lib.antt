@@ -3,6 +3,7 @@ pub mod Answers
 pub mod Summed
 pub mod Telling
 pub mod Lines
+pub mod Dialects
 pub mod Tokens
 pub mod Forms
 pub mod Ranges

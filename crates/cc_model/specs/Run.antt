@@ -4,14 +4,13 @@ use Rattle.cc_names.specs.Allowance.{Allowance}
 use Rattle.cc_names.specs.declared.name.Name.{Name}
 use Rattle.cc_names.specs.Names.{native}
 use Rattle.cc_model.specs.declared.command.Command.{Command}
-use Rattle.cc_model.specs.declared.command.Command.TheVariants.{Nothing, Slice, Collect, Gc, Census}
+use Rattle.cc_model.specs.declared.command.Command.TheVariants.{Nothing, Version2, Slice, Collect, Gc, Census}
 use Rattle.cc_model.specs.declared.item.Refusal.{Refusal}
 use Rattle.cc_model.specs.declared.item.Refusal.TheVariants.{NoMemory, Long, Line}
 use Rattle.cc_model.specs.declared.item.Reply.{Reply}
 use Rattle.cc_model.specs.declared.item.Reply.TheVariants.{Done, Refused, Census as counted}
 use Rattle.cc_model.specs.declared.item.Event.{Event}
 use Rattle.cc_model.specs.Answers.{Answer, no_answer, replying, listing, text_of_answers}
-use Rattle.cc_model.specs.Forms.{Form}
 use Rattle.cc_model.specs.Asks.{Ask, long, bad, taken, asks_of}
 use Rattle.cc_model.specs.Checks.{refusal_of, reply_if_taken}
 use Rattle.cc_model.specs.Heap.{Heap, Outcome, objects_of}
@@ -69,6 +68,7 @@ say_nothing m = record { machine = m; answer = no_answer }
 
 abbrev pub do_command : Machine → Command → Turn
 do_command m Nothing = say_nothing m
+do_command m Version2 = answering m [] Done
 do_command m (Slice n) = after_units (slice n m)
 do_command m Collect = after_units (collect m)
 do_command m Gc = after_gc (gc m)
@@ -95,6 +95,6 @@ machine_after m (ask ∷ asks) = machine_after (do_ask m ask).machine asks
 abbrev pub plain_run : Allowance → List Bool → List Ask → List Answer
 plain_run limits memory asks = turns (empty_machine limits memory) asks
 
--- the text that is written for an input, where these forms exist
-abbrev pub plain_text : List Form → Allowance → List Bool → List ℕ → List ℕ
-plain_text forms limits memory bytes = text_of_answers (plain_run limits memory (asks_of forms bytes))
+-- the text that is written for an input
+abbrev pub plain_text : Allowance → List Bool → List ℕ → List ℕ
+plain_text limits memory bytes = text_of_answers (plain_run limits memory (asks_of bytes))

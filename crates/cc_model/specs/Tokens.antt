@@ -1,6 +1,7 @@
 -- The tokens of a line, and the numbers and registers among them.
 use Rattle.std.specs.Prelude.{ℕ, ◌+◌, ◌-◌, ◌*◌, ◌^◌, Bool, true, false, List, [], ◌∷◌, ◌++◌, ◌==◌, ◌&&◌, ◌||◌, Option, Some, None, if◌then◌else◌, nat_le, nat_lt, length, slice_index, filter, bytes_eq, codes, option_and_then}
-use Rattle.cc_names.specs.Sizes.{bank_length, most_slots}
+use Rattle.cc_model.specs.declared.dialect.Dialect.{Dialect}
+use Rattle.cc_model.specs.Dialects.{registers_of, slots_of}
 
 -- the token that a byte ends: a space ends one; a tab is no space
 abbrev pub token_ended : List ℕ → ℕ → List (List ℕ)
@@ -49,23 +50,27 @@ abbrev pub number : List ℕ → Option ℕ
 number token = number_within greatest_number token
 
 -- a number of slots
-abbrev pub slots_number : List ℕ → Option ℕ
-slots_number token = number_within most_slots token
+abbrev pub slots_number : Dialect → List ℕ → Option ℕ
+slots_number d token = number_within (slots_of d) token
 
 -- a number of units, 1 to 1000000
 abbrev pub units_number : List ℕ → Option ℕ
 units_number token = option_and_then (λ n. if nat_lt 0 n then Some n else None) (number_within 1000000 token)
 
 -- A REGISTER: a letter, and at once its number in its bank
-abbrev pub register_with : ℕ → List ℕ → Option ℕ
-register_with letter [] = None
-register_with letter (b ∷ token) = if b == letter then number_within (bank_length - 1) token else None
+abbrev pub register_with : Dialect → ℕ → List ℕ → Option ℕ
+register_with d letter [] = None
+register_with d letter (b ∷ token) = if b == letter then number_within (registers_of d - 1) token else None
 
-abbrev pub native_register : List ℕ → Option ℕ
-native_register token = register_with 110 token
+abbrev pub native_register : Dialect → List ℕ → Option ℕ
+native_register d token = register_with d 110 token
 
-abbrev pub script_register : List ℕ → Option ℕ
-script_register token = register_with 115 token
+abbrev pub script_register : Dialect → List ℕ → Option ℕ
+script_register d token = register_with d 115 token
+
+-- the number of a version that a script may ask for
+abbrev pub is_version_two : List ℕ → Bool
+is_version_two token = bytes_eq token (codes "2")
 
 -- the word `none`
 abbrev pub is_none_word : List ℕ → Bool

@@ -4,12 +4,15 @@ use cc_names::{Reg, RegNo, SlotNo};
 
 /// What one line of the input asks, by its word and its tokens in their order.
 ///
-/// The first register of a command that has a destination is the destination. Numbers of slots are 0 to 64,
-/// indexes of slots 0 to 4294967295, numbers of units 1 to 1000000.
+/// The first register of a command that has a destination is the destination. Registers are 0 to 1023, numbers of slots 0 to
+/// 256, indexes of slots 0 to 4294967295, numbers of units 1 to 1000000. Version 1 of the language names the registers 0 to
+/// 255 alone, and gives 64 slots at most.
 #[derive(Clone, Copy, Debug, PartialEq, Eq, Drop)]
 pub enum Command {
     /// A blank line or a comment.
     Nothing,
+    /// `version 2`: the rest of the script is of version 2.
+    Version2,
     /// `native nD K`: makes a native with K empty slots.
     Native(RegNo, SlotNo),
     /// `script sD K`: makes a plain script object with K empty slots.
@@ -19,15 +22,17 @@ pub enum Command {
     /// `proxy sD sS`: makes a proxy of what the source holds.
     Proxy(RegNo, RegNo),
     /// `copy nD nS`: the destination holds what the source holds.
-    CopyNative(RegNo, SlotNo),
+    CopyNative(RegNo, RegNo),
     /// `copy sD sS`: the same for script registers.
-    CopyScript(RegNo, SlotNo),
+    CopyScript(RegNo, RegNo),
     /// `drop R`: empties a register.
     Drop(Reg),
     /// `set nD i R`, or `set nD i none`: writes slot i of a native.
     Set(RegNo, u32, Option<Reg>),
     /// `get R nS i`: reads slot i of a native.
     Get(Reg, RegNo, u32),
+    /// `move nD i nS j`: slot i of a native takes what slot j of a native holds, which is emptied.
+    Move(RegNo, u32, RegNo, u32),
     /// `put sD i sS`, or `put sD i none`: writes slot i of a plain object or a reflector.
     Put(RegNo, u32, Option<RegNo>),
     /// `take sD sS i`: reads slot i of a plain object or a reflector.

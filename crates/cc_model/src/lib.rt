@@ -12,6 +12,7 @@
 
 mod command;
 mod counter;
+mod dialect;
 mod item;
 mod item_list;
 mod laws;
@@ -21,6 +22,7 @@ mod sums;
 
 pub use command::Command;
 pub use counter::Counter;
+pub use dialect::Dialect;
 pub use item::{Event, Item, Refusal, Reply, write_item};
 pub use item_list::ItemList;
 pub use laws::{bounds_suffice, reached_is_least, telling_composes};

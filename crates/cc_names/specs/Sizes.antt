@@ -1,6 +1,6 @@
 -- The sizes of the language by their names in specifications. The figures stand in the code alone.
 use Rattle.std.specs.Prelude.{ℕ, ◌+◌, ◌*◌}
-use Rattle.cc_names.specs.declared.sizes.TheConstants.{BANK_LENGTH, MOST_SLOTS}
+use Rattle.cc_names.specs.declared.sizes.TheConstants.{BANK_LENGTH, MOST_SLOTS, FIRST_BANK_LENGTH, FIRST_MOST_SLOTS}
 
 -- there are so many registers of each kind
 abbrev pub bank_length : ℕ
@@ -9,6 +9,14 @@ bank_length = BANK_LENGTH
 -- no object has more slots
 abbrev pub most_slots : ℕ
 most_slots = MOST_SLOTS
+
+-- a script of version 1 can name so many registers of each kind, the first ones
+abbrev pub first_bank_length : ℕ
+first_bank_length = FIRST_BANK_LENGTH
+
+-- and gives no object more slots
+abbrev pub first_most_slots : ℕ
+first_most_slots = FIRST_MOST_SLOTS
 
 -- so many references may lead to one native: from each register of its kind, from each slot of a million natives, and from
 -- its reflector

@@ -2,7 +2,7 @@
 
 use crate::sizes::RegNo;
 
-/// A register: `n0` to `n255` hold natives, `s0` to `s255` hold script objects. The registers are the roots.
+/// A register: `n0` to `n1023` hold natives, `s0` to `s1023` hold script objects. The registers are the roots.
 #[derive(Clone, Copy, Debug, PartialEq, Eq, Drop)]
 pub enum Reg {
     /// A native register.

@@ -1,13 +1,19 @@
-//! Two sizes of the language, each once. Whatever else needs one of them has it by its name.
+//! The sizes of the language, each once. Whatever else needs one of them has it by its name.
 
 /// The number of a register in its bank.
-pub type RegNo = u8;
+pub type RegNo = u16;
 
 /// The number of a slot of an object, counted from 0, and a number of slots.
-pub type SlotNo = u8;
+pub type SlotNo = u16;
 
 /// How many native registers there are, and how many script registers.
-pub const BANK_LENGTH: usize = 256;
+pub const BANK_LENGTH: usize = 1024;
 
 /// The most slots that a native or a plain object has.
-pub const MOST_SLOTS: SlotNo = 64;
+pub const MOST_SLOTS: SlotNo = 256;
+
+/// How many registers of each kind a script of version 1 can name: the first ones.
+pub const FIRST_BANK_LENGTH: usize = 256;
+
+/// The most slots that a script of version 1 gives a native or a plain object.
+pub const FIRST_MOST_SLOTS: SlotNo = 64;
