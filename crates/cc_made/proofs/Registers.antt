@@ -10,7 +10,7 @@ use Rattle.cc_names.specs.declared.register.Reg.{Reg}
 use Rattle.cc_names.specs.declared.register.Reg.TheVariants.{N, S}
 use Rattle.cc_names.specs.Sizes.{bank_length}
 use Rattle.cc_model.specs.declared.command.Command.{Command}
-use Rattle.cc_model.specs.declared.command.Command.TheVariants.{Nothing, Version2, Native, Script, WeakMap, Proxy, CopyNative, CopyScript, Drop, Set, Get, Put, Take, Wrap, Unwrap, Preserve, SetEntry, GetEntry, Expose, Slice, Collect, Gc, Census}
+use Rattle.cc_model.specs.declared.command.Command.TheVariants.{Nothing, Version2, Native, Script, WeakMap, Proxy, CopyNative, CopyScript, Drop, Set, Get, Move, Put, Take, Wrap, Unwrap, Preserve, SetEntry, GetEntry, Expose, Slice, Collect, Gc, Census}
 use Rattle.cc_model.specs.declared.item.Refusal.{Refusal}
 use Rattle.cc_model.specs.declared.item.Reply.{Reply}
 use Rattle.cc_model.specs.Answers.{Answer}
@@ -157,6 +157,7 @@ changed-kept g (CopyNative d s) low e = filled g g (N d) _ (same g) low e
 changed-kept g (CopyScript d s) low e = filled g g (S d) _ (same g) low e
 changed-kept g (Drop r) low e = emptied g r e
 changed-kept g (Set d i r) low e = kept 0 0 g _ (slot-banks g _ i _) e
+changed-kept g (Move d i s j) low e = kept 0 0 g _ (banks-then g _ _ (slot-banks g _ j _) (slot-banks _ _ i _)) e
 changed-kept g (Get r s i) low e = filled g g r _ (same g) low e
 changed-kept g (Put d i s) low e = kept 0 0 g _ (banks-then g _ _ (preserve-banks g _) (slot-banks _ _ i _)) e
 changed-kept g (Take d s i) low e = filled g g (S d) _ (same g) low e

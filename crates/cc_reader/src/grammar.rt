@@ -3,13 +3,13 @@
 ghost use Rattle.std.specs.Prelude.{◌≡◌, ◌<◌, [], ◌∷◌, length, IsTrue, IfSome};
 ghost use Rattle.cc_model.specs.Lines.{without_return};
 ghost use Rattle.cc_model.specs.Tokens.{tokens_of};
-ghost use Rattle.cc_model.specs.Forms.{census_form, collect_form, copy_native_form, copy_script_form, drop_native_form, drop_script_form, expose_form, forms_of, gc_form, get_entry_form, get_native_form, get_script_form, native_form, preserve_form, proxy_form, put_none_form, put_script_form, script_form, set_entry_form, set_native_form, set_none_form, set_script_form, slice_form, take_form, unset_entry_form, unwrap_form, version_form, weak_map_form, wrap_form};
+ghost use Rattle.cc_model.specs.Forms.{census_form, collect_form, copy_native_form, copy_script_form, drop_native_form, drop_script_form, expose_form, forms_of, gc_form, get_entry_form, get_native_form, get_script_form, move_form, native_form, preserve_form, proxy_form, put_none_form, put_script_form, script_form, set_entry_form, set_native_form, set_none_form, set_script_form, slice_form, take_form, unset_entry_form, unwrap_form, version_form, weak_map_form, wrap_form};
 ghost use Rattle.cc_model.specs.Ranges.{in_range};
 ghost use Rattle.cc_model.specs.Asks.{command_in, command_of};
 ghost use Rattle.cc_reader.specs.Words.{first_read, heap_forms, own_forms, reflector_forms, register_forms, slot_forms};
 
 use crate::tokens::{
-    native, next_token, number, one_token, register_of, script, slots_number, three_tokens,
+    four_tokens, native, next_token, number, one_token, register_of, script, slots_number, three_tokens,
     two_tokens, units_number,
 };
 use cc_model::{Command, Dialect};
@@ -275,6 +275,19 @@ fn read_version(after: &[u8]) -> Option<Command>
     }
 }
 
+/// The command of the word `move`, by the tokens that stand behind it. None where they are in no form of it.
+fn read_move(after: &[u8], dialect: Dialect) -> Option<Command>
+    ensures form { result ≡ first_read (move_form dialect ∷ []) (tokens_of after.now) }
+    ensures in_range { IfSome result (λ c. IsTrue (in_range c)) }
+{
+    let (to, slot, from, place) = four_tokens(after)?;
+    let register = native(to, dialect)?;
+    let slot = number(slot, u32::MAX)?;
+    let from = native(from, dialect)?;
+    let place = number(place, u32::MAX)?;
+    Some(Command::Move(register, slot, from, place))
+}
+
 /// The command of a word that makes an object, or copies or drops what a register holds, and of what stands behind it. None
 /// where the word is no such one.
 fn read_of_registers(word: &[u8], after: &[u8], dialect: Dialect) -> Option<Command>
@@ -370,7 +383,14 @@ fn read_of_dialect(word: &[u8], after: &[u8], dialect: Dialect) -> Option<Comman
                 None
             }
         }
-        Dialect::One | Dialect::Two => None,
+        Dialect::One => None,
+        Dialect::Two => {
+            if word == b"move".as_slice() {
+                read_move(after, dialect)
+            } else {
+                None
+            }
+        }
     }
 }
 

@@ -182,3 +182,13 @@ pub(crate) fn three_tokens(line: &[u8]) -> Option<(&[u8], &[u8], &[u8])>
     let (b, c) = two_tokens(after)?;
     Some((a, b, c))
 }
+
+/// The tokens of a line that has just four.
+pub(crate) fn four_tokens(line: &[u8]) -> Option<(&[u8], &[u8], &[u8], &[u8])>
+    ensures some { IfSome result (λ t. tokens_of line.now ≡ t.0.now ∷ t.1.now ∷ t.2.now ∷ t.3.now ∷ []) }
+    ensures none { IfNone result (length (tokens_of line.now) ≢ 4) }
+{
+    let (a, after) = next_token(line)?;
+    let (b, c, d) = three_tokens(after)?;
+    Some((a, b, c, d))
+}

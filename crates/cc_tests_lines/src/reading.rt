@@ -62,6 +62,20 @@ fn a_dialect_decides_how_far_numbers_go(rt: HostRuntime) {
 }
 
 #[test]
+fn a_move_is_of_version_2(rt: HostRuntime) {
+    let line = b"move n1023 4294967295 n0 1".as_slice();
+    assert_eq!(rt;
+        parse(line, Dialect::Two),
+        Some(Command::Move(1023, 4_294_967_295, 0, 1))
+    );
+    assert_eq!(rt; parse(line, Dialect::One), None);
+    assert_eq!(rt; parse(line, Dialect::Start), None);
+    for line in ["move n1 0 n2", "move n1 0 n2 1 1", "move n1 0 s2 1", "move n1 0 n2 none"] {
+        assert_eq!(rt; parse(line.as_bytes(), Dialect::Two), None);
+    }
+}
+
+#[test]
 fn the_version_is_asked_for_at_the_start(rt: HostRuntime) {
     let line = b" version  2 \r".as_slice();
     assert_eq!(rt; parse(line, Dialect::Start), Some(Command::Version2));
