@@ -1,7 +1,7 @@
 -- EACH COMMAND THAT IS NOT REFUSED LEAVES THE HEAPS SOUND.
-use Rattle.std.proofs.Common.{◌≡◌, ℕ, ◌<◌, ◌≤◌, Bool, true, ◌&&◌, List, length, Option, None, refl, sym, subst, option_map}
+use Rattle.std.proofs.Common.{◌≡◌, ℕ, ◌<◌, ◌≤◌, Bool, true, false, ◌&&◌, ◌||◌, nat_le, List, length, Option, None, refl, sym, subst, option_map}
 use Rattle.std.specs.Prelude.{IsTrue}
-use Rattle.std.proofs.lemmas.Bool.{and_parts, ltb-true, leb-true, leb-false, not-false}
+use Rattle.std.proofs.lemmas.Bool.{and_parts, or_parts, ltb-true, leb-true, leb-false, not-false}
 use Rattle.std.proofs.lemmas.List.{length-replicate}
 use Rattle.cc_names.specs.declared.name.Name.{Name}
 use Rattle.cc_names.specs.declared.register.Reg.TheVariants.{N, S}
@@ -33,7 +33,11 @@ few-slots n b e = leb-true n most_slots (and_parts b (is_slots n) e).1
 -- a move that is not refused has both slots
 pub moved-slots : (h : Heap) (d i q j : ℕ) → (nat_le (length (slots_at (objects_of h) (N d))) i || nat_le (length (slots_at (objects_of h) (N q))) j) ≡ false →
     (i < length (slots_at (objects_of h) (N d))) × (j < length (slots_at (objects_of h) (N q)))
-moved-slots h d i q j e = ?
+moved-slots h d i q j e =
+    let to = length (slots_at (objects_of h) (N d)) in
+    let from = length (slots_at (objects_of h) (N q)) in
+    let both = or_parts (nat_le to i) (nat_le from j) e in
+    (leb-false to i both.0, leb-false from j both.1)
 
 -- A command that is not refused leaves the heaps sound.
 pub effects-sound : {owned : List ℕ} (h : Heap) (c : Command) → IsSound owned h → IsTrue (in_range c) → IsTaken (objects_of h) c → IsSound owned (effects h c).heap
