@@ -3,14 +3,14 @@ ghost use Rattle.std.specs.Prelude.{◌≡◌, ◌≢◌, ◌<◌, ◌≤◌, Is
 ghost use Rattle.cc_names.specs.declared.kind.Colour.TheVariants.{Black};
 ghost use Rattle.cc_names.specs.declared.register.Reg.TheVariants.{N as n_register, S as s_register};
 ghost use Rattle.cc_names.specs.Sizes.{most_slots};
-ghost use Rattle.cc_model.specs.declared.command.Command.TheVariants.{Native, Script, WeakMap, Proxy, CopyNative, CopyScript, Drop, Set, Get, Put, Take, Wrap, Unwrap, Preserve, SetEntry, GetEntry, Expose};
+ghost use Rattle.cc_model.specs.declared.command.Command.TheVariants.{Native, Script, WeakMap, Proxy, CopyNative, CopyScript, Drop, Set, Get, Move, Put, Take, Wrap, Unwrap, Preserve, SetEntry, GetEntry, Expose};
 ghost use Rattle.cc_model.specs.declared.item.Refusal.{Refusal};
 ghost use Rattle.cc_model.specs.declared.item.Refusal.TheVariants.{NoMemory as no_memory};
 ghost use Rattle.cc_model.specs.declared.item.Reply.TheVariants.{Refused as refused};
 ghost use Rattle.cc_model.specs.Telling.{Telling, TellsEvents};
 ghost use Rattle.cc_model.specs.Checks.{is_map_in, refusal_of, slots_at, value_at};
 ghost use Rattle.cc_model.specs.Colours.{HasColourInvariant};
-ghost use Rattle.cc_model.specs.Effects.{put_in_script, set_entry as entry_set, store_native, takes_memory};
+ghost use Rattle.cc_model.specs.Effects.{move_slot as slot_moved, put_in_script, set_entry as entry_set, store_native, takes_memory};
 ghost use Rattle.cc_model.specs.Exposure.{exposed};
 ghost use Rattle.cc_model.specs.Heap.{objects_of, register};
 ghost use Rattle.cc_model.specs.Lawful.{State, RepliesWith, graph_after};
@@ -30,10 +30,10 @@ ghost use Rattle.cc_mutator.specs.Listing.{AreListedFor};
 
 use crate::checks::{
     refusal_of_expose, refusal_of_get_entry, refusal_of_get_native, refusal_of_get_script,
-    refusal_of_put, refusal_of_set, refusal_of_set_entry, refusal_of_take,
+    refusal_of_move, refusal_of_put, refusal_of_set, refusal_of_set_entry, refusal_of_take,
 };
 use crate::reads::{
-    as_native, as_script, entry_value, naming_native, naming_script, native_content,
+    as_native, as_script, entry_value, naming, naming_native, naming_script, native_content,
     script_content, script_source, source_content,
 };
 use cc_counted::Held;
@@ -212,6 +212,46 @@ fn get<N: Notices>(heaps: &mut Heaps, d: Reg, s: RegNo, i: u32, out: &mut N) -> 
         Reg::N(k) => get_native(heaps, k, s, i, out),
         Reg::S(k) => get_script(heaps, k, s, i),
     }
+}
+
+/// What slot `j` of the native in register `s` holds goes into slot `i` of the native in register `d`.
+fn hand_over<N: Notices>(heaps: &mut Heaps, d: RegNo, i: u32, s: RegNo, j: u32, out: &mut N)
+    requires order { (owned : List ℕ) × IsInOrder owned heaps.old }
+    requires to_slot { i < length (slots_at (objects_of heaps.old.heap) (n_register d)) }
+    requires from_slot { j < length (slots_at (objects_of heaps.old.heap) (n_register s)) }
+    ensures heap { heaps.new.heap ≡ (slot_moved heaps.old.heap d i s j).heap }
+    ensures told { TellsEvents (N.telling out.old) (N.telling out.new) (slot_moved heaps.old.heap d i s j).events }
+    ensures keys { KeepsKeys heaps.old heaps.new }
+    ensures order { (owned : List ℕ) → IsInOrder owned heaps.old → IsInOrder owned heaps.new }
+{
+    let Some(to) = heaps.native_reg(d) else {
+        unreachable!();
+    };
+    let Some(from) = heaps.native_reg(s) else {
+        unreachable!();
+    };
+    heaps.move_slot(to, i as SlotNo, from, j as SlotNo, out);
+}
+
+/// Moves what slot `j` of the native in register `s` holds into slot `i` of the native in register `d`.
+fn move_slot<N: Notices>(
+    heaps: &mut Heaps,
+    d: RegNo,
+    i: u32,
+    s: RegNo,
+    j: u32,
+    out: &mut N,
+) -> Reply
+    requires order { (owned : List ℕ) × IsInOrder owned heaps.old }
+    ensures { IsApplied (Move d i s j) heaps.old heaps.new result (N.telling out.old) (N.telling out.new) }
+{
+    if let Some(refusal) = refusal_of_move(heaps, d, i, s, j) {
+        return Reply::Refused(refusal);
+    }
+    let content = native_content(heaps, s, j);
+    let reply = naming(heaps, content);
+    hand_over(heaps, d, i, s, j, out);
+    reply
 }
 
 /// Writes slot `i` of the script object in a register; a reflector is preserved before, also where its slot is emptied.
@@ -416,6 +456,7 @@ fn answer<N: Notices>(heaps: &mut Heaps, command: &Command, out: &mut N) -> Repl
         Command::Drop(r) => empty(heaps, r, out),
         Command::Set(d, i, from) => set(heaps, d, i, from, out),
         Command::Get(d, s, i) => get(heaps, d, s, i, out),
+        Command::Move(d, i, s, j) => move_slot(heaps, d, i, s, j, out),
         Command::Put(d, i, from) => put(heaps, d, i, from),
         Command::Take(d, s, i) => take(heaps, d, s, i),
         Command::Wrap(d, s) => wrap(heaps, d, s),

@@ -38,7 +38,7 @@ impl Heaps {
         Ok(key)
     }
 
-    /// Makes a native with `slots` empty slots (0 to 64), which register `r` holds from then on. Its name.
+    /// Makes a native with `slots` empty slots (0 to 256), which register `r` holds from then on. Its name.
     ///
     /// What the register held is given up, and what then has no reference is deleted and told. `Full` exactly where as
     /// many natives as the limit were ever made; `NoMemory` at any other time. Neither changes anything.

@@ -127,7 +127,7 @@ impl Heaps {
         }
     }
 
-    /// Makes a plain script object with `slots` empty slots (0 to 64), which register `r` holds from then on. Its name.
+    /// Makes a plain script object with `slots` empty slots (0 to 256), which register `r` holds from then on. Its name.
     ///
     /// `Full` exactly where as many plain objects, weak maps and proxies as the limit were ever made; `NoMemory` at any other
     /// time. Neither changes anything.
