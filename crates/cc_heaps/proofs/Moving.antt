@@ -1,13 +1,12 @@
 -- WHAT A SLOT OF A NATIVE HOLDS, MOVED INTO ANOTHER: it is touched or exposed and taken out, and then the other slot takes it. The
 -- colours and snapshots stay as they should be, none is forgotten, and the heaps stand for the graph in which it is moved.
 use Rattle.std.proofs.Common.{arith, ◌≡◌, ℕ, ◌<◌, ◌==◌, List, [], ◌++◌, find, map, length, get_or, Option, Some, None, option_and_then, refl, sym, ◌∙◌, ap, subst, inl, IsTrue}
-use Rattle.std.specs.Option.{is_some, option_to_list}
+use Rattle.std.specs.Option.{option_to_list}
 use Rattle.std.proofs.Math.ListN.{get_or-map}
 use Rattle.cc_lists.specs.Members.{Among}
 use Rattle.cc_lists.proofs.Least.{derive-along}
 use Rattle.cc_lists.proofs.Members.{Among-left, Among-map}
 use Rattle.cc_names.specs.declared.name.Name.{Name}
-use Rattle.cc_names.specs.declared.name.Name.TheVariants as name
 use Rattle.cc_names.specs.Names.{native, reflector}
 use Rattle.cc_names.specs.Places.{where_set}
 use Rattle.cc_model.specs.Slots.{contents, from_to}
@@ -17,20 +16,18 @@ use Rattle.cc_model.proofs.Places.{contents-last}
 use Rattle.cc_model.specs.Graph as graph
 use Rattle.cc_model.specs.Graph.{Graph}
 use Rattle.cc_model.specs.Reached.{Reached}
-use Rattle.cc_model.specs.WellMade.{IsWellMade}
 use Rattle.cc_model.specs.Heap.{Heap, HeapNative, Outcome, native_at, set_slot, change_native, with_native_slot}
 use Rattle.cc_model.specs.Cascade.{let_go}
 use Rattle.cc_model.specs.End.{slots_now}
 use Rattle.cc_model.specs.Effects.{touched}
 use Rattle.cc_model.specs.Exposure.{exposed}
-use Rattle.cc_model.specs.StandsFor.{StandsFor}
 use Rattle.cc_model.specs.Telling.{Telling, TellsEvents}
-use Rattle.cc_model.specs.View.{view, ReachedIn, slot_edges}
-use Rattle.cc_model.specs.WellFormed.{IsWellFormed, native_names, script_names, names_there}
+use Rattle.cc_model.specs.View.{view, ReachedIn, native_edges}
+use Rattle.cc_model.specs.WellFormed.{IsWellFormed, script_names, names_there}
 use Rattle.cc_laws_heap.specs.Sound.{IsSound, numbers_of}
 use Rattle.cc_laws_heap.proofs.Face.{Follows-left, Follows-slot, Grows, Grows-change_native, IsIn, IsWellMade-change_native, KeepsNative-slot, Leaves-let_go, Leaves-touched, Made, OfSome-then, SameScripts-coloured, contents-get, native_at-number, native_at-there, native_names-change, script_names-exposed, slot-there, taken_out-black, taken_out-coloured, taken_out-length, taken_out-names, taken_out-sound, taken_out-there, touched-natives}
 use Rattle.cc_laws_snapshot.proofs.Face.{AreGentle-then, moved-loyal, native-edge, taken_out-gentle, taken_out-taken}
-use Rattle.cc_counted.specs.Counts.{is_live, key_left, name_of, number_or_none, slots_of}
+use Rattle.cc_counted.specs.Counts.{Counts, is_live, key_left, name_of, number_or_none, slots_of}
 use Rattle.cc_counted.specs.declared.held.Held.{Held}
 use Rattle.cc_script.specs.Objects.{name_at}
 use Rattle.cc_heaps.specs.Keyed.{Keyed, IsInOrder, changed_to, counts_of, keyed_name, left_with, the_number}
@@ -89,7 +86,7 @@ module _ (h : Heap) (k i m j : ℕ) (to : i < length (slots_now (native_at h k))
       go None e = tt
       go (Some y) e = derive-along (view h).registers (view h).edges (rules_of (view h).joints) (native m) y
           (native-edge h a.0 (native m) y (native_at-there h m a.0 a.1)
-          (subst (λ n. Among (native m, y) (slot_edges (native n) (places_of_native a.0))) (native_at-number h m a.0 a.1)
+          (subst (λ n. Among (native n, y) (native_edges a.0)) (native_at-number h m a.0 a.1)
           (Among-map (from_to (native a.0.number)) y (contents (places_of_native a.0))
           (subst (Among y) (sym (contents-last a.0.slots (where_set a.0.preserved (Some (reflector a.0.number)))))
           (Among-left y (contents a.0.slots) (option_to_list (where_set a.0.preserved (Some (reflector a.0.number))))
@@ -109,7 +106,7 @@ module _ (h : Heap) (k i m j : ℕ) (to : i < length (slots_now (native_at h k))
     pub moved_in-follows : Follows h (moved_in h k i m j).heap
     moved_in-follows = subst (λ o. Follows h (last o)) (sym b.1)
         (Follows-from h (last (Some b.0)) s.well_formed well
-        (AreGentle-then h t (last (Some b.0)) (taken_out-gentle owned h m j a.0 x a.1 room is s)
+        (AreGentle-then h t (last (Some b.0)) (taken_out-gentle h m j x owned a.0 a.1 room is s)
         (put-gentle owned t k i x b.0 b.1 room_then there (taken_out-taken h m j x) sound (taken_out-black h m j x s.well_formed)))
         (λ c. SameScripts-coloured t (last (Some b.0)) (put-scripts owned t k i x b.0 b.1 room_then there (taken_out-taken h m j x) sound) (taken_out-coloured h m j x c)))
 
@@ -138,13 +135,15 @@ module _ (h : Heap) (k i m j : ℕ) (to : i < length (slots_now (native_at h k))
 -- The heaps with their keys
 
 -- what the counted heap answers of a slot is held under the name of what the slot holds
-pub slot-named : (owned : List ℕ) (v : Keyed) (o : IsInOrder owned v) (key j : ℕ) (x : Option Held) → j < length (slots_of (counts_of v) key) →
-    name_of (counts_of v) x ≡ get_or (slots_of (counts_of v) key) j None → IsTrue (is_live (counts_of v) x) → IsHeldAs v x (slot_held v.heap (the_number v key) j)
-slot-named owned v o key j x within e live =
+pub slot-named : (owned : List ℕ) (v : Keyed) (o : IsInOrder owned v) (d : Counts) → d ≡ counts_of v → (key j : ℕ) (x : Option Held) → j < length (slots_of (counts_of v) key) →
+    name_of d x ≡ get_or (slots_of d key) j None → IsTrue (is_live d x) → IsHeldAs v x (slot_held v.heap (the_number v key) j)
+slot-named owned v o d is key j x within e live =
     let k = the_number v key in
     let a = has-slot (native_at v.heap k) j (within-named v key j within) in
     content-named owned v o (slot_held v.heap k j) x (slot-there v.heap k j a.0 (slot_held v.heap k j) o.sound.well_formed a.1 (sym (ap (λ n. get_or (slots_now n) j None) a.1)))
-    (e ∙ (ap (λ ss. get_or ss j None) (slots-keyed v k) ∙ get_or-map (λ y. option_and_then (keyed_name v.scripts) y) (slots_now (native_at v.heap k)) j None)) live
+    (subst (λ (d : Counts). name_of d x ≡ get_or (slots_of d key) j None) is e
+    ∙ (ap (λ ss. get_or ss j None) (slots-keyed v k) ∙ get_or-map (λ y. option_and_then (keyed_name v.scripts) y) (slots_now (native_at v.heap k)) j None))
+    (subst (λ (d : Counts). IsTrue (is_live d x)) is live)
 
 -- the number at a key, where keys are the same
 pub number-same : (v w : Keyed) (key : ℕ) → w.keys ≡ v.keys → the_number w key ≡ the_number v key
@@ -158,12 +157,10 @@ slots-touched v w key x keys e = λ i. slots_now (find (λ (n : HeapNative). n.n
 -- there is room in a slot once another is emptied
 pub within-taken : (v w : Keyed) (key i from j : ℕ) → w.keys ≡ v.keys → w.heap ≡ taken_from v.heap from j → i < length (slots_of (counts_of v) key) →
     i < length (slots_now (native_at w.heap (the_number w key)))
-within-taken v w key i from j keys e within = omega (
-  arith,
-  within-named v key i within,
-  taken_out-length v.heap from j (slot_held v.heap from j) (the_number v key),
-  (λ l. length (slots_now (native_at (e l) (number-same v w key keys l)))),
-)
+within-taken v w key i from j keys e within =
+    let same : length (slots_now (native_at w.heap (the_number w key))) ≡ length (slots_now (native_at (taken_from v.heap from j) (the_number v key))) =
+    λ l. length (slots_now (native_at (e l) (number-same v w key keys l))) in
+    omega (arith, same, within-named v key i within, taken_out-length v.heap from j (slot_held v.heap from j) (the_number v key))
 
 -- the calls of a move, by what each comes to
 pub record Moves (v t put w : Keyed) (to from : ℕ) (i j : ℕ) (content held : Option Held) : Type 0 where

@@ -2,7 +2,7 @@
 ghost use Rattle.std.specs.Prelude.{◌≡◌, ◌≢◌, ◌<◌, ◌≤◌, IsTrue, IsSome, IfSome, OnErr, OnOk, is_none, false, true, ℕ, List, length, Some, None};
 ghost use Rattle.cc_names.specs.declared.kind.Colour.TheVariants.{Black};
 ghost use Rattle.cc_names.specs.declared.register.Reg.TheVariants.{N as n_register, S as s_register};
-ghost use Rattle.cc_names.specs.Sizes.{most_slots};
+ghost use Rattle.cc_names.specs.Sizes.{bank_length, most_slots};
 ghost use Rattle.cc_model.specs.declared.command.Command.TheVariants.{Native, Script, WeakMap, Proxy, CopyNative, CopyScript, Drop, Set, Get, Move, Put, Take, Wrap, Unwrap, Preserve, SetEntry, GetEntry, Expose};
 ghost use Rattle.cc_model.specs.declared.item.Refusal.{Refusal};
 ghost use Rattle.cc_model.specs.declared.item.Refusal.TheVariants.{NoMemory as no_memory};
@@ -15,7 +15,7 @@ ghost use Rattle.cc_model.specs.Exposure.{exposed};
 ghost use Rattle.cc_model.specs.Heap.{objects_of, register};
 ghost use Rattle.cc_model.specs.Lawful.{State, RepliesWith, graph_after};
 ghost use Rattle.cc_model.specs.Mutating.{is_applied};
-ghost use Rattle.cc_model.specs.Ranges.{in_range};
+ghost use Rattle.cc_model.specs.Ranges.{in_range, is_reg};
 ghost use Rattle.cc_model.specs.StandsFor.{StandsFor};
 ghost use Rattle.cc_model.specs.View.{view};
 ghost use Rattle.cc_script.specs.Objects.{colour_at};
@@ -43,6 +43,7 @@ use cc_names::{NoMemory, Reg, RegNo, SKey, SlotNo};
 
 /// Makes a native.
 fn make_native<N: Notices>(heaps: &mut Heaps, d: RegNo, slots: SlotNo, out: &mut N) -> Reply
+    requires within { d < bank_length }
     requires order { (owned : List ℕ) × IsInOrder owned heaps.old }
     requires slots { slots ≤ most_slots }
     ensures { IsApplied (Native d slots) heaps.old heaps.new result (N.telling out.old) (N.telling out.new) }
@@ -56,6 +57,7 @@ fn make_native<N: Notices>(heaps: &mut Heaps, d: RegNo, slots: SlotNo, out: &mut
 
 /// Makes a plain script object.
 fn make_plain(heaps: &mut Heaps, d: RegNo, slots: SlotNo) -> Reply
+    requires within { d < bank_length }
     requires order { (owned : List ℕ) × IsInOrder owned heaps.old }
     requires slots { slots ≤ most_slots }
     ensures { (t : Telling) → IsApplied (Script d slots) heaps.old heaps.new result t t }
@@ -69,6 +71,7 @@ fn make_plain(heaps: &mut Heaps, d: RegNo, slots: SlotNo) -> Reply
 
 /// Makes a weak map.
 fn make_map(heaps: &mut Heaps, d: RegNo) -> Reply
+    requires within { d < bank_length }
     requires order { (owned : List ℕ) × IsInOrder owned heaps.old }
     ensures { (t : Telling) → IsApplied (WeakMap d) heaps.old heaps.new result t t }
 {
@@ -81,6 +84,7 @@ fn make_map(heaps: &mut Heaps, d: RegNo) -> Reply
 
 /// Makes a proxy of the script object in a register.
 fn make_proxy(heaps: &mut Heaps, d: RegNo, s: RegNo) -> Reply
+    requires within { d < bank_length }
     requires order { (owned : List ℕ) × IsInOrder owned heaps.old }
     requires colours { HasColourInvariant (view heaps.old.heap) }
     ensures { (t : Telling) → IsApplied (Proxy d s) heaps.old heaps.new result t t }
@@ -97,6 +101,7 @@ fn make_proxy(heaps: &mut Heaps, d: RegNo, s: RegNo) -> Reply
 
 /// Copies a native register.
 fn copy_native<N: Notices>(heaps: &mut Heaps, d: RegNo, s: RegNo, out: &mut N) -> Reply
+    requires within { d < bank_length }
     requires order { (owned : List ℕ) × IsInOrder owned heaps.old × AreOwnedOnce owned }
     ensures { IsApplied (CopyNative d s) heaps.old heaps.new result (N.telling out.old) (N.telling out.new) }
 {
@@ -108,6 +113,7 @@ fn copy_native<N: Notices>(heaps: &mut Heaps, d: RegNo, s: RegNo, out: &mut N) -
 
 /// Copies a script register.
 fn copy_script(heaps: &mut Heaps, d: RegNo, s: RegNo) -> Reply
+    requires within { d < bank_length }
     requires order { (owned : List ℕ) × IsInOrder owned heaps.old }
     requires colours { HasColourInvariant (view heaps.old.heap) }
     ensures { (t : Telling) → IsApplied (CopyScript d s) heaps.old heaps.new result t t }
@@ -120,6 +126,7 @@ fn copy_script(heaps: &mut Heaps, d: RegNo, s: RegNo) -> Reply
 
 /// Empties a native register.
 fn drop_native<N: Notices>(heaps: &mut Heaps, r: RegNo, out: &mut N) -> Reply
+    requires within { r < bank_length }
     requires order { (owned : List ℕ) × IsInOrder owned heaps.old × AreOwnedOnce owned }
     ensures { IsApplied (Drop (n_register r)) heaps.old heaps.new result (N.telling out.old) (N.telling out.new) }
 {
@@ -129,6 +136,7 @@ fn drop_native<N: Notices>(heaps: &mut Heaps, r: RegNo, out: &mut N) -> Reply
 
 /// Empties a script register.
 fn drop_script(heaps: &mut Heaps, r: RegNo) -> Reply
+    requires within { r < bank_length }
     requires order { (owned : List ℕ) × IsInOrder owned heaps.old }
     ensures { (t : Telling) → IsApplied (Drop (s_register r)) heaps.old heaps.new result t t }
 {
@@ -138,6 +146,7 @@ fn drop_script(heaps: &mut Heaps, r: RegNo) -> Reply
 
 /// Empties a register.
 fn empty<N: Notices>(heaps: &mut Heaps, r: Reg, out: &mut N) -> Reply
+    requires within { IsTrue (is_reg r) }
     requires order { (owned : List ℕ) × IsInOrder owned heaps.old × AreOwnedOnce owned }
     ensures { IsApplied (Drop r) heaps.old heaps.new result (N.telling out.old) (N.telling out.new) }
 {
@@ -177,6 +186,7 @@ fn set<N: Notices>(heaps: &mut Heaps, d: RegNo, i: u32, from: Option<Reg>, out: 
 
 /// Reads slot `i` of the native in a register into a native register.
 fn get_native<N: Notices>(heaps: &mut Heaps, d: RegNo, s: RegNo, i: u32, out: &mut N) -> Reply
+    requires within { d < bank_length }
     requires order { (owned : List ℕ) × IsInOrder owned heaps.old × AreOwnedOnce owned }
     ensures { IsApplied (Get (n_register d) s i) heaps.old heaps.new result (N.telling out.old) (N.telling out.new) }
 {
@@ -191,6 +201,7 @@ fn get_native<N: Notices>(heaps: &mut Heaps, d: RegNo, s: RegNo, i: u32, out: &m
 
 /// Reads slot `i` of the native in a register into a script register.
 fn get_script(heaps: &mut Heaps, d: RegNo, s: RegNo, i: u32) -> Reply
+    requires within { d < bank_length }
     requires order { (owned : List ℕ) × IsInOrder owned heaps.old }
     ensures { (t : Telling) → IsApplied (Get (s_register d) s i) heaps.old heaps.new result t t }
 {
@@ -205,6 +216,7 @@ fn get_script(heaps: &mut Heaps, d: RegNo, s: RegNo, i: u32) -> Reply
 
 /// Reads slot `i` of the native in a register into a register of either kind.
 fn get<N: Notices>(heaps: &mut Heaps, d: Reg, s: RegNo, i: u32, out: &mut N) -> Reply
+    requires within { IsTrue (is_reg d) }
     requires order { (owned : List ℕ) × IsInOrder owned heaps.old × AreOwnedOnce owned }
     ensures { IsApplied (Get d s i) heaps.old heaps.new result (N.telling out.old) (N.telling out.new) }
 {
@@ -289,6 +301,7 @@ fn put(heaps: &mut Heaps, d: RegNo, i: u32, from: Option<RegNo>) -> Reply
 
 /// Reads slot `i` of the script object in a register into a script register.
 fn take(heaps: &mut Heaps, d: RegNo, s: RegNo, i: u32) -> Reply
+    requires within { d < bank_length }
     requires order { (owned : List ℕ) × IsInOrder owned heaps.old }
     ensures { (t : Telling) → IsApplied (Take d s i) heaps.old heaps.new result t t }
 {
@@ -303,6 +316,7 @@ fn take(heaps: &mut Heaps, d: RegNo, s: RegNo, i: u32) -> Reply
 
 /// Puts the reflector of the native in a register into a script register; it is made where there is none.
 fn wrap(heaps: &mut Heaps, d: RegNo, s: RegNo) -> Reply
+    requires within { d < bank_length }
     requires order { (owned : List ℕ) × IsInOrder owned heaps.old × AreOwnedOnce owned }
     requires colours { HasColourInvariant (view heaps.old.heap) }
     ensures { (t : Telling) → IsApplied (Wrap d s) heaps.old heaps.new result t t }
@@ -322,6 +336,7 @@ fn wrap(heaps: &mut Heaps, d: RegNo, s: RegNo) -> Reply
 
 /// Puts the native of the reflector in a script register into a native register.
 fn unwrap<N: Notices>(heaps: &mut Heaps, d: RegNo, s: RegNo, out: &mut N) -> Reply
+    requires within { d < bank_length }
     requires order { (owned : List ℕ) × IsInOrder owned heaps.old × AreOwnedOnce owned }
     ensures { IsApplied (Unwrap d s) heaps.old heaps.new result (N.telling out.old) (N.telling out.new) }
 {
@@ -399,6 +414,7 @@ fn set_entry(heaps: &mut Heaps, m: RegNo, k: RegNo, from: Option<RegNo>) -> Repl
 
 /// Reads the value of the key in a register in the weak map in another into a script register.
 fn get_entry(heaps: &mut Heaps, d: RegNo, m: RegNo, k: RegNo) -> Reply
+    requires within { d < bank_length }
     requires order { (owned : List ℕ) × IsInOrder owned heaps.old }
     ensures { (t : Telling) → IsApplied (GetEntry d m k) heaps.old heaps.new result t t }
 {

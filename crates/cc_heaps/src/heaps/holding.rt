@@ -1,6 +1,7 @@
 //! Native registers and slots of natives written.
 ghost use Rattle.std.specs.Prelude.{◌≡◌, ◌<◌, ◌≤◌, ℕ, List, ◌∷◌, ◌++◌, length, map, slice_index_or, Some, None, IsSome, ◌+◌};
 ghost use Rattle.cc_names.specs.Names.{native};
+ghost use Rattle.cc_names.specs.Sizes.{bank_length};
 ghost use Rattle.cc_names.specs.declared.register.Reg.TheVariants.{N as n_register};
 ghost use Rattle.cc_model.specs.Heap.{native_at, register, set_register, set_slot, touch};
 ghost use Rattle.cc_model.specs.Cascade.{add_ref, take_up, let_go};
@@ -63,6 +64,7 @@ impl Heaps {
 
     // A register written, whose new reference was taken before; what it held.
     fn replace_register(&mut self, r: RegNo, content: Option<NKey>) -> Option<NKey>
+        requires within { r < bank_length }
         requires order { (owned : List ℕ) × IsInOrder (numbers_of (native_name self.old content) ++ owned) self.old }
         requires there { IsNativeThere self.old content }
         ensures heap { self.new ≡ changed_to self.old (set_register self.old.heap (n_register r) (native_name self.old content)) }
@@ -82,6 +84,7 @@ impl Heaps {
         content: Option<NKey>,
         out: &mut N,
     )
+        requires within { r < bank_length }
         requires order { (owned : List ℕ) × IsInOrder (numbers_of (native_name self.old content) ++ owned) self.old }
         requires there { IsNativeThere self.old content }
         ensures heap { self.new ≡ left_with self.old (put_in_register self.old.heap r (native_name self.old content)).heap }
@@ -111,6 +114,7 @@ impl Heaps {
     /// The new reference is taken first, then the register is written, then what it held is given up with all that it
     /// deletes. Takes no memory.
     pub fn set_native_reg<N: Notices>(&mut self, r: RegNo, content: Option<NKey>, out: &mut N)
+        requires within { r < bank_length }
         requires order { (owned : List ℕ) × IsInOrder owned self.old × AreOwnedOnce owned }
         requires there { IsNativeThere self.old content }
         ensures heap { self.new ≡ left_with self.old (hold_native self.old.heap r (native_name self.old content)).heap }
@@ -208,14 +212,7 @@ impl Heaps {
     /// A move can leave natives unreached that only hold each other, and to be touched is no suspicion: none is forgotten
     /// where `to` is reached once slot `j` is empty. So it is where a register holds `to`, whatever slot is emptied. That
     /// `to` is reached before is not enough: it could be reached over slot `j` alone, and be what moves.
-    pub fn move_slot<N: Notices>(
-        &mut self,
-        to: NKey,
-        i: SlotNo,
-        from: NKey,
-        j: SlotNo,
-        out: &mut N,
-    )
+    pub fn move_slot<N: Notices>(&mut self, to: NKey, i: SlotNo, from: NKey, j: SlotNo, out: &mut N)
         requires order { (owned : List ℕ) × IsInOrder owned self.old }
         requires to_live { IsSome (number_at self.old to.0) }
         requires to_within { i < length (slots_of (counts_of self.old) to.0) }
@@ -230,7 +227,7 @@ impl Heaps {
             (IsReached (taken_from self.old.heap (the_number self.old from.0) j) (Some (native (the_number self.old to.0)))) self.old self.new }
         ensures stands { IsReached self.old.heap (Some (native (the_number self.old to.0))) → IsReached self.old.heap (Some (native (the_number self.old from.0))) →
             StandsAfter self.old.heap self.new.heap (λ g. graph.move_slot g (Some (native (the_number self.old to.0))) i
-                (Some (native (the_number self.old from.0))) j (slot_held self.old.heap (the_number self.old from.0) j)) }
+            (Some (native (the_number self.old from.0))) j (slot_held self.old.heap (the_number self.old from.0) j)) }
     {
         let content = self.take_out(from, j);
         let held = self.replace_slot(to, i, content);

@@ -1,11 +1,12 @@
-use Rattle.std.proofs.Common.{◌≡◌, ℕ, List, get_or, None, IsSome, sym, ◌∙◌, ap, subst}
+use Rattle.std.proofs.Common.{ℕ, List, get_or, Some, None, IsSome, sym, subst}
+use Rattle.cc_names.specs.Names.{native}
+use Rattle.cc_model.specs.Graph as graph
 use Rattle.cc_model.specs.Heap.{Heap, Outcome}
 use Rattle.cc_model.specs.Telling.{TellsEvents}
 use Rattle.cc_model.specs.WellFormed.{IsWellFormed}
-use Rattle.cc_laws_heap.specs.Sound.{IsSound}
-use Rattle.cc_heaps.specs.Changes.{moved_in}
-use Rattle.cc_heaps.specs.Keyed.{Keyed, IsInOrder, the_number}
-use Rattle.cc_heaps.specs.Standing.{StandsAfter, IsReached}
+use Rattle.cc_heaps.specs.Changes.{slot_held}
+use Rattle.cc_heaps.specs.Keyed.{IsInOrder, the_number}
+use Rattle.cc_heaps.specs.Standing.{StandsAfter}
 use Rattle.cc_heaps.proofs.FewCounts.{few-owned}
 use Rattle.cc_heaps.proofs.Following.{Follows, Remembers, within-named}
 use Rattle.cc_heaps.proofs.Moving.{Moves, moved-heap, moved-is, moved-kept, moved-keys, moved-tells, moved_in-follows, moved_in-remembers, moved_in-stands, within-taken}
@@ -86,7 +87,9 @@ pub returns-clause-stands : goal.returns-clause-stands
 returns-clause-stands g c to_reached from_reached =
     let v = c.args.self.now in
     let f = c.requires.order in
-    subst (λ (h : Heap). StandsAfter v.heap h _) (sym (returns-clause-heap g c))
+    let k = the_number v c.args.to.0 in
+    let m = the_number v c.args.from.0 in
+    subst (λ (h : Heap). StandsAfter v.heap h (λ g. graph.move_slot g (Some (native k)) c.args.i (Some (native m)) c.args.j (slot_held v.heap m c.args.j))) (sym (returns-clause-heap g c))
     (moved_in-stands v.heap (the_number v c.args.to.0) c.args.i (the_number v c.args.from.0) c.args.j (within-named v c.args.to.0 c.args.i c.requires.to_within)
     (within-named v c.args.from.0 c.args.j c.requires.from_within) f.1.sound
     (subst IsWellFormed (returns-clause-heap g c) (in_order g c f.0 f.1).sound.well_formed) to_reached from_reached)

@@ -1,25 +1,20 @@
-use Rattle.std.proofs.Common.{◌≡◌, ◌<◌, length, get_or, Some, None, IsSome, IsTrue, refl, sym, ◌∙◌, ap, subst, arith}
+use Rattle.std.proofs.Common.{◌<◌, length, get_or, Some, None, IsSome, refl, sym, ◌∙◌, ap, subst}
 use Rattle.cc_names.specs.Names.{native}
 use Rattle.cc_model.specs.Effects.{touched}
 use Rattle.cc_model.specs.Heap.{set_slot, with_native_slot}
 use Rattle.cc_model.specs.WellFormed.{native_names, script_names}
 use Rattle.cc_laws_heap.proofs.Face.{native_names-change}
-use Rattle.cc_counted.specs.Counts.{Counts, is_live, name_of, slots_of}
 use Rattle.cc_heaps.specs.Keyed.{Keyed, the_number}
-use Rattle.cc_heaps.specs.Changes.{held_name, slot_held}
-use Rattle.cc_heaps.proofs.ContentNames.{IsHeldAs}
+use Rattle.cc_heaps.specs.Changes.{held_name}
 use Rattle.cc_heaps.proofs.Following.{within-named}
 use Rattle.cc_heaps.proofs.Kept.{KeepsKeys-on}
 use Rattle.cc_heaps.proofs.Moving.{number-same, slot-named, slots-touched}
 use Rattle.cc_heaps.proofs.heaps.Heaps.take_out.Goals as goal
 
-held : (c : goal.After-slot-content) → IsHeldAs c.args.self.now c.slot-content.result (slot_held c.args.self.now.heap (the_number c.args.self.now c.args.key.0) c.args.j)
-held c = slot-named c.requires.order.0 c.args.self.now c.requires.order.1 c.args.key.0 c.args.j c.slot-content.result c.requires.within
-    (subst (λ (d : Counts). name_of d c.slot-content.result ≡ get_or (slots_of d c.args.key.0) c.args.j None) c.counted.ensures c.slot-content.ensures.name)
-    (subst (λ (d : Counts). IsTrue (is_live d c.slot-content.result)) c.counted.ensures c.slot-content.ensures.live)
-
 pub touch_content-requires-clause-there : goal.touch_content-requires-clause-there
-touch_content-requires-clause-there c = (held c).there
+touch_content-requires-clause-there c =
+    let v = c.args.self.now in
+    (slot-named c.requires.order.0 v c.requires.order.1 _ c.counted.ensures c.args.key.0 c.args.j c.slot-content.result c.requires.within c.slot-content.ensures.name c.slot-content.ensures.live).there
 
 pub replace_slot-requires-clause-order : goal.replace_slot-requires-clause-order
 replace_slot-requires-clause-order c = let f = c.requires.order in (f.0, c.touch_content.ensures.order f.0 f.1)
@@ -37,8 +32,9 @@ pub returns-clause-heap : goal.returns-clause-heap
 returns-clause-heap c =
     let v = c.args.self.now in
     let e = c.touch_content.ensures in
+    let content = slot-named c.requires.order.0 v c.requires.order.1 _ c.counted.ensures c.args.key.0 c.args.j c.slot-content.result c.requires.within c.slot-content.ensures.name c.slot-content.ensures.live in
     ap (λ (u : Keyed). u.heap) c.replace_slot.ensures.heap
-    ∙ (λ l. set_slot ((e.heap ∙ ap (touched v.heap) (held c).name) l) (Some (native (number-same v c.touch_content.new.self c.args.key.0 e.natives l))) c.args.j None)
+    ∙ (λ l. set_slot ((e.heap ∙ ap (touched v.heap) content.name) l) (Some (native (number-same v c.touch_content.new.self c.args.key.0 e.natives l))) c.args.j None)
 
 pub returns-clause-natives : goal.returns-clause-natives
 returns-clause-natives c = ap (λ (u : Keyed). u.keys) c.replace_slot.ensures.heap ∙ c.touch_content.ensures.natives
