@@ -1,10 +1,16 @@
 use Rattle.std.proofs.Common.{arith}
+use Rattle.cc_collector.specs.Kept.{machine_of}
 use Rattle.cc_replay.proofs.Beginning.{counts_few}
-use Rattle.cc_replay.proofs.Replying.{others-applied, answered-nothing}
+use Rattle.cc_replay.proofs.Replying.{others-applied, answered-nothing, answered-version}
 use Rattle.cc_replay.proofs.answering.answer_command.Goals as goal
 
 pub returns-in-Nothing-clause-answered : goal.returns-in-Nothing-clause-answered
 returns-in-Nothing-clause-answered g c = grind (arith, answered-nothing, g.N.Notices.telling)
+
+pub returns-in-Version2-clause-answered : goal.returns-in-Version2-clause-answered
+returns-in-Version2-clause-answered g c =
+    let telling = g.N.Notices.telling in
+    rw c.in-Version2.is (answered-version (machine_of c.args.heaps.now.heap c.args.collector.now) (telling c.args.out.now) (telling c.tell.new.self) c.tell.ensures)
 
 pub answer_mutator-requires-clause-applied : goal.answer_mutator-requires-clause-applied
 answer_mutator-requires-clause-applied g c = search (others-applied)
@@ -12,6 +18,9 @@ answer_mutator-requires-clause-applied g c = search (others-applied)
 -- no count is greater than all references there can be
 pub returns-in-Nothing-clause-counts : goal.returns-in-Nothing-clause-counts
 returns-in-Nothing-clause-counts g c = counts_few c.args.heaps.now c.args.collector.now c.requires.runs
+
+pub returns-in-Version2-clause-counts : goal.returns-in-Version2-clause-counts
+returns-in-Version2-clause-counts g c = counts_few c.args.heaps.now c.args.collector.now c.requires.runs
 
 pub returns-in-Census-clause-counts : goal.returns-in-Census-clause-counts
 returns-in-Census-clause-counts g c = counts_few c.args.heaps.now c.args.collector.now c.requires.runs

@@ -1,3 +1,4 @@
+use Rattle.std.proofs.Common.{refl}
 use Rattle.cc_replay.proofs.Causes.{over-answered, done-answered, reads-within, end-unread}
 use Rattle.cc_replay.proofs.Endings.{whole-counts, whole-done, broken-stops, over-stops, first-stops}
 use Rattle.cc_replay.proofs.Beginning.{runs-empty, machine-empty}
