@@ -14,7 +14,7 @@ use Rattle.cc_model.specs.Tokens.{tokens_of, is_digit_within, digits_from, numbe
 use Rattle.cc_model.specs.declared.dialect.Dialect.{Dialect}
 use Rattle.cc_model.specs.declared.dialect.Dialect.TheVariants.{Start, One, Two}
 use Rattle.cc_model.specs.Dialects.{registers_of, slots_of}
-use Rattle.cc_model.specs.Forms.{Form, nothing, version_two, of_one, of_two, of_three, alone, common_forms, forms_of}
+use Rattle.cc_model.specs.Forms.{Form, nothing, version_two, of_one, of_two, of_three, of_four, alone, common_forms, forms_of}
 use Rattle.cc_model.specs.Asks.{read_by, command_in, command_of_tokens, command_of, ask_of, dialect_after, asks_from, asks_of}
 use Rattle.cc_laws_run.specs.Running.{ask_in_range}
 
@@ -119,6 +119,14 @@ three-in_range : {A B C : Type 0} (P : A → Type 0) (Q : B → Type 0) (R : C �
 three-in_range {A} {B} {C} P Q R f first second third p q r i (t ∷ u ∷ v ∷ []) = grind arith
 three-in_range {A} {B} {C} P Q R f first second third p q r i _ = tt
 
+-- a form of four
+four-in_range : {A B C D : Type 0} (P : A → Type 0) (Q : B → Type 0) (R : C → Type 0) (T : D → Type 0) (f : A → B → C → D → Command)
+    (first : List ℕ → Option A) (second : List ℕ → Option B) (third : List ℕ → Option C) (fourth : List ℕ → Option D) →
+    ((t : List ℕ) → Has P (first t)) → ((t : List ℕ) → Has Q (second t)) → ((t : List ℕ) → Has R (third t)) → ((t : List ℕ) → Has T (fourth t)) →
+    ((a : A) (b : B) (c : C) (d : D) → P a → Q b → R c → T d → InRange (f a b c d)) → ReadsInRange (of_four f first second third fourth)
+four-in_range {A} {B} {C} {D} P Q R T f first second third fourth p q r s i (t ∷ u ∷ v ∷ w ∷ []) = grind arith
+four-in_range {A} {B} {C} {D} P Q R T f first second third fourth p q r s i _ = tt
+
 -- a register in range
 abbrev IsRegister : ℕ → Type 0
 IsRegister k = IsTrue (is_register k)
@@ -196,7 +204,8 @@ common-in_range v =
 forms-in_range : (v : Dialect) → EachInRange (forms_of v)
 forms-in_range Start = one-in_range Any (λ _. command.Version2) version_two (λ t. Has-any (version_two t)) (λ _ p. refl) also common-in_range Start
 forms-in_range One = common-in_range One
-forms-in_range Two = common-in_range Two
+forms-in_range Two = four-in_range IsRegister Any IsRegister Any command.Move (native_register Two) number (native_register Two) number
+    (native-below Two) any-number (native-below Two) any-number (λ d i s j p q r t. two_registers d s p r) also common-in_range Two
 
 -- Lines
 
