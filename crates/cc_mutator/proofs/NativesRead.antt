@@ -17,7 +17,7 @@ use Rattle.cc_laws_heap.proofs.Face.{named-found, native_at-there, native_regist
 use Rattle.cc_counted.specs.declared.held.Held.{Held}
 use Rattle.cc_counted.specs.Counts.{heap_of, is_live, name_of, number_or_none, slots_of}
 use Rattle.cc_counted.specs.Counts as counts
-use Rattle.cc_heaps.specs.Keyed.{Keyed, IsInOrder, counts_of, number_at, keyed_name, keyed_native}
+use Rattle.cc_heaps.specs.Keyed.{Keyed, IsInOrder, counts_of, number_at, the_number, keyed_name, keyed_native}
 use Rattle.cc_heaps.specs.Changes.{native_name}
 use Rattle.cc_heaps.proofs.ContentNames.{IsHeldAs, content-named}
 
@@ -44,6 +44,9 @@ module _ (owned : List ℕ) (v : Keyed) (order : IsInOrder owned v) (r : ℕ) (k
           let is : register v.heap (N r) ≡ Some (native k) = sym name ∙ ap (option_map native) e in
           let f = named-found v.heap k (native_register-there v.heap r order.sound.well_formed (native k) (subst (λ o. Among (native k) (option_to_list o)) (sym is) (inl refl))) in
           record { number = k; at = e; held = is; native = f.0; found = f.1 }
+
+  pub held-number : register v.heap (N r) ≡ Some (native (the_number v key.0))
+  held-number = native-at.held ∙ sym (ap (λ o. Some (native (number_or_none o))) native-at.at)
 
   -- its slots by names,
   pub slots-named : slots_at (objects_of v.heap) (N r) ≡ native-at.native.slots

@@ -1,5 +1,5 @@
 -- A SLOT WRITTEN of what a register holds, by its number, and what a slot holds moved into another.
-use Rattle.std.proofs.Common.{◌≡◌, ℕ, get_or, None, Option, Some, refl, ◌∙◌, ap, arith}
+use Rattle.std.proofs.Common.{◌≡◌, ℕ, get_or, None, Option, Some, sym, ◌∙◌, ap, arith}
 use Rattle.cc_names.specs.declared.name.Name.{Name}
 use Rattle.cc_names.specs.declared.register.Reg.TheVariants.{N}
 use Rattle.cc_names.specs.Names.{native}
@@ -33,4 +33,4 @@ pub moved-moves : (h : Heap) (d k i s m j : ℕ) → register h (N d) ≡ Some (
 unfolding move_slot
 moved-moves h d k i s m j to from =
     written-put (taken_from h m j) d k i (slot_held h m j) (ap (λ (rs : Slots). get_or rs d None) (touched-registers h (slot_held h m j)) ∙ to)
-    ∙ (λ e. put_in_slot (taken_out h (from (~ e)) j (held-slot h s m j from e)) d i (held-slot h s m j from e))
+    ∙ (λ e. put_in_slot (taken_out h (sym from e) j (held-slot h s m j from e)) d i (held-slot h s m j from e))

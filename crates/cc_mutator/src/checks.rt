@@ -179,13 +179,7 @@ pub(crate) fn refusal_of_expose(heaps: &Heaps, s: RegNo, i: u32) -> Option<Refus
 }
 
 /// Why `move` is refused.
-pub(crate) fn refusal_of_move(
-    heaps: &Heaps,
-    d: RegNo,
-    i: u32,
-    s: RegNo,
-    j: u32,
-) -> Option<Refusal>
+pub(crate) fn refusal_of_move(heaps: &Heaps, d: RegNo, i: u32, s: RegNo, j: u32) -> Option<Refusal>
     requires { (owned : List ℕ) × IsInOrder owned heaps.now }
     ensures { result ≡ refusal_of (objects_of heaps.now.heap) (Move d i s j) }
 {

@@ -6,8 +6,8 @@ use Rattle.cc_mutator.proofs.applying.move_slot.Goals as goal
 pub returns-in-Some : goal.returns-in-Some
 returns-in-Some g c = applied-refused _ _ _ _ _ _ (sym c.refusal_of_move.ensures ∙ c.in-Some.is) refl refl
 
-pub native_content-requires-clause-slot : goal.native_content-requires-clause-slot
-native_content-requires-clause-slot g c =
+pub native_content-content-requires-clause-slot : goal.native_content-content-requires-clause-slot
+native_content-content-requires-clause-slot g c =
     (slots-move c.args.heaps.now.heap c.args.d c.args.i c.args.s c.args.j (sym c.refusal_of_move.ensures ∙ c.in_default.is)).1
 
 pub hand_over-requires-clause-to_slot : goal.hand_over-requires-clause-to_slot

@@ -1,4 +1,4 @@
-use Rattle.std.proofs.Common.{true, false, Some, None, refl, sym, ◌∙◌}
+use Rattle.std.proofs.Common.{true, false, None, refl, sym, ◌∙◌}
 use Rattle.cc_model.specs.Heap.{objects_of}
 use Rattle.cc_mutator.proofs.Refusing.{refusal-move}
 use Rattle.cc_mutator.proofs.checks.refusal_of_move.Goals as goal
