@@ -52,9 +52,12 @@ module _ (limits : Allowance) (m₀ m₁ : Moment) (r₀ r₁ : Reads) (begins :
   module _ {IsGiven : Option (List ℕ) → Option (List ℕ) → Pending → List (List ℕ) → Type 0} (a : Answers IsGiven m₀ m₁) where
     answered : (given : List (List ℕ)) × IsGiven m₀.left m₁.left m₁.window given × AreAnswered Start m₁.dialect (empty_machine limits []) m₁.machine given m₀.telling m₁.telling
     answered =
-        let l = a.lines m₀.left (subst (λ (p : Pending). HasGiven m₀.left m₀.left p []) (sym begins) (HasGiven-none m₀.left limits.bytes)) in
-        (l.0, l.1, subst (λ (v : Dialect). AreAnswered v m₁.dialect (empty_machine limits []) m₁.machine l.0 m₀.telling m₁.telling) first
-            (subst (λ (k : Machine). AreAnswered m₀.dialect m₁.dialect k m₁.machine l.0 m₀.telling m₁.telling) empty l.2))
+        let l = a.lines m₀.left (subst (λ (p : Pending). HasGiven m₀.left m₀.left p []) (sym begins) (HasGiven-none m₀.left limits.bytes)) in (
+          l.0,
+          l.1,
+          subst (λ (v : Dialect). AreAnswered v m₁.dialect (empty_machine limits []) m₁.machine l.0 m₀.telling m₁.telling) first
+              (subst (λ (k : Machine). AreAnswered m₀.dialect m₁.dialect k m₁.machine l.0 m₀.telling m₁.telling) empty l.2),
+        )
 
     -- and what is written for them, where no write failed
     written : m₁.telling.broken ≡ false → (given : List (List ℕ)) × IsGiven m₀.left m₁.left m₁.window given × AreWritten given

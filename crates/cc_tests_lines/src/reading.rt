@@ -13,7 +13,10 @@ fn a_line_in_small_pieces_is_a_command(rt: HostRuntime) -> Result<(), Fail> {
     let mut lines = Lines::new(&mut source, 200);
     assert_eq!(rt; lines.next(), Ok(Line::Text));
     assert_eq!(rt; lines.taken(), 9);
-    assert_eq!(rt; parse(lines.text(), Dialect::Start), Some(Command::Drop(Reg::N(7))));
+    assert_eq!(rt;
+        parse(lines.text(), Dialect::Start),
+        Some(Command::Drop(Reg::N(7)))
+    );
     Ok(())
 }
 
@@ -70,7 +73,12 @@ fn a_move_is_of_version_2(rt: HostRuntime) {
     );
     assert_eq!(rt; parse(line, Dialect::One), None);
     assert_eq!(rt; parse(line, Dialect::Start), None);
-    for line in ["move n1 0 n2", "move n1 0 n2 1 1", "move n1 0 s2 1", "move n1 0 n2 none"] {
+    for line in [
+        "move n1 0 n2",
+        "move n1 0 n2 1 1",
+        "move n1 0 s2 1",
+        "move n1 0 n2 none",
+    ] {
         assert_eq!(rt; parse(line.as_bytes(), Dialect::Two), None);
     }
 }
@@ -81,7 +89,13 @@ fn the_version_is_asked_for_at_the_start(rt: HostRuntime) {
     assert_eq!(rt; parse(line, Dialect::Start), Some(Command::Version2));
     assert_eq!(rt; parse(line, Dialect::One), None);
     assert_eq!(rt; parse(line, Dialect::Two), None);
-    for line in ["version", "version 1", "version 02", "version 2 2", "Version 2"] {
+    for line in [
+        "version",
+        "version 1",
+        "version 02",
+        "version 2 2",
+        "Version 2",
+    ] {
         assert_eq!(rt; parse(line.as_bytes(), Dialect::Start), None);
     }
 }
