@@ -61,15 +61,23 @@ fn empty(heaps: &mut Heaps, r: RegNo, out: &mut Notebook)
     heaps.set_native_reg(r, None, out);
 }
 
+// Slot 0 of the holder takes the object in script register 0.
+fn hold_object(heaps: &mut Heaps, out: &mut Notebook)
+    requires order { IsInOrder [] heaps.old }
+    ensures order { IsInOrder [] heaps.new }
+{
+    if let (Some(holder), Some(object)) = (heaps.native_reg(0), heaps.script_reg(0)) {
+        store(heaps, holder, 0, Some(Held::Script(object)), out);
+    }
+}
+
 // A plain object is made, which slot 0 of the holder and script register 0 hold. Whether there was memory.
 fn make_object(heaps: &mut Heaps, out: &mut Notebook) -> bool
     requires order { IsInOrder [] heaps.old }
     ensures order { IsInOrder [] heaps.new }
 {
     let made = heaps.new_plain(0, 0);
-    if let (Some(holder), Some(object)) = (heaps.native_reg(0), heaps.script_reg(0)) {
-        store(heaps, holder, 0, Some(Held::Script(object)), out);
-    }
+    hold_object(heaps, out);
     made.is_ok()
 }
 
@@ -99,9 +107,9 @@ fn content(heaps: &Heaps, i: SlotNo) -> Option<Held>
     requires order { IsInOrder [] heaps.now }
     ensures there { IsThere heaps.now result }
 {
-    let key = heaps.native_reg(0)?;
-    if i < heaps.counted().slots(key) {
-        heaps.place(Held::Native(key), i)
+    let holder = Held::Native(heaps.native_reg(0)?);
+    if i < heaps.places(holder) {
+        heaps.place(holder, i)
     } else {
         None
     }
