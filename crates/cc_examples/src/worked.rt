@@ -10,3 +10,4 @@ mod part_4;
 mod part_5;
 mod part_6;
 mod part_7;
+mod part_8;

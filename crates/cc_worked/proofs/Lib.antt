@@ -25,4 +25,8 @@ pub mod Examples15
 pub mod Examples16
 pub mod Examples17
 pub mod Examples18
+pub mod Examples19
+pub mod Examples20
+pub mod Examples21
+pub mod Examples22
 pub mod Examples
