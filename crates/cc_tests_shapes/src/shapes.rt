@@ -390,3 +390,28 @@ const HELD_BY_ALL: Shape = Shape {
 fn a_native_that_everything_held_is_collected(rt: HostRuntime) {
     HELD_BY_ALL.is_played(&rt);
 }
+
+/// The same in version 2, with all its slots and registers.
+const HELD_BY_ALL_OF_VERSION_TWO: Shape = Shape {
+    script: &[
+        Once("version 2\nnative n0 256\n"),
+        Each(0, 255, "set n0 K n0\n"),
+        Each(1, 1023, "copy nK n0\n"),
+        Once("slice 1\n"),
+        Each(0, 1023, "drop nK\n"),
+        Once("slice 1\ncollect\n"),
+    ],
+    wanted: &[
+        Once("= ok\n= #1\n"),
+        Each(0, 255, "= ok\n"),
+        Each(1, 1023, "= #1\n"),
+        Once("= ok\n"),
+        Each(0, 1023, "= ok\n"),
+        Once("= ok\n- unlink #1\n- free #1\n= ok\n"),
+    ],
+};
+
+#[test]
+fn a_native_that_everything_of_version_two_held_is_collected(rt: HostRuntime) {
+    HELD_BY_ALL_OF_VERSION_TWO.is_played(&rt);
+}
