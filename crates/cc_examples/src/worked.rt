@@ -11,3 +11,4 @@ mod part_5;
 mod part_6;
 mod part_7;
 mod part_8;
+mod part_9;

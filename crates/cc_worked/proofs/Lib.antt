@@ -29,4 +29,7 @@ pub mod Examples19
 pub mod Examples20
 pub mod Examples21
 pub mod Examples22
+pub mod Examples23
+pub mod Examples24
+pub mod Examples25
 pub mod Examples

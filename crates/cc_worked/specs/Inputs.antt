@@ -677,3 +677,111 @@ slots_above_63_are_given_up_in_rising_order = codes "version 2\nnative n0 256\nn
 -- A cycle through both heaps is collected, where it goes through the last slot of a native and of a script object.
 abbrev pub last_slots_are_looked_at : List ℕ
 last_slots_are_looked_at = codes "version 2\nnative n0 256\nscript s0 256\nwrap s1 n0\nput s0 255 s1\nset n0 255 s0\ndrop n0\ndrop s0\ndrop s1\ngc\ncollect\ngc\n"
+
+-- What the last slot of the last register's native holds is moved, and its slot is empty then.
+abbrev pub last_register_and_last_slot_move : List ℕ
+last_register_and_last_slot_move = codes "version 2\nnative n1023 256\nset n1023 255 n1023\nnative n1024 0\nnative n0 257\nversion 2\nnative n0 1\nmove n0 0 n1023 255\nmove n1023 0 n0 0\nmove n1023 0 n0 0\n"
+
+-- A native that moves is freed when the slot that it moved to lets it go, and not before.
+abbrev pub move_changes_no_count : List ℕ
+move_changes_no_count = codes "version 2\nnative n0 1\nnative n1 1\nnative n2 0\nset n0 0 n2\ndrop n2\nmove n1 0 n0 0\nmove n0 0 n1 0\nget n2 n1 0\ndrop n1\nget n2 n0 0\ndrop n2\nset n0 0 none\ndrop n0\n"
+
+-- The slot that a native moves to gives up what it held, with all that this alone held.
+abbrev pub move_gives_up_what_the_slot_held : List ℕ
+move_gives_up_what_the_slot_held = codes "version 2\nnative n0 1\nnative n1 1\nnative n2 1\nnative n3 0\nset n0 0 n2\nset n2 0 n3\ndrop n2\ndrop n3\nnative n4 0\nset n1 0 n4\ndrop n4\nmove n0 0 n1 0\nget n2 n0 0\nget n3 n1 0\n"
+
+-- Where there is nothing to move, the slot that it would move to is emptied.
+abbrev pub move_of_nothing_empties_the_slot : List ℕ
+move_of_nothing_empties_the_slot = codes "version 2\nnative n0 2\nnative n1 1\nnative n2 0\nscript s0 0\nset n0 0 n2\nset n0 1 s0\ndrop n2\ndrop s0\nmove n0 0 n1 0\nmove n0 1 n1 0\nget n2 n0 0\ngc\n"
+
+-- A native moves into a slot of its own, and only itself holds it then.
+abbrev pub native_moves_into_its_own_slot : List ℕ
+native_moves_into_its_own_slot = codes "version 2\nnative n0 1\nnative n1 1\nset n1 0 n0\nmove n0 0 n1 0\ndrop n0\nget n2 n1 0\ncensus\ncollect\ncensus\n"
+
+-- What moves to where it is stays there, also where two registers name its holder.
+abbrev pub move_onto_its_own_place : List ℕ
+move_onto_its_own_place = codes "version 2\nnative n0 1\nnative n1 0\nset n0 0 n1\ndrop n1\ncopy n2 n0\nmove n0 0 n0 0\nmove n2 0 n0 0\nget n1 n0 0\ndrop n1\ndrop n2\ndrop n0\n"
+
+-- A native that moves onto itself in another slot is held by one slot then.
+abbrev pub move_onto_a_slot_that_holds_it : List ℕ
+move_onto_a_slot_that_holds_it = codes "version 2\nnative n0 2\nnative n1 0\nset n0 0 n1\nset n0 1 n1\ndrop n1\nmove n0 0 n0 1\nget n1 n0 1\nset n0 0 none\n"
+
+-- Script objects of each kind move, onto natives too, and a native moves onto a script object.
+abbrev pub all_kinds_of_objects_move : List ℕ
+all_kinds_of_objects_move = codes "version 2\nnative n0 1\nnative n1 1\nnative n2 0\nscript s0 0\nweakmap s1\nproxy s2 s0\nwrap s3 n1\nset n0 0 n2\ndrop n2\nset n1 0 s0\nmove n0 0 n1 0\nget n2 n0 0\nset n1 0 s1\nmove n0 0 n1 0\nset n1 0 s2\nmove n0 0 n1 0\nset n1 0 s3\nmove n0 0 n1 0\nget s4 n0 0\nset n1 0 n0\nmove n0 0 n1 0\nget s4 n0 0\n"
+
+-- Both registers hold natives before a slot is asked for, and both slots are there before anything moves.
+abbrev pub refused_moves_in_their_order : List ℕ
+refused_moves_in_their_order = codes "version 2\nnative n0 2\nnative n1 1\nset n1 0 n0\nmove n9 0 n1 0\nmove n0 0 n9 0\nmove n9 7 n9 7\nmove n9 0 n1 7\nmove n0 2 n1 0\nmove n0 0 n1 1\nmove n0 4294967295 n1 4294967295\nmove n0 4294967296 n9 0\nmove n0 1 n1 0\n"
+
+-- A move has a native register and a slot for each of its places, and nothing else.
+abbrev pub forms_of_moves_are_few : List ℕ
+forms_of_moves_are_few = codes "version 2\nmove\nmove n0 n1\nmove n0 0 n1\nmove n0 0 n1 0 0\nmove s0 0 n1 0\nmove n0 0 s1 0\nmove n0 none n1 0\nmove n0 0 none 0\nmove n0 0 none\nmove n1024 0 n0 0\nmove n0 0 n1024 0\nmove n0 4294967296 n1 0\nmove n0 0 n1 4294967296\nmove n0 00 n1 0\nmove n0 0 n1 -1\nMove n0 0 n1 0\nmove n0 0, n1 0\nmove n1023 0 n1023 0\n"
+
+-- A collection takes a native that only itself holds, when a move made the slot give it up.
+abbrev pub native_given_up_by_a_move_is_suspected : List ℕ
+native_given_up_by_a_move_is_suspected = codes "version 2\nnative n0 1\nnative n1 1\nnative n2 1\nset n2 0 n2\nset n0 0 n2\ndrop n2\ncollect\nmove n0 0 n1 0\ncollect\n"
+
+-- A move puts the native into the buffer without the purple mark: the collection has one node and takes three units.
+abbrev pub moved_native_is_no_candidate : List ℕ
+moved_native_is_no_candidate = codes "version 2\nnative n0 1\nnative n1 1\nnative n2 0\nset n0 0 n2\ndrop n2\ncollect\nnative n3 1\nset n3 0 n3\ndrop n3\nmove n1 0 n0 0\nslice 3\n"
+
+-- A native that was suspected is no longer, when it moves: the collection has one node and takes three units.
+abbrev pub move_ends_purple : List ℕ
+move_ends_purple = codes "version 2\nnative n0 1\nnative n1 1\nnative n2 0\nset n0 0 n2\ndrop n2\nnative n3 1\nset n3 0 n3\ndrop n3\nmove n1 0 n0 0\nslice 3\n"
+
+-- A native that moves to where it is comes into the buffer as any other that moves.
+abbrev pub move_onto_its_own_place_ends_purple : List ℕ
+move_onto_its_own_place_ends_purple = codes "version 2\nnative n0 1\nnative n1 0\nset n0 0 n1\ndrop n1\nnative n2 1\nset n2 0 n2\ndrop n2\nmove n0 0 n0 0\nslice 3\n"
+
+-- A native that a refused move would have moved is suspected still: the collection has two nodes and takes four units.
+abbrev pub refused_move_touches_nothing : List ℕ
+refused_move_touches_nothing = codes "version 2\nnative n0 1\nnative n1 0\nset n0 0 n1\ndrop n1\nnative n2 1\nset n2 0 n2\ndrop n2\nmove n0 1 n0 0\nslice 3\nslice 1\n"
+
+-- References that move from a traversed native to one that is not are noted twice, and nothing that a register reaches is unlinked.
+abbrev pub moved_to_a_native_that_is_yet_to_be_traversed : List ℕ
+moved_to_a_native_that_is_yet_to_be_traversed = codes "version 2\nnative n0 2\nnative n1 2\nset n0 0 n1\nset n0 1 n0\ncopy n2 n0\ndrop n2\ncopy n2 n1\ndrop n2\nslice 2\nmove n1 0 n0 0\nmove n1 1 n0 1\nslice 2\nget n3 n1 0\nget n4 n1 1\ncensus\ndrop n0\ndrop n1\ndrop n3\ndrop n4\ncollect\n"
+
+-- References that move from a native that is yet to be traversed to one that was are noted nowhere, and nothing is unlinked.
+abbrev pub moved_to_a_native_that_was_traversed : List ℕ
+moved_to_a_native_that_was_traversed = codes "version 2\nnative n0 2\nnative n1 2\nset n1 0 n0\nset n1 1 n1\ncopy n2 n0\ndrop n2\ncopy n2 n1\ndrop n2\nslice 2\nmove n0 0 n1 0\nmove n0 1 n1 1\nslice 2\nget n3 n0 0\nget n4 n0 1\ncensus\ndrop n0\ndrop n1\ndrop n3\ndrop n4\ncollect\n"
+
+-- References that were noted twice move back, and nothing that a register reaches is unlinked.
+abbrev pub moved_forth_and_back_between_slices : List ℕ
+moved_forth_and_back_between_slices = codes "version 2\nnative n0 2\nnative n1 2\nset n0 0 n1\nset n0 1 n0\ncopy n2 n0\ndrop n2\ncopy n2 n1\ndrop n2\nslice 2\nmove n1 0 n0 0\nmove n1 1 n0 1\nslice 1\nmove n0 0 n1 0\nmove n0 1 n1 1\nslice 1\nget n3 n0 0\nget n4 n0 1\n"
+
+-- The only reference to a native moves from a traversed native to one that is not, and the native is kept.
+abbrev pub only_reference_moves_behind_its_node : List ℕ
+only_reference_moves_behind_its_node = codes "version 2\nnative n0 1\nnative n1 1\nnative n2 0\nset n0 0 n2\ncopy n3 n0\ndrop n3\ncopy n3 n1\ndrop n3\ndrop n2\nslice 2\nmove n1 0 n0 0\nslice 2\nslice 1\nget n2 n1 0\ncensus\n"
+
+-- The only reference to a native moves from a native that is yet to be traversed to one that was, and the native is kept.
+abbrev pub only_reference_moves_before_its_node : List ℕ
+only_reference_moves_before_its_node = codes "version 2\nnative n0 1\nnative n1 1\nnative n2 0\nset n1 0 n2\ncopy n3 n0\ndrop n3\ncopy n3 n1\ndrop n3\ndrop n2\nslice 2\nmove n0 0 n1 0\nslice 2\nslice 1\nget n2 n0 0\ncensus\n"
+
+-- A candidate that moved is suspected again when the collection is abandoned: the next one has two nodes and takes four units.
+abbrev pub abandonment_suspects_a_moved_candidate : List ℕ
+abandonment_suspects_a_moved_candidate = codes "version 2\nnative n0 1\nnative n1 1\nnative n2 1\nset n2 0 n2\nset n0 0 n2\ndrop n2\nnative n3 1\nset n3 0 n3\ndrop n3\nslice 1\nmove n1 0 n0 0\nslice 1\nslice 3\nslice 1\n"
+
+-- A move is done where the next wish for memory is refused.
+abbrev pub move_takes_no_memory : List ℕ
+move_takes_no_memory = codes "version 2\nnative n0 1\nnative n1 1\nset n0 0 n1\nmove n1 0 n0 0\nnative n2 0\n"
+
+-- A gray reflector that moves is black, so a collection does not look at it before the next gc.
+abbrev pub moved_reflector_waits_for_gc : List ℕ
+moved_reflector_waits_for_gc = codes "version 2\nnative n0 2\nwrap s0 n0\nset n0 0 s0\ndrop s0\ngc\nmove n0 1 n0 0\ndrop n0\ncollect\ngc\ncollect\ngc\n"
+
+-- A gray reflector that moves to where it is is black as any other that moves.
+abbrev pub move_onto_its_own_place_exposes : List ℕ
+move_onto_its_own_place_exposes = codes "version 2\nnative n0 1\nwrap s0 n0\nset n0 0 s0\ndrop s0\ngc\nmove n0 0 n0 0\ndrop n0\ncollect\ngc\ncollect\ngc\n"
+
+-- A gray reflector moves out of a native before its node is traversed, and the native that it refers to is kept.
+abbrev pub native_lives_by_a_moved_reflector : List ℕ
+native_lives_by_a_moved_reflector = codes "version 2\nnative n0 1\nnative n1 0\nnative n2 2\nwrap s0 n1\nset n0 0 s0\nset n2 0 s0\nset n2 1 n2\ndrop s0\ndrop n1\ndrop n2\nnative n3 1\ngc\nslice 3\nmove n3 0 n0 0\nslice 10\nget s1 n3 0\nunwrap n1 s1\n"
+
+-- A gray key moves out of a native before its node is traversed, and what the value of its entry leads to is kept.
+abbrev pub value_lives_by_a_moved_key : List ℕ
+value_lives_by_a_moved_key = codes "version 2\nnative n0 1\nnative n1 0\nweakmap s0\nscript s1 0\nscript s2 1\nwrap s3 n1\nput s2 0 s3\nset n0 0 s1\nwset s0 s1 s2\ndrop s1\ndrop s2\ndrop s3\ndrop n1\nnative n3 1\ngc\nslice 1\nmove n3 0 n0 0\nslice 10\nget s1 n3 0\nwget s2 s0 s1\ntake s3 s2 0\nunwrap n1 s3\n"
+
+-- What a gray script object that moves holds in its slots is black too, and the native that this leads to is kept.
+abbrev pub move_exposes_over_slots : List ℕ
+move_exposes_over_slots = codes "version 2\nnative n0 1\nnative n1 0\nnative n2 2\nscript s1 1\nwrap s0 n1\nput s1 0 s0\nset n0 0 s1\nset n2 0 s0\nset n2 1 n2\ndrop s0\ndrop s1\ndrop n1\ndrop n2\nnative n3 1\ngc\nslice 3\nmove n3 0 n0 0\nslice 10\nget s1 n3 0\ntake s0 s1 0\nunwrap n1 s0\n"

@@ -5,7 +5,7 @@
 use crate::script::{Example, are_answered};
 use cc_replay::Status;
 
-const EXAMPLES: [Example; 14] = [
+const EXAMPLES: [Example; 20] = [
     // A version is asked for by one number.
     Example {
         name: "version_with_two_numbers",
@@ -144,6 +144,66 @@ const EXAMPLES: [Example; 14] = [
         bytes: 4294967295,
         input: b"version 2\nnative n0 256\nscript s0 256\nwrap s1 n0\nput s0 255 s1\nset n0 255 s0\ndrop n0\ndrop s0\ndrop s1\ngc\ncollect\ngc\n",
         output: b"= ok\n= #1\n= @1\n= ~1\n= ok\n= ok\n= ok\n= ok\n= ok\n= ok\n- unlink #1\n= ok\n- free @1\n- free ~1\n- free #1\n= ok\n",
+        status: Status::Done,
+    },
+    // What the last slot of the last register's native holds is moved, and its slot is empty then.
+    Example {
+        name: "last_register_and_last_slot_move",
+        natives: 1000000,
+        scripts: 1000000,
+        bytes: 4294967295,
+        input: b"version 2\nnative n1023 256\nset n1023 255 n1023\nnative n1024 0\nnative n0 257\nversion 2\nnative n0 1\nmove n0 0 n1023 255\nmove n1023 0 n0 0\nmove n1023 0 n0 0\n",
+        output: b"= ok\n= #1\n= ok\n! line\n! line\n! line\n= #2\n= #1\n= #1\n= none\n",
+        status: Status::Done,
+    },
+    // A native that moves is freed when the slot that it moved to lets it go, and not before.
+    Example {
+        name: "move_changes_no_count",
+        natives: 1000000,
+        scripts: 1000000,
+        bytes: 4294967295,
+        input: b"version 2\nnative n0 1\nnative n1 1\nnative n2 0\nset n0 0 n2\ndrop n2\nmove n1 0 n0 0\nmove n0 0 n1 0\nget n2 n1 0\ndrop n1\nget n2 n0 0\ndrop n2\nset n0 0 none\ndrop n0\n",
+        output: b"= ok\n= #1\n= #2\n= #3\n= ok\n= ok\n= #3\n= #3\n= none\n- free #2\n= ok\n= #3\n= ok\n- free #3\n= ok\n- free #1\n= ok\n",
+        status: Status::Done,
+    },
+    // The slot that a native moves to gives up what it held, with all that this alone held.
+    Example {
+        name: "move_gives_up_what_the_slot_held",
+        natives: 1000000,
+        scripts: 1000000,
+        bytes: 4294967295,
+        input: b"version 2\nnative n0 1\nnative n1 1\nnative n2 1\nnative n3 0\nset n0 0 n2\nset n2 0 n3\ndrop n2\ndrop n3\nnative n4 0\nset n1 0 n4\ndrop n4\nmove n0 0 n1 0\nget n2 n0 0\nget n3 n1 0\n",
+        output: b"= ok\n= #1\n= #2\n= #3\n= #4\n= ok\n= ok\n= ok\n= ok\n= #5\n= ok\n= ok\n- free #3\n- free #4\n= #5\n= #5\n= none\n",
+        status: Status::Done,
+    },
+    // Where there is nothing to move, the slot that it would move to is emptied.
+    Example {
+        name: "move_of_nothing_empties_the_slot",
+        natives: 1000000,
+        scripts: 1000000,
+        bytes: 4294967295,
+        input: b"version 2\nnative n0 2\nnative n1 1\nnative n2 0\nscript s0 0\nset n0 0 n2\nset n0 1 s0\ndrop n2\ndrop s0\nmove n0 0 n1 0\nmove n0 1 n1 0\nget n2 n0 0\ngc\n",
+        output: b"= ok\n= #1\n= #2\n= #3\n= @1\n= ok\n= ok\n= ok\n= ok\n- free #3\n= none\n= none\n= none\n- free @1\n= ok\n",
+        status: Status::Done,
+    },
+    // A native moves into a slot of its own, and only itself holds it then.
+    Example {
+        name: "native_moves_into_its_own_slot",
+        natives: 1000000,
+        scripts: 1000000,
+        bytes: 4294967295,
+        input: b"version 2\nnative n0 1\nnative n1 1\nset n1 0 n0\nmove n0 0 n1 0\ndrop n0\nget n2 n1 0\ncensus\ncollect\ncensus\n",
+        output: b"= ok\n= #1\n= #2\n= ok\n= #1\n= ok\n= none\n+ #1\n+ #2\n= census 2\n- unlink #1\n- free #1\n= ok\n+ #2\n= census 1\n",
+        status: Status::Done,
+    },
+    // What moves to where it is stays there, also where two registers name its holder.
+    Example {
+        name: "move_onto_its_own_place",
+        natives: 1000000,
+        scripts: 1000000,
+        bytes: 4294967295,
+        input: b"version 2\nnative n0 1\nnative n1 0\nset n0 0 n1\ndrop n1\ncopy n2 n0\nmove n0 0 n0 0\nmove n2 0 n0 0\nget n1 n0 0\ndrop n1\ndrop n2\ndrop n0\n",
+        output: b"= ok\n= #1\n= #2\n= ok\n= ok\n= #1\n= #2\n= #2\n= #2\n= ok\n= ok\n- free #1\n- free #2\n= ok\n",
         status: Status::Done,
     },
 ];
