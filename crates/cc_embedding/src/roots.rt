@@ -1,23 +1,28 @@
 //! More roots than registers: the slots of natives in a chain, the first of which stands in a register.
+ghost use Rattle.std.specs.Prelude.{◌<◌, ◌≤◌, IsSome};
+ghost use Rattle.cc_names.specs.Sizes.{bank_length, most_slots};
+ghost use Rattle.cc_heaps.specs.Changes.{IsNativeThere};
+ghost use Rattle.cc_heaps.specs.Keyed.{number_at};
+
 use cc_collector::Collector;
 use cc_counted::{Held, native_held};
 use cc_heaps::{Heaps, MakeStop};
 use cc_model::Notices;
-use cc_names::{Limits, MOST_SLOTS, NKey, NoMemory, RegNo, SlotNo};
+use cc_names::{Limits, MOST_SLOTS, NKey, Name, NoMemory, RegNo, SlotNo};
 use std::alloc::Global;
 use std::marker::Model;
 
 /// The register of the first native of the chain.
 const FIRST: RegNo = 1023;
 
-/// The register of the native of the chain that is at work.
-const HERE: RegNo = 1022;
-
 /// The register of a native that is yet to join the chain.
-const JOINING: RegNo = 1021;
+const JOINING: RegNo = 1022;
 
-/// The slot that holds the next native of the chain. Those before it are roots.
+/// The slot that holds the next native of the chain. The slots before it are roots.
 const NEXT: SlotNo = MOST_SLOTS - 1;
+
+/// How many roots a native of the chain has.
+const ROOTS: u32 = 255;
 
 /// Heaps and their collector, with as many roots as the host asks for.
 #[derive(Drop)]
@@ -40,7 +45,7 @@ impl Model for Roots {
 }
 
 impl Roots {
-    /// Empty heaps without roots beside the registers, and a collector that does not run.
+    /// Empty heaps with no roots but the registers, and a collector that does not run.
     pub fn new(alloc: Global, limits: Limits) -> Result<Roots, NoMemory> {
         let heaps = Heaps::new(alloc, limits)?;
         Ok(Roots {
@@ -50,46 +55,115 @@ impl Roots {
         })
     }
 
-    /// A register holds a new native without slots.
-    pub fn make<N: Notices>(&mut self, r: RegNo, out: &mut N) -> Result<(), MakeStop> {
-        self.make_native(r, 0, out)
+    /// A register holds a new native with so many slots. Its name.
+    pub fn make<N: Notices>(
+        &mut self,
+        r: RegNo,
+        slots: SlotNo,
+        out: &mut N,
+    ) -> Result<Name, MakeStop>
+        requires register { r < bank_length }
+        requires slots { slots ≤ most_slots }
+    {
+        self.heaps.new_native(r, slots, out)
     }
 
-    /// The chain has one native more at its end, and so 255 roots more, which are empty.
-    pub fn grow<N: Notices>(&mut self, out: &mut N) -> Result<(), MakeStop> {
-        self.make_native(JOINING, MOST_SLOTS, out)?;
-        if self.natives == 0 {
-            self.copy(FIRST, JOINING, out);
+    /// A register holds nothing from then on.
+    pub fn let_go<N: Notices>(&mut self, r: RegNo, out: &mut N)
+        requires { r < bank_length }
+    {
+        self.heaps.set_native_reg(r, None, out);
+    }
+
+    /// The native in a slot of a native of the chain.
+    fn held_in(&self, native: NKey, i: SlotNo) -> Option<NKey>
+        requires { IsSome (number_at self.now native.0) }
+        ensures { IsNativeThere self.now result }
+    {
+        if i < self.heaps.counted().slots(native) {
+            native_held(self.heaps.counted().slot(native, i))
         } else {
-            self.stand_at(self.natives - 1, out);
-            self.store(NEXT, JOINING, out);
+            None
+        }
+    }
+
+    /// The native of the chain with this number, counted from 0.
+    fn native_at(&self, number: u32) -> Option<NKey>
+        ensures { IsNativeThere self.now result }
+    {
+        let mut native = self.heaps.native_reg(FIRST)?;
+        for _ in 0..number {
+            native = self.held_in(native, NEXT)?;
+        }
+        Some(native)
+    }
+
+    /// Slot `i` of the native of the chain with this number holds what a register holds.
+    fn store<N: Notices>(&mut self, number: u32, i: SlotNo, r: RegNo, out: &mut N)
+        requires { r < bank_length }
+    {
+        if let (Some(native), Some(held)) = (self.native_at(number), self.heaps.native_reg(r)) {
+            if i < self.heaps.counted().slots(native) {
+                self.heaps
+                    .store_native(native, i, Some(Held::Native(held)), out);
+            }
+        }
+    }
+
+    /// The chain begins with the native that is to join it.
+    fn begin<N: Notices>(&mut self, out: &mut N) {
+        let native = self.heaps.native_reg(JOINING);
+        self.heaps.set_native_reg(FIRST, native, out);
+    }
+
+    /// The chain has one native more at its end, and so 255 roots more, which hold nothing.
+    pub fn grow<N: Notices>(&mut self, out: &mut N) -> Result<Name, MakeStop> {
+        let made = self.make(JOINING, MOST_SLOTS, out)?;
+        if self.natives == 0 {
+            self.begin(out);
+        } else {
+            self.store(self.natives - 1, NEXT, JOINING, out);
         }
         self.let_go(JOINING, out);
         self.natives = self.natives.saturating_add(1);
-        Ok(())
+        Ok(made)
     }
 
-    /// How many roots there are.
-    pub fn count(&self) -> u64 {
-        self.natives as u64 * NEXT as u64
+    /// The root with this number, counted from 0, holds what a register holds.
+    pub fn keep<N: Notices>(&mut self, root: u32, r: RegNo, out: &mut N)
+        requires { r < bank_length }
+    {
+        self.store(root / ROOTS, (root % ROOTS) as SlotNo, r, out);
     }
 
-    /// The root of a number, counted from 0, holds what a register holds, and the register is emptied.
-    pub fn keep<N: Notices>(&mut self, root: u32, r: RegNo, out: &mut N) {
-        self.stand_at(root / NEXT as u32, out);
-        self.store((root % NEXT as u32) as SlotNo, r, out);
-        self.let_go(r, out);
+    /// The native that the root with this number holds.
+    fn held_by(&self, root: u32) -> Option<NKey>
+        ensures { IsNativeThere self.now result }
+    {
+        let native = self.native_at(root / ROOTS)?;
+        self.held_in(native, (root % ROOTS) as SlotNo)
     }
 
-    /// A register holds what the root of a number holds.
-    pub fn read<N: Notices>(&mut self, r: RegNo, root: u32, out: &mut N) {
-        self.stand_at(root / NEXT as u32, out);
-        self.load(r, (root % NEXT as u32) as SlotNo, out);
+    /// A register holds what the root with this number holds.
+    pub fn read<N: Notices>(&mut self, r: RegNo, root: u32, out: &mut N)
+        requires { r < bank_length }
+    {
+        let held = self.held_by(root);
+        self.heaps.set_native_reg(r, held, out);
     }
 
-    /// The root of a number holds nothing from then on.
+    /// The root with this number holds nothing from then on.
     pub fn clear<N: Notices>(&mut self, root: u32, out: &mut N) {
-        self.let_go(JOINING, out);
-        self.keep(root, JOINING, out);
+        if let Some(native) = self.native_at(root / ROOTS) {
+            let i = (root % ROOTS) as SlotNo;
+            if i < self.heaps.counted().slots(native) {
+                self.heaps.store_native(native, i, None, out);
+            }
+        }
+    }
+
+    /// Leaves what registers and roots lead to.
+    pub fn settle<N: Notices>(&mut self, out: &mut N) -> Result<(), NoMemory> {
+        self.collector.settle(&mut self.heaps, out)
     }
 }
