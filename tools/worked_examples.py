@@ -190,7 +190,6 @@ def file_of_inputs(examples):
 
 THEOREM_WORDS = [
     ('Rattle.std.specs.Prelude', ['◌≡◌', '[]', '◌++◌', 'codes', 'replicate', 'refl']),
-    ('Rattle.cc_model.specs.Forms', ['version_one_forms']),
     ('Rattle.cc_worked.specs.Examples', ['limits', 'default_limits', 'ample', 'refused_at', 'text_within']),
 ]
 OTHER_WORDS = [
@@ -206,7 +205,7 @@ def theorem(example):
     if example.is_whole():
         claim, proof = f'Works {given}\n    {output if output == "[]" else f"({output})"}', 'record { writes = refl; passes = refl; audited = refl }'
     else:
-        claim, proof = f'text_within version_one_forms {given}\n    ≡ {output}', 'refl'
+        claim, proof = f'text_within {given}\n    ≡ {output}', 'refl'
     return f'\n-- {sentence(example.shows)}\npub {name} : {claim}\nunfolding all_of_a_run\n{name} = {proof}\n'
 
 

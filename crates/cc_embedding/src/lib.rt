@@ -9,6 +9,7 @@ mod freed;
 mod host;
 mod laws;
 mod one_call;
+mod roots;
 mod told;
 mod uncounted;
 
@@ -17,5 +18,6 @@ pub use freed::Freed;
 pub use host::Host;
 pub use laws::rows_follow_the_heaps;
 pub use one_call::empty;
+pub use roots::Roots;
 pub use told::{Row, Told, forget, has_freed, settle_rows};
 pub use uncounted::frame;

@@ -10,3 +10,5 @@ mod part_4;
 mod part_5;
 mod part_6;
 mod part_7;
+mod part_8;
+mod part_9;

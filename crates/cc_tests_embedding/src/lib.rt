@@ -7,4 +7,6 @@ mod frames;
 #[cfg(test)]
 mod hosts;
 #[cfg(test)]
+mod roots;
+#[cfg(test)]
 mod rows;

@@ -38,6 +38,30 @@ fn a_chain_of_two_hundred_thousand_is_freed_by_one_drop(rt: HostRuntime) {
     CHAIN.is_played(&rt);
 }
 
+/// Each native holds the one before it, and a slot has the only reference to the last of them. A native moves into that slot.
+const MOVED_ONTO_A_CHAIN: Shape = Shape {
+    script: &[
+        Once("version 2\nnative n0 1\n"),
+        Each(2, 100000, "native n1 1\nset n1 0 n0\ncopy n0 n1\n"),
+        Once(
+            "native n1 256\nset n1 255 n0\nnative n1023 1\nnative n0 0\nset n1023 0 n0\ndrop n0\n",
+        ),
+        Once("move n1 255 n1023 0\nget n0 n1 255\ncensus\n"),
+    ],
+    wanted: &[
+        Once("= ok\n= #1\n"),
+        Each(2, 100000, "= #K\n= ok\n= #K\n"),
+        Once("= #100001\n= ok\n= #100002\n= #100003\n= ok\n= ok\n"),
+        Each(100000, 1, "- free #K\n"),
+        Once("= #100003\n= #100003\n+ #100001\n+ #100002\n+ #100003\n= census 3\n"),
+    ],
+};
+
+#[test]
+fn a_chain_of_a_hundred_thousand_is_freed_by_one_move(rt: HostRuntime) {
+    MOVED_ONTO_A_CHAIN.is_played(&rt);
+}
+
 /// Each native holds the one before it, and the first one holds the last.
 const RING: Shape = Shape {
     script: &[
@@ -389,4 +413,29 @@ const HELD_BY_ALL: Shape = Shape {
 #[test]
 fn a_native_that_everything_held_is_collected(rt: HostRuntime) {
     HELD_BY_ALL.is_played(&rt);
+}
+
+/// The same in version 2, with all its slots and registers.
+const HELD_BY_ALL_OF_VERSION_TWO: Shape = Shape {
+    script: &[
+        Once("version 2\nnative n0 256\n"),
+        Each(0, 255, "set n0 K n0\n"),
+        Each(1, 1023, "copy nK n0\n"),
+        Once("slice 1\n"),
+        Each(0, 1023, "drop nK\n"),
+        Once("slice 1\ncollect\n"),
+    ],
+    wanted: &[
+        Once("= ok\n= #1\n"),
+        Each(0, 255, "= ok\n"),
+        Each(1, 1023, "= #1\n"),
+        Once("= ok\n"),
+        Each(0, 1023, "= ok\n"),
+        Once("= ok\n- unlink #1\n- free #1\n= ok\n"),
+    ],
+};
+
+#[test]
+fn a_native_that_everything_of_version_two_held_is_collected(rt: HostRuntime) {
+    HELD_BY_ALL_OF_VERSION_TWO.is_played(&rt);
 }

@@ -5,7 +5,7 @@
 use crate::script::{Example, are_answered};
 use cc_replay::Status;
 
-const EXAMPLES: [Example; 6] = [
+const EXAMPLES: [Example; 20] = [
     // A collection with one candidate looks at it, at the holder of a delegate, at the delegate, at the proxy and at the value, so it takes seven units.
     Example {
         name: "gray_proxy_key_takes_seven_units",
@@ -64,6 +64,146 @@ const EXAMPLES: [Example; 6] = [
         bytes: 4294967295,
         input: b"proxy\nproxy s0\nproxy n0 s0\nproxy s0 n0\nproxy s256 s0\nproxy s0 s256\nproxy s0 s1 s2\nproxy s0 none\nproxy s0 0\nProxy s0 s1\nproxy s00 s1\nproxy s255 s255\n",
         output: b"! line\n! line\n! line\n! line\n! line\n! line\n! line\n! line\n! line\n! line\n! line\n! empty\n",
+        status: Status::Done,
+    },
+    // A script whose first line asks for version 2 has registers up to 1023 and objects of up to 256 slots.
+    Example {
+        name: "version_two_is_asked_for_first",
+        natives: 1000000,
+        scripts: 1000000,
+        bytes: 4294967295,
+        input: b"version 2\nnative n1023 256\nscript s1023 256\nset n1023 255 n1023\nset n1023 256 n1023\nput s1023 255 s1023\nput s1023 256 s1023\nnative n1024 0\nscript s1024 0\nnative n0 257\nscript s0 257\nnative n0 1\n",
+        output: b"= ok\n= #1\n= @1\n= ok\n! slot\n= ok\n! slot\n! line\n! line\n! line\n! line\n= #2\n",
+        status: Status::Done,
+    },
+    // A script that asks for nothing has 256 registers, 64 slots and no word of version 2, and can't ask later on.
+    Example {
+        name: "version_one_means_what_it_meant",
+        natives: 1000000,
+        scripts: 1000000,
+        bytes: 4294967295,
+        input: b"native n255 64\nnative n256 0\nmove n255 0 n255 1\nversion 2\n",
+        output: b"= #1\n! line\n! line\n! line\n",
+        status: Status::Done,
+    },
+    // A comment before it leaves version 2 to be asked for.
+    Example {
+        name: "comment_before_version_two",
+        natives: 1000000,
+        scripts: 1000000,
+        bytes: 4294967295,
+        input: b"% c\nversion 2\n",
+        output: b"= ok\n",
+        status: Status::Done,
+    },
+    // Blank lines and comments in any number leave version 2 to be asked for, and spaces part its tokens too.
+    Example {
+        name: "blank_lines_before_version_two",
+        natives: 1000000,
+        scripts: 1000000,
+        bytes: 4294967295,
+        input: b"\n  \n% note\n\r\n  \r\n%aaaaaaaaaaaaaaaaaaaaaaaaaaaaaaaaaaaaaaaaaaaaaaaaaaaaaaaaaaaaaaaaaaaaaaaaaaaaaaaaaaaaaaaaaaaaaaaaaaaaaaaaaaaaaaaaaaaaaaa\n  version   2  \nnative n1023 0\n",
+        output: b"= ok\n= #1\n",
+        status: Status::Done,
+    },
+    // A line that is too long makes the script one of version 1.
+    Example {
+        name: "long_line_before_version_two",
+        natives: 1000000,
+        scripts: 1000000,
+        bytes: 4294967295,
+        input: b"aaaaaaaaaaaaaaaaaaaaaaaaaaaaaaaaaaaaaaaaaaaaaaaaaaaaaaaaaaaaaaaaaaaaaaaaaaaaaaaaaaaaaaaaaaaaaaaaaaaaaaaaaaaaaaaaaaaaaaaaa\nversion 2\nnative n256 0\nnative n255 65\nnative n255 64\n",
+        output: b"! long\n! line\n! line\n! line\n= #1\n",
+        status: Status::Done,
+    },
+    // A comment that is too long makes the script one of version 1.
+    Example {
+        name: "long_comment_before_version_two",
+        natives: 1000000,
+        scripts: 1000000,
+        bytes: 4294967295,
+        input: b"%aaaaaaaaaaaaaaaaaaaaaaaaaaaaaaaaaaaaaaaaaaaaaaaaaaaaaaaaaaaaaaaaaaaaaaaaaaaaaaaaaaaaaaaaaaaaaaaaaaaaaaaaaaaaaaaaaaaaaaaa\nversion 2\nnative n256 0\n",
+        output: b"! long\n! line\n! line\n",
+        status: Status::Done,
+    },
+    // A line that is not in the grammar makes the script one of version 1.
+    Example {
+        name: "bad_line_before_version_two",
+        natives: 1000000,
+        scripts: 1000000,
+        bytes: 4294967295,
+        input: b"census now\nversion 2\nnative n256 0\n",
+        output: b"! line\n! line\n! line\n",
+        status: Status::Done,
+    },
+    // A command makes the script one of version 1.
+    Example {
+        name: "command_before_version_two",
+        natives: 1000000,
+        scripts: 1000000,
+        bytes: 4294967295,
+        input: b"census\nversion 2\nnative n256 0\n",
+        output: b"= census 0\n! line\n! line\n",
+        status: Status::Done,
+    },
+    // A command that is refused makes the script one of version 1.
+    Example {
+        name: "refused_command_before_version_two",
+        natives: 1000000,
+        scripts: 1000000,
+        bytes: 4294967295,
+        input: b"preserve s0\nversion 2\nnative n256 0\n",
+        output: b"! empty\n! line\n! line\n",
+        status: Status::Done,
+    },
+    // No version is asked for again, and what is refused so leaves the script in version 2.
+    Example {
+        name: "version_two_is_asked_for_once",
+        natives: 1000000,
+        scripts: 1000000,
+        bytes: 4294967295,
+        input: b"version 2\nversion 2\nversion 1\nversion 3\nversion\naaaaaaaaaaaaaaaaaaaaaaaaaaaaaaaaaaaaaaaaaaaaaaaaaaaaaaaaaaaaaaaaaaaaaaaaaaaaaaaaaaaaaaaaaaaaaaaaaaaaaaaaaaaaaaaaaaaaaaaaa\nnative n256 65\n",
+        output: b"= ok\n! line\n! line\n! line\n! line\n! long\n= #1\n",
+        status: Status::Done,
+    },
+    // Version 1 has no line that asks for it.
+    Example {
+        name: "version_one_is_not_asked_for",
+        natives: 1000000,
+        scripts: 1000000,
+        bytes: 4294967295,
+        input: b"version 1\nversion 2\nnative n256 0\n",
+        output: b"! line\n! line\n! line\n",
+        status: Status::Done,
+    },
+    // There is no version 3, and who asks for it gets version 1.
+    Example {
+        name: "version_three_is_not_known",
+        natives: 1000000,
+        scripts: 1000000,
+        bytes: 4294967295,
+        input: b"version 3\nversion 2\nnative n256 0\n",
+        output: b"! line\n! line\n! line\n",
+        status: Status::Done,
+    },
+    // The number of the version is written without a zero before it.
+    Example {
+        name: "version_has_no_leading_zero",
+        natives: 1000000,
+        scripts: 1000000,
+        bytes: 4294967295,
+        input: b"version 02\nversion 2\nnative n256 0\n",
+        output: b"! line\n! line\n! line\n",
+        status: Status::Done,
+    },
+    // A version is asked for by its number.
+    Example {
+        name: "version_without_a_number",
+        natives: 1000000,
+        scripts: 1000000,
+        bytes: 4294967295,
+        input: b"version\nversion 2\nnative n256 0\n",
+        output: b"! line\n! line\n! line\n",
         status: Status::Done,
     },
 ];
