@@ -1,5 +1,5 @@
 -- When a command is refused, and what it answers: the same words for the graph and for the heaps.
-use Rattle.std.specs.Prelude.{ℕ, ◌+◌, Bool, true, false, not, List, [], ◌∷◌, map, length, Option, Some, None, is_none, option_to_list, option_and_then, slice_index_or, nat_le}
+use Rattle.std.specs.Prelude.{ℕ, ◌+◌, Bool, true, false, not, ◌||◌, List, [], ◌∷◌, map, length, Option, Some, None, is_none, option_to_list, option_and_then, slice_index_or, nat_le}
 use Rattle.std.specs.List.{list_any}
 use Rattle.cc_names.specs.Allowance.{Allowance}
 use Rattle.cc_names.specs.declared.name.Name.{Name}
@@ -8,7 +8,7 @@ use Rattle.cc_names.specs.declared.register.Reg.{Reg}
 use Rattle.cc_names.specs.declared.register.Reg.TheVariants.{N, S}
 use Rattle.cc_names.specs.Names.{native, object, reflector, is_native, is_script, is_reflector}
 use Rattle.cc_model.specs.declared.command.Command.{Command}
-use Rattle.cc_model.specs.declared.command.Command.TheVariants.{Nothing, Version2, Native, Script, WeakMap, Proxy, CopyNative, CopyScript, Drop, Set, Get, Put, Take, Wrap, Unwrap, Preserve, SetEntry, GetEntry, Expose, Slice, Collect, Gc, Census}
+use Rattle.cc_model.specs.declared.command.Command.TheVariants.{Nothing, Version2, Native, Script, WeakMap, Proxy, CopyNative, CopyScript, Drop, Set, Get, Move, Put, Take, Wrap, Unwrap, Preserve, SetEntry, GetEntry, Expose, Slice, Collect, Gc, Census}
 use Rattle.cc_model.specs.declared.item.Refusal.{Refusal}
 use Rattle.cc_model.specs.declared.item.Refusal.TheVariants.{Empty, Kind, Slot, Full}
 use Rattle.cc_model.specs.declared.item.Reply.{Reply}
@@ -75,6 +75,7 @@ needed (CopyScript d s) = []
 needed (Drop r) = []
 needed (Set d i r) = N d ∷ option_to_list r
 needed (Get r s i) = N s ∷ []
+needed (Move d i s j) = N d ∷ N s ∷ []
 needed (Put d i s) = S d ∷ map S (option_to_list s)
 needed (Take d s i) = S s ∷ []
 needed (Wrap d s) = N s ∷ []
@@ -110,10 +111,11 @@ has_wrong_object o (SetEntry m k v) = not (is_map_in o (o.register (S m)))
 has_wrong_object o (GetEntry d m k) = not (is_map_in o (o.register (S m)))
 has_wrong_object o _ = false
 
--- whether an index is not below the object's number of slots
+-- whether an index is not below the object's number of slots; of a move one of the two
 abbrev pub has_no_slot : Objects → Command → Bool
 has_no_slot o (Set d i r) = nat_le (length (slots_at o (N d))) i
 has_no_slot o (Get r s i) = nat_le (length (slots_at o (N s))) i
+has_no_slot o (Move d i s j) = nat_le (length (slots_at o (N d))) i || nat_le (length (slots_at o (N s))) j
 has_no_slot o (Put d i s) = nat_le (length (slots_at o (S d))) i
 has_no_slot o (Take d s i) = nat_le (length (slots_at o (S s))) i
 has_no_slot o (Expose s i) = nat_le (length (slots_at o (N s))) i
@@ -175,6 +177,7 @@ reply_if_taken o (Proxy d s) = Named (object (o.scripts_made + 1))
 reply_if_taken o (CopyNative d s) = named_or_nothing (o.register (N s))
 reply_if_taken o (CopyScript d s) = named_or_nothing (o.register (S s))
 reply_if_taken o (Get r s i) = named_or_nothing (slot_at o (N s) i)
+reply_if_taken o (Move d i s j) = named_or_nothing (slot_at o (N s) j)
 reply_if_taken o (Take d s i) = named_or_nothing (slot_at o (S s) i)
 reply_if_taken o (Wrap d s) = named_or_nothing (reflector_of (o.register (N s)))
 reply_if_taken o (Unwrap d s) = named_or_nothing (native_of (o.register (S s)))

@@ -8,7 +8,7 @@ use Rattle.cc_names.specs.declared.kind.Kind.TheVariants.{Plain, Reflector, Map,
 use Rattle.cc_names.specs.declared.kind.Colour.TheVariants.{Black}
 use Rattle.cc_names.specs.Names.{native, object, reflector}
 use Rattle.cc_model.specs.declared.command.Command.{Command}
-use Rattle.cc_model.specs.declared.command.Command.TheVariants.{Nothing, Version2, Native, Script, WeakMap, Proxy, CopyNative, CopyScript, Drop, Set, Get, Put, Take, Wrap, Unwrap, Preserve, SetEntry, GetEntry, Expose, Slice, Collect, Gc, Census}
+use Rattle.cc_model.specs.declared.command.Command.TheVariants.{Nothing, Version2, Native, Script, WeakMap, Proxy, CopyNative, CopyScript, Drop, Set, Get, Move, Put, Take, Wrap, Unwrap, Preserve, SetEntry, GetEntry, Expose, Slice, Collect, Gc, Census}
 use Rattle.cc_model.specs.Slots.{empty_slots, reflector_slots}
 use Rattle.cc_model.specs.Entries.{with_entry, without_entry}
 use Rattle.cc_model.specs.Checks.{slot_at, value_at, reflector_of, native_of}
@@ -30,6 +30,23 @@ put_in_slot h d i x = let_go (set_slot h (register h (N d)) i x) (slot_at (objec
 
 unfoldable pub store_native : Heap → ℕ → ℕ → Option Name → Outcome
 store_native h d i x = put_in_slot (take_up h x) d i x
+
+-- a move takes no reference, so that a collection sees it the native stands in the buffer, without the purple mark; a script
+-- object is exposed
+abbrev pub touched : Heap → Option Name → Heap
+touched h (Some (name.Native k)) = touch h k.0
+touched h (Some (name.Script k)) = exposed h (Some (object k.0))
+touched h (Some (name.Reflector k)) = exposed h (Some (reflector k.0))
+touched h None = h
+
+-- what slot j of an object holds is touched, and leaves the slot: its reference, where it is a native, is in hand
+abbrev pub taken_out : Heap → Option Name → ℕ → Option Name → Heap
+taken_out h from j x = set_slot (touched h x) from j None
+
+-- what slot j of what native register s holds holds, moved into slot i of what native register d holds, which gives up what it
+-- held. Where both places are one, that is nothing by then
+unfoldable pub move_slot : Heap → ℕ → ℕ → ℕ → ℕ → Outcome
+move_slot h d i s j = let x = slot_at (objects_of h) (N s) j in put_in_slot (taken_out h (register h (N s)) j x) d i x
 
 -- what comes into a script register is exposed
 abbrev pub hold_script : Heap → ℕ → Option Name → Heap
@@ -98,6 +115,7 @@ effects h (Drop (S d)) = silently (set_register h (S d) None)
 effects h (Set d i r) = store_native h d i (source h r)
 effects h (Get (N d) s i) = hold_native h d (slot_at (objects_of h) (N s) i)
 effects h (Get (S d) s i) = silently (hold_script h d (slot_at (objects_of h) (N s) i))
+effects h (Move d i s j) = move_slot h d i s j
 effects h (Put d i s) = silently (put_in_script h (register h (S d)) i (source h (option_map S s)))
 effects h (Take d s i) = silently (hold_script h d (slot_at (objects_of h) (S s) i))
 effects h (Wrap d s) = silently (set_register (wrapped h (register h (N s))) (S d) (reflector_of (register h (N s))))

@@ -25,6 +25,11 @@ abbrev pub all_three : {A B C D : Type 0} → (A → B → C → D) → Option A
 all_three f None y z = None
 all_three f (Some a) y z = both (f a) y z
 
+-- where all four are read
+abbrev pub all_four : {A B C D E : Type 0} → (A → B → C → D → E) → Option A → Option B → Option C → Option D → Option E
+all_four f None x y z = None
+all_four f (Some a) x y z = all_three (f a) x y z
+
 -- nothing, where the token is the word `none`
 abbrev pub nothing : {A : Type 0} → List ℕ → Option (Option A)
 nothing token = if is_none_word token then Some None else None
@@ -33,7 +38,7 @@ nothing token = if is_none_word token then Some None else None
 abbrev pub version_two : List ℕ → Option (Unit {0})
 version_two token = if is_version_two token then Some tt else None
 
--- forms of one, two and three tokens, and of none
+-- forms of one to four tokens, and of none
 abbrev pub alone : Command → List (List ℕ) → Option Command
 alone c [] = Some c
 alone c (a ∷ tokens) = None
@@ -49,6 +54,10 @@ of_two f first second _ = None
 abbrev pub of_three : {A B C : Type 0} → (A → B → C → Command) → (List ℕ → Option A) → (List ℕ → Option B) → (List ℕ → Option C) → List (List ℕ) → Option Command
 of_three f first second third (a ∷ b ∷ c ∷ []) = all_three f (first a) (second b) (third c)
 of_three f first second third _ = None
+
+abbrev pub of_four : {A B C D : Type 0} → (A → B → C → D → Command) → (List ℕ → Option A) → (List ℕ → Option B) → (List ℕ → Option C) → (List ℕ → Option D) → List (List ℕ) → Option Command
+of_four f first second third fourth (a ∷ b ∷ c ∷ d ∷ []) = all_four f (first a) (second b) (third c) (fourth d)
+of_four f first second third fourth _ = None
 
 -- the forms without a script register
 abbrev pub native_form : Dialect → Form
@@ -121,6 +130,10 @@ get_entry_form v = form (codes "wget") (of_three command.GetEntry (script_regist
 abbrev pub expose_form : Dialect → Form
 expose_form v = form (codes "expose") (of_two command.Expose (native_register v) number)
 
+-- a form of version 2 alone
+abbrev pub move_form : Dialect → Form
+move_form v = form (codes "move") (of_four command.Move (native_register v) number (native_register v) number)
+
 -- the forms without registers
 abbrev pub slice_form : Form
 slice_form = form (codes "slice") (of_one command.Slice units_number)
@@ -170,8 +183,8 @@ common_forms v =
     ∷ census_form
     ∷ []
 
--- ALL FORMS of a line: at the start of a script the version may be asked for
+-- ALL FORMS of a line: at the start of a script the version may be asked for, and version 2 has more words
 abbrev pub forms_of : Dialect → List Form
 forms_of Start = version_form ∷ common_forms Start
 forms_of One = common_forms One
-forms_of Two = common_forms Two
+forms_of Two = move_form Two ∷ common_forms Two

@@ -8,7 +8,7 @@ use Rattle.cc_names.specs.declared.register.Reg.TheVariants.{N, S}
 use Rattle.cc_names.specs.Names.{native, object}
 use Rattle.cc_names.specs.Sizes.{bank_length}
 use Rattle.cc_model.specs.declared.command.Command.{Command}
-use Rattle.cc_model.specs.declared.command.Command.TheVariants.{Nothing, Version2, Native, Script, WeakMap, Proxy, CopyNative, CopyScript, Drop, Set, Get, Put, Take, Wrap, Unwrap, Preserve, SetEntry, GetEntry, Expose, Slice, Collect, Gc, Census}
+use Rattle.cc_model.specs.declared.command.Command.TheVariants.{Nothing, Version2, Native, Script, WeakMap, Proxy, CopyNative, CopyScript, Drop, Set, Get, Move, Put, Take, Wrap, Unwrap, Preserve, SetEntry, GetEntry, Expose, Slice, Collect, Gc, Census}
 use Rattle.cc_model.specs.declared.item.Refusal.{Refusal}
 use Rattle.cc_model.specs.declared.item.Reply.{Reply}
 use Rattle.cc_model.specs.Banks.{Bank, of_natives, of_scripts, bank_of, place_in_bank}
@@ -154,6 +154,11 @@ set_slot g (Some (name.Native k)) i x = set_native g k.0 (option_map (with_slot 
 set_slot g (Some (name.Script k)) i x = set_script g k.0 (option_map (with_script_slot i x) (script_in g k.0))
 set_slot g (Some (name.Reflector k)) i x = set_native g k.0 (option_map (with_reflector_slot i x) (native_in g k.0))
 
+-- what slot j of an object holds, moved into slot i of another or of the same: slot j is emptied first, so where both places
+-- are one nothing changes
+abbrev pub move_slot : Graph → Option Name → ℕ → Option Name → ℕ → Option Name → Graph
+move_slot g to i from j x = set_slot (set_slot g from j None) to i x
+
 -- a reflector preserved; nothing where it is no reflector
 abbrev pub preserve : Graph → Option Name → Graph
 preserve g (Some (name.Reflector k)) = set_native g k.0 (option_map as_preserved (native_in g k.0))
@@ -199,6 +204,7 @@ changed g (CopyScript d s) = set_register g (S d) (register g (S s))
 changed g (Drop r) = set_register g r None
 changed g (Set d i r) = set_slot g (register g (N d)) i (source g r)
 changed g (Get r s i) = set_register g r (slot_at (objects_of g) (N s) i)
+changed g (Move d i s j) = move_slot g (register g (N d)) i (register g (N s)) j (slot_at (objects_of g) (N s) j)
 changed g (Put d i s) = set_slot (preserve g (register g (S d))) (register g (S d)) i (source g (option_map S s))
 changed g (Take d s i) = set_register g (S d) (slot_at (objects_of g) (S s) i)
 changed g (Wrap d s) = set_register (wrapped g (register g (N s))) (S d) (reflector_of (register g (N s)))

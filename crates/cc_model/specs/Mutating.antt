@@ -1,7 +1,7 @@
 -- Which commands are the mutator's.
 use Rattle.std.specs.Prelude.{Bool, true, false}
 use Rattle.cc_model.specs.declared.command.Command.{Command}
-use Rattle.cc_model.specs.declared.command.Command.TheVariants.{Nothing, Version2, Native, Script, WeakMap, Proxy, CopyNative, CopyScript, Drop, Set, Get, Put, Take, Wrap, Unwrap, Preserve, SetEntry, GetEntry, Expose, Slice, Collect, Gc, Census}
+use Rattle.cc_model.specs.declared.command.Command.TheVariants.{Nothing, Version2, Native, Script, WeakMap, Proxy, CopyNative, CopyScript, Drop, Set, Get, Move, Put, Take, Wrap, Unwrap, Preserve, SetEntry, GetEntry, Expose, Slice, Collect, Gc, Census}
 
 -- THE COMMANDS OF THE MUTATOR: all but a blank line, the line that asks for a version, a collection, whole or in slices, a
 -- script collection and a census
@@ -15,6 +15,7 @@ is_applied (CopyScript d s) = true
 is_applied (Drop r) = true
 is_applied (Set d i r) = true
 is_applied (Get r s i) = true
+is_applied (Move d i s j) = true
 is_applied (Put d i s) = true
 is_applied (Take d s i) = true
 is_applied (Wrap d s) = true

@@ -4,7 +4,7 @@ use Rattle.cc_names.specs.declared.register.Reg.{Reg}
 use Rattle.cc_names.specs.declared.register.Reg.TheVariants.{N, S}
 use Rattle.cc_names.specs.Sizes.{bank_length, most_slots}
 use Rattle.cc_model.specs.declared.command.Command.{Command}
-use Rattle.cc_model.specs.declared.command.Command.TheVariants.{Nothing, Version2, Native, Script, WeakMap, Proxy, CopyNative, CopyScript, Drop, Set, Get, Put, Take, Wrap, Unwrap, Preserve, SetEntry, GetEntry, Expose, Slice, Collect, Gc, Census}
+use Rattle.cc_model.specs.declared.command.Command.TheVariants.{Nothing, Version2, Native, Script, WeakMap, Proxy, CopyNative, CopyScript, Drop, Set, Get, Move, Put, Take, Wrap, Unwrap, Preserve, SetEntry, GetEntry, Expose, Slice, Collect, Gc, Census}
 
 -- a register is one of its bank
 abbrev pub is_register : ℕ → Bool
@@ -40,6 +40,7 @@ in_range (CopyScript d s) = are_registers d s
 in_range (Drop r) = is_reg r
 in_range (Set d i r) = is_register d && is_source r
 in_range (Get r s i) = is_reg r && is_register s
+in_range (Move d i s j) = are_registers d s
 in_range (Put d i s) = is_register d && is_script_source s
 in_range (Take d s i) = are_registers d s
 in_range (Wrap d s) = are_registers d s

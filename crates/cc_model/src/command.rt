@@ -31,6 +31,8 @@ pub enum Command {
     Set(RegNo, u32, Option<Reg>),
     /// `get R nS i`: reads slot i of a native.
     Get(Reg, RegNo, u32),
+    /// `move nD i nS j`: slot i of a native takes what slot j of a native holds, which is emptied.
+    Move(RegNo, u32, RegNo, u32),
     /// `put sD i sS`, or `put sD i none`: writes slot i of a plain object or a reflector.
     Put(RegNo, u32, Option<RegNo>),
     /// `take sD sS i`: reads slot i of a plain object or a reflector.
