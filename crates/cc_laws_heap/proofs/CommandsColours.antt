@@ -1,5 +1,5 @@
 -- EACH COMMAND THAT IS NOT REFUSED KEEPS THE COLOURS.
-use Rattle.std.proofs.Common.{◌≡◌, ℕ, ◌+◌, Bool, true, false, ◌≤◌, List, [], ◌∷◌, ◌++◌, length, Option, Some, None, refl, sym, subst, ⊎_elim, arith, option_map, slice_set, option_to_list, inl}
+use Rattle.std.proofs.Common.{◌≡◌, ℕ, ◌+◌, Bool, true, false, ◌<◌, ◌≤◌, List, [], ◌∷◌, ◌++◌, length, Option, Some, None, refl, sym, subst, ⊎_elim, arith, option_map, slice_set, slice_index_or, option_to_list, inl}
 use Rattle.std.specs.Prelude.{IsTrue}
 use Rattle.std.proofs.lemmas.Bool.{leb-false}
 use Rattle.cc_lists.specs.Members.{Among}
@@ -10,15 +10,15 @@ use Rattle.cc_names.specs.declared.register.Reg.TheVariants.{N, S}
 use Rattle.cc_names.specs.declared.kind.Kind.{Kind}
 use Rattle.cc_names.specs.declared.kind.Kind.TheVariants.{Plain, Reflector, Map, Proxy as proxy_kind}
 use Rattle.cc_names.specs.declared.kind.Colour.TheVariants.{Black}
-use Rattle.cc_names.specs.Names.{object, reflector}
+use Rattle.cc_names.specs.Names.{native, object, reflector}
 use Rattle.cc_model.specs.declared.command.Command.{Command}
-use Rattle.cc_model.specs.declared.command.Command.TheVariants.{Native, Script, WeakMap, Proxy, CopyNative, CopyScript, Drop, Set, Get, Put, Take, Wrap, Unwrap, Preserve, SetEntry, GetEntry, Expose}
+use Rattle.cc_model.specs.declared.command.Command.TheVariants.{Native, Script, WeakMap, Proxy, CopyNative, CopyScript, Drop, Set, Get, Move, Put, Take, Wrap, Unwrap, Preserve, SetEntry, GetEntry, Expose}
 use Rattle.cc_model.specs.Slots.{reflector_slots, contents}
 use Rattle.cc_model.specs.Ranges.{in_range}
 use Rattle.cc_model.specs.Checks.{slot_at, slots_at, value_at, reflector_of}
-use Rattle.cc_model.specs.Heap.{Heap, HeapScript, register, set_register, source, objects_of, preserve, has_reflector}
+use Rattle.cc_model.specs.Heap.{Heap, HeapScript, Outcome, register, set_register, source, objects_of, preserve, has_reflector}
 use Rattle.cc_model.specs.Exposure.{exposed}
-use Rattle.cc_model.specs.Effects.{effects, put_in_register, hold_native, store_native, make_native, make_object, with_reflector, wrapped, put_in_script, set_entry, make_proxy}
+use Rattle.cc_model.specs.Effects.{effects, touched, taken_out, put_in_register, hold_native, put_in_slot, store_native, move_slot, make_native, make_object, with_reflector, wrapped, put_in_script, set_entry, make_proxy}
 use Rattle.cc_model.specs.WellFormed.{IsWellFormed, script_names}
 use Rattle.cc_model.specs.Places.{script_places_of}
 use Rattle.cc_model.proofs.Places.{script_place-cases}
@@ -31,9 +31,12 @@ use Rattle.cc_laws_heap.proofs.ScriptCommands.{blank}
 use Rattle.cc_laws_heap.proofs.Taken.{IsTaken}
 use Rattle.cc_laws_heap.proofs.Coloured.{AreColoured, IsColoured}
 use Rattle.cc_laws_heap.proofs.ColourChanges.{IsHeldBlack, AreColoured-register, AreColoured-slot, AreColoured-push, exposed-coloured, exposed-black}
-use Rattle.cc_laws_heap.proofs.NativesKeepScripts.{SameScripts-coloured, put_in_register-scripts, hold_native-scripts, store_native-scripts, make_native-scripts}
+use Rattle.cc_laws_heap.proofs.NativesKeepScripts.{SameScripts-coloured, put_in_register-scripts, hold_native-scripts, put_in_slot-scripts, store_native-scripts, make_native-scripts}
 use Rattle.cc_laws_heap.proofs.Owning.{IsIn}
-use Rattle.cc_laws_heap.proofs.ScriptsKept.{preserve-sound, preserve-scripts}
+use Rattle.cc_laws_heap.proofs.NativeCommands.{HasSlot-from}
+use Rattle.cc_laws_heap.proofs.Moving.{HasSlot-taken_out, move_slot-is}
+use Rattle.cc_laws_heap.proofs.CommandsSound.{moved-slots}
+use Rattle.cc_laws_heap.proofs.ScriptsKept.{native-no_script, preserve-sound, preserve-scripts}
 
 -- Script registers
 
@@ -95,6 +98,35 @@ put_in_script-coloured h _ i y black c = c
 
 -- Natives and entries
 
+-- what is touched keeps colours
+touched-coloured : (h : Heap) (x : Option Name) → IsColoured h → IsColoured (touched h x)
+touched-coloured h (Some (name.Script k)) c = exposed-coloured h (Some (object k.0)) c
+touched-coloured h (Some (name.Reflector k)) c = exposed-coloured h (Some (reflector k.0)) c
+touched-coloured h _ c = c
+
+-- so does what is taken out of a slot of a native,
+pub taken_out-coloured : (h : Heap) (m j : ℕ) (x : Option Name) → IsColoured h → IsColoured (taken_out h (Some (native m)) j x)
+taken_out-coloured h m j x c = touched-coloured h x c
+
+-- and where it is a script object it is black then
+pub taken_out-black : (h : Heap) (m j : ℕ) (x : Option Name) → IsWellFormed h → IsHeldBlack (taken_out h (Some (native m)) j x).scripts x
+taken_out-black h m j None w = λ o i n. absurd n
+taken_out-black h m j (Some (name.Native k)) w = λ o i n.
+    absurd (native-no_script h k.0 w (subst (λ y. Among y (script_names h)) (⊎_elim (λ e. sym e) (λ t. absurd t) n) (Among-map (λ (p : HeapScript). p.name) o h.scripts i)))
+taken_out-black h m j (Some (name.Script k)) w = exposed-black h (Some (object k.0))
+taken_out-black h m j (Some (name.Reflector k)) w = exposed-black h (Some (reflector k.0))
+
+-- what a slot holds moved into another
+move_slot-coloured : (h : Heap) (d i s j : ℕ) → IsWellFormed h → i < length (slots_at (objects_of h) (N d)) → j < length (slots_at (objects_of h) (N s)) → IsColoured h →
+    IsColoured (move_slot h d i s j).heap
+move_slot-coloured h d i s j w to from c =
+    let f = HasSlot-from h s j w from in
+    let x : Option Name = slice_index_or f.there.slots j None in
+    let left : Heap = taken_out h (Some (native f.number)) j x in
+    subst (λ (o : Outcome). IsColoured o.heap) (sym (move_slot-is h d i s j f))
+    (SameScripts-coloured left (put_in_slot left d i x).heap (put_in_slot-scripts left d i x (HasSlot-taken_out h f.number j x d i (HasSlot-from h d i w to)))
+    (taken_out-coloured h f.number j x c))
+
 -- a reflector preserved keeps colours
 preserve-coloured : (h : Heap) (x : Option Name) → IsColoured h → IsColoured (preserve h x)
 preserve-coloured h x c = grind arith
@@ -127,6 +159,7 @@ effects-coloured {owned} h (Set d i q) s c r t = SameScripts-coloured h (store_n
     (store_native-scripts owned h d i (source h q) (source-there h q s.well_formed) (leb-false (length (slots_at (objects_of h) (N d))) i t.slot) s) c
 effects-coloured {owned} h (Get (N d) q i) s c r t = grind (arith, SameScripts-coloured, hold_native-scripts)
 effects-coloured {owned} h (Get (S d) q i) s c r t = exposed_register-coloured h d (slot_at (objects_of h) (N q) i) c
+effects-coloured {owned} h (Move d i q j) s c r t = let slots = moved-slots h d i q j t.slot in move_slot-coloured h d i q j s.well_formed slots.0 slots.1 c
 effects-coloured {owned} h (Put d i q) s c r t = put_in_script-coloured h (register h (S d)) i (source h (option_map S q)) (script_source-black h q c) c
 effects-coloured {owned} h (Take d q i) s c r t = exposed_register-coloured h d (slot_at (objects_of h) (S q) i) c
 effects-coloured {owned} h (Wrap d q) s c r t = wrapped-coloured h d (register h (N q)) c

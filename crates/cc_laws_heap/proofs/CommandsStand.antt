@@ -13,7 +13,7 @@ use Rattle.cc_names.specs.declared.kind.Kind.TheVariants.{Plain, Map, Proxy as p
 use Rattle.cc_names.specs.Names.{native, object, reflector, is_script}
 use Rattle.cc_names.specs.Sizes.{bank_length}
 use Rattle.cc_model.specs.declared.command.Command.{Command}
-use Rattle.cc_model.specs.declared.command.Command.TheVariants.{Native, Script, WeakMap, Proxy, CopyNative, CopyScript, Drop, Set, Get, Put, Take, Wrap, Unwrap, Preserve, SetEntry, GetEntry, Expose}
+use Rattle.cc_model.specs.declared.command.Command.TheVariants.{Native, Script, WeakMap, Proxy, CopyNative, CopyScript, Drop, Set, Get, Move, Put, Take, Wrap, Unwrap, Preserve, SetEntry, GetEntry, Expose}
 use Rattle.cc_model.specs.declared.item.Event.TheVariants.{Freed}
 use Rattle.cc_model.specs.Ranges.{in_range}
 use Rattle.cc_model.specs.Slots.{empty_slots}
@@ -25,7 +25,7 @@ use Rattle.cc_model.specs.WellMade.{IsWellMade, was_made}
 use Rattle.cc_model.specs.Heap as heap
 use Rattle.cc_model.specs.Heap.{Heap, empty_heap}
 use Rattle.cc_model.specs.Effects as effects_of
-use Rattle.cc_model.specs.Effects.{effects, hold_native, store_native, make_native, put_in_script}
+use Rattle.cc_model.specs.Effects.{effects, hold_native, store_native, move_slot, make_native, put_in_script}
 use Rattle.cc_model.specs.WellFormed.{IsWellFormed, names_there, native_names}
 use Rattle.cc_model.specs.StandsFor.{StandsFor}
 use Rattle.cc_laws_heap.specs.Sound.{IsSound}
@@ -47,7 +47,7 @@ use Rattle.cc_laws_heap.proofs.SlotsWritten.{IsPreserved}
 use Rattle.cc_laws_heap.proofs.NewObjects.{next_native, next_object, Follows-native, Follows-plain, Follows-map, Follows-proxy}
 use Rattle.cc_laws_heap.proofs.Unseen.{Leaves-exposed}
 use Rattle.cc_laws_heap.proofs.Wrapping.{Follows-wrapped}
-use Rattle.cc_laws_heap.proofs.StepsAlike.{Follows-script_register, Follows-put, Follows-hold, Follows-hold_script, Follows-store, Follows-preserve, preserved-after, Follows-put_script, Follows-set_entry}
+use Rattle.cc_laws_heap.proofs.StepsAlike.{Follows-script_register, Follows-put, Follows-hold, Follows-hold_script, Follows-store, Follows-move, Follows-preserve, preserved-after, Follows-put_script, Follows-set_entry}
 use Rattle.cc_laws_heap.proofs.Making.{contents-empty_none}
 
 module _ (h : Heap) (g : Graph) (w : IsWellFormed h) (m : IsWellMade g) (s : StandsFor h g) where
@@ -69,8 +69,8 @@ module _ (h : Heap) (g : Graph) (w : IsWellFormed h) (m : IsWellMade g) (s : Sta
   script_source-alike r = grind arith
 
   -- what a native register holds has no native whose reflector it is
-  native-preserved : (d : ℕ) → OfSome (IsPreserved g) (graph.register g (N d))
-  native-preserved d = grind (arith, OfSome-then, native_register-made)
+  native-preserved : (f : Graph) (d : ℕ) → OfSome (IsPreserved f) (graph.register g (N d))
+  native-preserved f d = grind (arith, OfSome-then, native_register-made)
 
   -- a reflector made or found, and put into a register
   wrap : (d : ℕ) (x : Option Name) → OfSome (Reached g) x → OfSome (MadeNative g) x → (Q : Type 0) →
@@ -132,11 +132,13 @@ module _ (h : Heap) (g : Graph) (w : IsWellFormed h) (m : IsWellMade g) (s : Sta
   effects-follow (CopyScript d r) Q f = f (Reached g) (Follows-script_register (Reached g) h g d (heap.register h (S r)) (graph.register g (S r)) (a.register (S r)) (register-reached g (S r)) start)
   effects-follow (Drop (N d)) Q f = f (Reached g) (Follows-put (Reached g) h g d None None refl tt start)
   effects-follow (Drop (S d)) Q f = f (Reached g) (Follows-script_register (Reached g) h g d None None refl tt start)
-  effects-follow (Set d i r) Q f = f (Reached g) (Follows-store (Reached g) h g d i (heap.source h r) (graph.source g r) (source-alike r) (source-reached g r) (register-reached g (N d)) (native-preserved d) start)
+  effects-follow (Set d i r) Q f = f (Reached g) (Follows-store (Reached g) h g d i (heap.source h r) (graph.source g r) (source-alike r) (source-reached g r) (register-reached g (N d)) (native-preserved g d) start)
   effects-follow (Get (N d) r i) Q f = f (Reached g) (Follows-hold (Reached g) h g d (slot_at (heap.objects_of h) (N r) i) (slot_at (graph.objects_of g) (N r) i)
       (slot_at-alike (heap.objects_of h) (graph.objects_of g) a (N r) i) (slot_at-reached g (N r) i) start)
   effects-follow (Get (S d) r i) Q f = f (Reached g) (Follows-hold_script (Reached g) h g d (slot_at (heap.objects_of h) (N r) i) (slot_at (graph.objects_of g) (N r) i)
       (slot_at-alike (heap.objects_of h) (graph.objects_of g) a (N r) i) (slot_at-reached g (N r) i) start)
+  effects-follow (Move d i r j) Q f = f (Reached g) (Follows-move (Reached g) h g d i r j (slot_at (graph.objects_of g) (N r) j)
+      (slot_at-alike (heap.objects_of h) (graph.objects_of g) a (N r) j) (slot_at-reached g (N r) j) (register-reached g (N d)) (register-reached g (N r)) native-preserved start)
   effects-follow (Put d i r) Q f = f (Reached g)
       (subst (λ x. Follows (Reached g) (put_in_script h x i (heap.source h (option_map S r))) (graph.set_slot (graph.preserve g (graph.register g (S d))) (graph.register g (S d)) i (graph.source g (option_map S r)))) (sym (a.register (S d)))
       (subst (λ y. Follows (Reached g) (put_in_script h (graph.register g (S d)) i y) (graph.set_slot (graph.preserve g (graph.register g (S d))) (graph.register g (S d)) i (graph.source g (option_map S r)))) (sym (script_source-alike r))
@@ -182,7 +184,7 @@ command-stands h g c sound m s r t = effects-follow h g sound.well_formed m s c 
 
 -- what a command tells as freed are natives that are there no more
 effects-gone : (h : Heap) (c : Command) → TellsWhatIsGone (effects h c)
-unfolding effects make_native hold_native store_native
+unfolding effects make_native hold_native store_native move_slot
 effects-gone h c = grind (arith, let_go-gone)
 
 -- NOTHING THAT WAS FREED IS REACHED.

@@ -6,7 +6,7 @@ pub use Rattle.cc_laws_heap.proofs.Changing.{Follows-left, Leaves, option_map-fo
 pub use Rattle.cc_laws_heap.proofs.CollectedColours.{black-is, collect_scripts-colours, collect_scripts-frees, collect_scripts-invariant, collect_scripts-sound, collect_scripts-unmarked, collecting-keeps, is-black}
 pub use Rattle.cc_laws_heap.proofs.ColourChanges.{AreColoured-push, AreColoured-register, AreColoured-slot, IsHeldBlack, exposed-black, exposed-coloured}
 pub use Rattle.cc_laws_heap.proofs.Coloured.{AreColoured-from_view, HasColourInvariant-from, IsColoured}
-pub use Rattle.cc_laws_heap.proofs.CommandsColours.{effects-coloured, make_proxy-coloured}
+pub use Rattle.cc_laws_heap.proofs.CommandsColours.{effects-coloured, make_proxy-coloured, taken_out-black, taken_out-coloured}
 pub use Rattle.cc_laws_heap.proofs.CommandsSound.{effects-sound}
 pub use Rattle.cc_laws_heap.proofs.CommandsStand.{command-stands, empty-stands, proxy-follows}
 pub use Rattle.cc_laws_heap.proofs.CountBound.{count-bound, natives-made}
@@ -38,6 +38,7 @@ pub use Rattle.cc_laws_heap.proofs.MarkedKept.{black-place, black-register, mark
 pub use Rattle.cc_laws_heap.proofs.MarkedWellFormed.{is_spared, is_spared_entry}
 pub use Rattle.cc_laws_heap.proofs.Marking.{HasColours-marked, as_marked, colour_of}
 pub use Rattle.cc_laws_heap.proofs.MarkingKeeps.{IsSound-marked, round-frees, round-sound, script_names-marked}
+pub use Rattle.cc_laws_heap.proofs.Moving.{slot-there, taken_out-length, taken_out-names, taken_out-sound, taken_out-there, touched-names, touched-natives, touched-registers, touched-sound}
 pub use Rattle.cc_laws_heap.proofs.NameLists.{is_not_among-apart, is_not_among-from, natives_in-natives, same_name-sym}
 pub use Rattle.cc_laws_heap.proofs.NativeCommands.{IsIn-made, IsIn-take_up, hold_native-sound, make_native-sound, names_there-take_up}
 pub use Rattle.cc_laws_heap.proofs.Natives.{HasDistinctNumbers-change, IsRising-distinct, IsWellFormed-distinct, KeepsNumber, changed_at, changed_at-number, named-found, named-member, native_at-change_other, native_at-change_same, native_at-member, native_at-named, native_at-number, native_at-there, native_names-change}
@@ -63,6 +64,6 @@ pub use Rattle.cc_laws_heap.proofs.Swept.{beside-sweep, scripts-sweep, sweep-sou
 pub use Rattle.cc_laws_heap.proofs.Taken.{IsTaken, IsTaken-from}
 pub use Rattle.cc_laws_heap.proofs.TakingAway.{IsSound-permuted, IsTaking, others-kept, take_away-leaves, take_away-sound, take_away-takes, taken-emptied, unroot_each-taking}
 pub use Rattle.cc_laws_heap.proofs.Unlinking.{Unlinks, unlink-keeps}
-pub use Rattle.cc_laws_heap.proofs.Unseen.{Leaves-exposed, Leaves-let_go, Leaves-take_up}
+pub use Rattle.cc_laws_heap.proofs.Unseen.{Leaves-exposed, Leaves-let_go, Leaves-take_up, Leaves-touched}
 pub use Rattle.cc_laws_heap.proofs.Wrapping.{Follows-wrapped}
 pub use Rattle.cc_laws_heap.proofs.Writes.{contents-at as contents-at-of_writes, native_register-sound, native_slot-sound, script_register-sound, set_preserved-sound}

@@ -11,19 +11,19 @@ use Rattle.cc_names.specs.declared.register.Reg.TheVariants.{N, S}
 use Rattle.cc_names.specs.Names.{native, object}
 use Rattle.cc_names.specs.Sizes.{most_slots}
 use Rattle.cc_model.specs.declared.command.Command.{Command}
-use Rattle.cc_model.specs.declared.command.Command.TheVariants.{Native, Script, WeakMap, Proxy, CopyNative, CopyScript, Drop, Set, Get, Put, Take, Wrap, Unwrap, Preserve, SetEntry, GetEntry}
+use Rattle.cc_model.specs.declared.command.Command.TheVariants.{Native, Script, WeakMap, Proxy, CopyNative, CopyScript, Drop, Set, Get, Move, Put, Take, Wrap, Unwrap, Preserve, SetEntry, GetEntry}
 use Rattle.cc_model.specs.declared.item.Refusal.{Refusal}
 use Rattle.cc_model.specs.Ranges.{in_range, is_register, is_slots}
 use Rattle.cc_model.specs.Slots.{Slots, empty_slots}
 use Rattle.cc_model.specs.Entries.{entry, is_entry_of, with_entry, without_entry}
 use Rattle.cc_model.specs.Checks.{slot_at, value_at, native_of, reflector_of, is_map_in, refusal_of}
-use Rattle.cc_model.specs.Graph.{Graph, plain_object, weak_map, proxy, numbered, script_in, delegate_in, slots_in, objects_of, register, source, set_slot, preserve, wrapped, set_entry, as_preserved, as_wrapped, with_slot, with_reflector_slot, with_native, with_script, with_proxy, empty_graph, changed, unless_refused, step}
+use Rattle.cc_model.specs.Graph.{Graph, plain_object, weak_map, proxy, numbered, script_in, delegate_in, slots_in, objects_of, register, source, set_slot, move_slot, preserve, wrapped, set_entry, as_preserved, as_wrapped, with_slot, with_reflector_slot, with_native, with_script, with_proxy, empty_graph, changed, unless_refused, step}
 use Rattle.cc_model.specs.WellMade.{IsWellMade, IsMadeEntry}
 use Rattle.cc_laws_heap.proofs.Taken.{IsTaken, IsTaken-from}
 use Rattle.cc_laws_heap.proofs.Holds.{OfSome, OfSome-then}
 use Rattle.cc_laws_heap.proofs.Numbered.{numbered-nothing, numbered-push, numbered-change}
 use Rattle.cc_laws_heap.proofs.EntryLists.{with_entry-cases, entries_of-set}
-use Rattle.cc_laws_heap.proofs.GraphParts.{is_some-found, was_made-native, was_made-script, was_made-reflector, reflector-made, Grows, is_made_script-grows, IsMadeEntry-grows, IsWellMade-entries}
+use Rattle.cc_laws_heap.proofs.GraphParts.{is_some-found, was_made-native, was_made-script, was_made-reflector, reflector-made, Grows, is_made_native-grows, is_made_script-grows, IsMadeEntry-grows, IsWellMade-entries}
 use Rattle.cc_laws_heap.proofs.GraphWrites.{IsWellMade-native_register, IsWellMade-script_register, set_native-is, Grows-change_native, IsWellMade-change_native, KeepsNative-slot, KeepsNative-reflector_slot, KeepsNative-preserved, KeepsNative-wrapped, IsWellMade-script_slot, IsWellMade-with_native, IsWellMade-with_script, ScriptFits-plain, ScriptFits-map, ScriptFits-proxy}
 use Rattle.cc_laws_heap.proofs.GraphReads.{Made, MadeNative, MadeScript, MadeScript-made, native_register-made, script_register-made, register-made, source-made, script_source-made, slot_at-made, script_slot_at-made, no_script-made, no_native-made, native_of-made, value_at-made}
 use Rattle.cc_laws_heap.proofs.Making.{contents-empty_none}
@@ -38,6 +38,12 @@ Grows-preserve g None = record { made = λ x m. m; maps = λ k s. s; delegates =
 Grows-preserve g (Some (name.Native k)) = record { made = λ x m. m; maps = λ k s. s; delegates = λ x m. refl }
 Grows-preserve g (Some (name.Script k)) = record { made = λ x m. m; maps = λ k s. s; delegates = λ x m. refl }
 Grows-preserve g (Some (name.Reflector k)) = Grows-change_native g k.0 as_preserved (λ n r. r)
+
+-- nor does a slot of a native emptied
+Grows-emptied : (g : Graph) (o : Option Name) (j : ℕ) → OfSome (MadeNative g) o → Grows g (set_slot g o j None)
+Grows-emptied g None j t = record { made = λ x m. m; maps = λ k s. s; delegates = λ x m. refl }
+Grows-emptied g (Some (name.Native k)) j t = Grows-change_native g k.0 (with_slot j None) (λ n r. r)
+Grows-emptied g _ j t = absurd (false≢true t)
 
 -- what has no slots and was made is a weak map
 map-made : (g : Graph) (x : Name) → MadeScript g x → is_none (slots_in g x) ≡ true → (k : ℕ) × (x ≡ object k) × (script_in g k ≡ Some weak_map)
@@ -92,6 +98,18 @@ module _ (g : Graph) (w : IsWellMade g) where
   map_register-made : (r : ℕ) → not (is_map_in (objects_of g) (register g (S r))) ≡ false → OfSome (λ x. MadeScript g x × (is_none (slots_in g x) ≡ true)) (register g (S r))
   map_register-made r = grind (arith, script_register-made, not-false)
 
+-- what a slot of a native holds moved into another
+move-well : (g : Graph) → IsWellMade g → (to : Option Name) (i : ℕ) (from : Option Name) (j : ℕ) (x : Option Name) → OfSome (MadeNative g) to → OfSome (MadeNative g) from → OfSome (Made g) x →
+    IsWellMade (move_slot g to i from j x)
+move-well g w to i from j x t f m = native_slot-well left (native_slot-well g w from j None f tt) to i x
+    (OfSome-then (MadeNative g) (MadeNative left) (is_made_native-grows g left more) to t) (OfSome-then (Made g) (Made left) more.made x m)
+  where
+    left : Graph
+    left = set_slot g from j None
+
+    more : Grows g left
+    more = Grows-emptied g from j f
+
 -- a reflector preserved, and a slot of a script object written
 put-well : (g : Graph) → IsWellMade g → (o : Option Name) (i : ℕ) (x : Option Name) → OfSome (MadeScript g) o → OfSome (MadeScript g) x → IsWellMade (set_slot (preserve g o) o i x)
 put-well g w o i x t m = search (script_slot-well, preserve-well, OfSome-then, MadeScript-made, is_made_script-grows, Grows-preserve)
@@ -140,6 +158,8 @@ module _ (g : Graph) (w : IsWellMade g) where
   changed-well (Set d i s) r t = native_slot-well g w (register g (N d)) i (source g s) (native_register-made g w d) (source-made g w s)
   changed-well (Get (N d) s i) r t = IsWellMade-native_register g d (slot_at (objects_of g) (N s) i) w (no_script-made g w (slot_at (objects_of g) (N s) i) (slot_at-made g w (N s) i) t.content)
   changed-well (Get (S d) s i) r t = IsWellMade-script_register g d (slot_at (objects_of g) (N s) i) w (no_native-made g w (slot_at (objects_of g) (N s) i) (slot_at-made g w (N s) i) t.content)
+  changed-well (Move d i s j) r t = move-well g w (register g (N d)) i (register g (N s)) j (slot_at (objects_of g) (N s) j)
+      (native_register-made g w d) (native_register-made g w s) (slot_at-made g w (N s) j)
   changed-well (Put d i s) r t = put-well g w (register g (S d)) i (source g (option_map S s)) (script_register-made g w d) (script_source-made g w s)
   changed-well (Take d s i) r t = IsWellMade-script_register g d (slot_at (objects_of g) (S s) i) w (script_slot_at-made g w s i)
   changed-well (Wrap d s) r t = IsWellMade-script_register (wrapped g (register g (N s))) d (reflector_of (register g (N s))) (wrapped-well g w (register g (N s)))

@@ -69,7 +69,7 @@ pub record Grows (g f : Graph) : Type 0 where
 
 module _ (g f : Graph) (more : Grows g f) where
   -- a native that was made is one still
-  is_made_native-grows : (x : Name) → IsTrue (is_made_native g x) → IsTrue (is_made_native f x)
+  pub is_made_native-grows : (x : Name) → IsTrue (is_made_native g x) → IsTrue (is_made_native f x)
   is_made_native-grows x m = let p = and_parts (is_native x) (was_made g x) m in and_from (is_native x) (was_made f x) p.0 (more.made x p.1)
 
   -- a script object that was made is one still

@@ -24,6 +24,7 @@ pub mod ScriptsKept
 pub mod Holding
 pub mod Taken
 pub mod NativeCommands
+pub mod Moving
 pub mod ScriptCommands
 pub mod CommandsSound
 pub mod CountBound

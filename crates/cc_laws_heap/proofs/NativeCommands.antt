@@ -50,7 +50,7 @@ pub record HasSlot (h : Heap) (d i : ℕ) : Type 0 where
   pub room : i < length there.slots
 
 -- an index below the number of slots of what a native register holds is that of a slot of a native
-HasSlot-from : (h : Heap) (d i : ℕ) → IsWellFormed h → i < length (slots_at (objects_of h) (N d)) → HasSlot h d i
+pub HasSlot-from : (h : Heap) (d i : ℕ) → IsWellFormed h → i < length (slots_at (objects_of h) (N d)) → HasSlot h d i
 HasSlot-from h d i w room = go (register h (N d)) refl (native_register-there h d w) room
   where
     at : (k : ℕ) (o : Option HeapNative) → register h (N d) ≡ Some (native k) → native_at h k ≡ o →
@@ -73,7 +73,7 @@ pub put_in_slot-written : (h : Heap) (d i : ℕ) (x : Option Name) (f : HasSlot 
 put_in_slot-written h d i x f = grind arith
 
 -- a slot of a native written, whose new reference is owned
-put_in_slot-sound : (owned : List ℕ) (h : Heap) (d i : ℕ) (x : Option Name) → IsIn (names_there h) x → HasSlot h d i →
+pub put_in_slot-sound : (owned : List ℕ) (h : Heap) (d i : ℕ) (x : Option Name) → IsIn (names_there h) x → HasSlot h d i →
     IsSound (numbers_of x ++ owned) h → IsSound owned (put_in_slot h d i x).heap
 put_in_slot-sound owned h d i x there f s = subst (λ (o : Outcome). IsSound owned o.heap) (sym (put_in_slot-written h d i x f))
     (let_go-sound owned (change_native h f.number (with_native_slot i x)) (slice_index_or f.there.slots i None)

@@ -51,7 +51,7 @@ unfolding hold_native
 hold_native-scripts h d x = grind (arith, SameScripts-trans, SameScripts-take_up, put_in_register-scripts)
 
 -- A slot of a native is written.
-put_in_slot-scripts : (h : Heap) (d i : ℕ) (x : Option Name) → HasSlot h d i → SameScripts h (put_in_slot h d i x).heap
+pub put_in_slot-scripts : (h : Heap) (d i : ℕ) (x : Option Name) → HasSlot h d i → SameScripts h (put_in_slot h d i x).heap
 put_in_slot-scripts h d i x f = grind (arith, let_go-scripts, put_in_slot-written)
 
 -- And with the reference taken first.

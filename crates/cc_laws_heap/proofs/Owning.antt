@@ -37,7 +37,7 @@ abbrev raised : ℕ → HeapNative → HeapNative
 raised k n = changed_where (λ m. m.number == k) raise_native n
 
 -- a native touched stands in the buffer, once
-IsBuffer-touch : (h : Heap) (k : ℕ) → IsWellFormed h → Among (native k) (native_names h) → IsBuffer h (with_mark false k h.buffer)
+pub IsBuffer-touch : (h : Heap) (k : ℕ) → IsWellFormed h → Among (native k) (native_names h) → IsBuffer h (with_mark false k h.buffer)
 IsBuffer-touch h k w m = record {
   there = λ b i. ⊎_elim (λ e. subst (λ j. Among (native j) (native_names h)) (sym e) m) (λ t. w.buffered b t) (with_mark-cases false k h.buffer b i);
   once = places-with_mark false k h.buffer w.buffered_once;

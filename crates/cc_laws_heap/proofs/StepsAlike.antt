@@ -5,6 +5,7 @@ use Rattle.std.proofs.lemmas.Bool.{eq-eqb}
 use Rattle.cc_lists.specs.Members.{Among}
 use Rattle.cc_names.specs.declared.name.Name.{Name}
 use Rattle.cc_names.specs.declared.name.Name.TheVariants as name
+use Rattle.cc_names.specs.declared.register.Reg.{Reg}
 use Rattle.cc_names.specs.declared.register.Reg.TheVariants.{N, S}
 use Rattle.cc_names.specs.Names.{native, number_of}
 use Rattle.cc_model.specs.Slots.{Slots}
@@ -17,7 +18,7 @@ use Rattle.cc_model.specs.Heap.{Heap}
 use Rattle.cc_model.specs.Cascade.{take_up}
 use Rattle.cc_model.specs.Exposure.{exposed}
 use Rattle.cc_model.specs.Effects as effects
-use Rattle.cc_model.specs.Effects.{put_in_register, hold_native, put_in_slot, store_native, hold_script, put_in_script}
+use Rattle.cc_model.specs.Effects.{touched, taken_out, put_in_register, hold_native, put_in_slot, store_native, move_slot, hold_script, put_in_script}
 use Rattle.cc_model.specs.StandsFor.{Shape, shape_in}
 use Rattle.cc_laws_heap.proofs.Holds.{OfSome, contents-set}
 use Rattle.cc_laws_heap.proofs.EntryLists.{with_entry-cases}
@@ -28,7 +29,7 @@ use Rattle.cc_laws_heap.proofs.Changing.{Follows-left, Follows-registers, option
 use Rattle.cc_laws_heap.proofs.Writing.{changed_at, with_preserved, GraphChanges-native, SameGraphBeside-native}
 use Rattle.cc_laws_heap.proofs.SlotsWritten.{IsPreserved, Follows-slot, Follows-preserved}
 use Rattle.cc_laws_heap.proofs.EntriesWritten.{AreEntries-set, AreEntries-without, Follows-entries}
-use Rattle.cc_laws_heap.proofs.Unseen.{Leaves-take_up, Leaves-let_go, Leaves-exposed}
+use Rattle.cc_laws_heap.proofs.Unseen.{Leaves-take_up, Leaves-let_go, Leaves-exposed, Leaves-touched}
 
 -- Registers
 
@@ -83,6 +84,43 @@ Follows-store P h g d i x y e p q kept t = Follows-left P (heap.set_slot j (heap
 
     same : heap.register (take_up h x) (N d) ≡ graph.register g (N d)
     same = ap (λ (l : Slots). slice_index_or l d None) taken.beside.native_registers
+
+-- a slot written leaves registers
+register-written : (h : Heap) (x : Option Name) (j : ℕ) (v : Option Name) (r : Reg) → heap.register (heap.set_slot h x j v) r ≡ heap.register h r
+register-written h x j v r = grind arith
+
+-- slot i of what native register d holds takes what slot j of what native register s holds, which is touched, and gives it up; and what it held is given up
+pub Follows-move : (P : Name → Type 0) (h : Heap) (g : Graph) (d i s j : ℕ) (y : Option Name) → slot_at (heap.objects_of h) (N s) j ≡ y → OfSome P y →
+    OfSome P (graph.register g (N d)) → OfSome P (graph.register g (N s)) →
+    ((f : Graph) (r : ℕ) → OfSome (IsPreserved f) (graph.register g (N r))) → Follows P h g →
+    Follows P (move_slot h d i s j).heap (graph.move_slot g (graph.register g (N d)) i (graph.register g (N s)) j y)
+unfolding move_slot
+Follows-move P h g d i s j y e p q r kept t =
+    Follows-left P (heap.set_slot left (heap.register left (N d)) i x) (put_in_slot left d i x).heap (graph.move_slot g (graph.register g (N d)) i (graph.register g (N s)) j y)
+    (Leaves-let_go (heap.set_slot left (heap.register left (N d)) i x) (slot_at (heap.objects_of left) (N d) i))
+    (subst (λ v. Follows P (heap.set_slot left (heap.register left (N d)) i x) (graph.set_slot emptied (graph.register g (N d)) i v)) e
+    (subst (λ o. Follows P (heap.set_slot left o i x) (graph.set_slot emptied (graph.register g (N d)) i x)) (sym (register-written k (heap.register h (N s)) j None (N d) ∙ same d))
+    (Follows-slot P left emptied (graph.register g (N d)) i x q (subst (OfSome P) (sym e) p) (kept emptied d)
+    (subst (λ o. Follows P (heap.set_slot k o j None) emptied) (sym (sym (ap (λ (l : Slots). slice_index_or l s None) (Leaves-touched h x).beside.native_registers) ∙ same s))
+    (Follows-slot P k g (graph.register g (N s)) j None r tt (kept g s) now)))))
+  where
+    x : Option Name
+    x = slot_at (heap.objects_of h) (N s) j
+
+    k : Heap
+    k = touched h x
+
+    left : Heap
+    left = taken_out h (heap.register h (N s)) j x
+
+    emptied : Graph
+    emptied = graph.set_slot g (graph.register g (N s)) j None
+
+    now : Follows P k g
+    now = Follows-left P h k g (Leaves-touched h x) t
+
+    same : (r : ℕ) → heap.register k (N r) ≡ graph.register g (N r)
+    same r = ap (λ (l : Slots). slice_index_or l r None) now.beside.native_registers
 
 -- Reflectors preserved
 

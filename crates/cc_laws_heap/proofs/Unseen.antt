@@ -1,12 +1,14 @@
 -- WHAT THE GRAPH DOES NOT SEE: counts, the buffer, colours, and natives that a cascade takes out.
-use Rattle.std.proofs.Common.{arith, ◌≡◌, ℕ, Bool, map, Option, Some, None, refl, sym, ◌∙◌, ap, subst, if◌then◌else◌}
+use Rattle.std.proofs.Common.{arith, ◌≡◌, ℕ, Bool, false, map, Option, Some, None, refl, sym, ◌∙◌, ap, subst, if◌then◌else◌}
 use Rattle.cc_lists.specs.Members.{Among, has}
 use Rattle.cc_lists.proofs.Members.{Among-map_cases, Among-filtered}
 use Rattle.cc_names.specs.declared.name.Name.{Name}
-use Rattle.cc_names.specs.Names.{same_name}
-use Rattle.cc_model.specs.Heap.{Heap, HeapScript}
+use Rattle.cc_names.specs.declared.name.Name.TheVariants as name
+use Rattle.cc_names.specs.Names.{object, reflector, same_name}
+use Rattle.cc_model.specs.Heap.{Heap, HeapScript, touch, with_mark}
 use Rattle.cc_model.specs.Cascade.{add_ref, take_up, let_go}
 use Rattle.cc_model.specs.Exposure.{exposed, exposed_names, as_black}
+use Rattle.cc_model.specs.Effects.{touched}
 use Rattle.cc_model.specs.StandsFor.{shape_of_held_script}
 use Rattle.cc_laws_heap.specs.Freeing.{uncounted, is_none_of}
 use Rattle.cc_laws_heap.proofs.Natives.{uncounted-change}
@@ -55,3 +57,10 @@ Leaves-exposed h (Some x) = record {
 
     shapes : (o : HeapScript) (b : Bool) → shape_of_held_script (if b then as_black o else o) ≡ shape_of_held_script o
     shapes o b = grind arith
+
+-- what is taken out of a slot touched
+pub Leaves-touched : (h : Heap) (x : Option Name) → Leaves h (touched h x)
+Leaves-touched h None = Leaves-refl h
+Leaves-touched h (Some (name.Native k)) = Leaves-uncounted h (touch h k.0) (λ u i. i) (SameBeside-with h h.natives (with_mark false k.0 h.buffer))
+Leaves-touched h (Some (name.Script k)) = Leaves-exposed h (Some (object k.0))
+Leaves-touched h (Some (name.Reflector k)) = Leaves-exposed h (Some (reflector k.0))

@@ -2,7 +2,7 @@
 use Rattle.std.specs.Prelude.{IsTrue}
 use Rattle.std.proofs.Common.{ℕ, [], refl, sym, subst}
 use Rattle.cc_model.specs.declared.command.Command.{Command}
-use Rattle.cc_model.specs.declared.command.Command.TheVariants.{Nothing, Slice, Collect, Gc, Census}
+use Rattle.cc_model.specs.declared.command.Command.TheVariants.{Nothing, Version2, Slice, Collect, Gc, Census}
 use Rattle.cc_model.specs.Asks.{Ask, taken}
 use Rattle.cc_model.specs.Ranges.{in_range}
 use Rattle.cc_model.specs.View.{view}
@@ -64,6 +64,7 @@ ask-suspected m s (taken (Slice u)) r i t = slice-suspected m s r t u
 ask-suspected m s (taken Collect) r i t = collect-suspected m s r t
 ask-suspected m s (taken Gc) r i t = gc-suspected m s r t
 ask-suspected m s (taken Nothing) r i t = t
+ask-suspected m s (taken Version2) r i t = t
 ask-suspected m s (taken Census) r i t = t
 ask-suspected m s (taken c) r i t = mutate-suspected m c r.sound i t
 ask-suspected m s _ r i t = t

@@ -1,7 +1,7 @@
 -- WHAT AN ASK USES of memory's answers: a front of them, with one `no` for each that its answer tells; and where memory is at every place, none is told.
 use Rattle.std.proofs.Common.{◌≡◌, ℕ, Bool, true, false, not, List, [], ◌∷◌, ◌++◌, Option, Some, None, refl, sym, ap, subst, arith}
 use Rattle.cc_model.specs.declared.command.Command.{Command}
-use Rattle.cc_model.specs.declared.command.Command.TheVariants.{Nothing, Slice, Collect, Gc, Census}
+use Rattle.cc_model.specs.declared.command.Command.TheVariants.{Nothing, Version2, Slice, Collect, Gc, Census}
 use Rattle.cc_model.specs.declared.item.Refusal.{Refusal}
 use Rattle.cc_model.specs.declared.item.Refusal.TheVariants.{NoMemory}
 use Rattle.cc_model.specs.declared.item.Reply.{Reply}
@@ -129,6 +129,7 @@ ask-use m (taken (Slice n)) = after_units-use (λ memory. slice n (with_memory m
 ask-use m (taken Collect) = after_units-use (λ memory. collect (with_memory m memory)) m (collect m) (collect-use m)
 ask-use m (taken Gc) = after_gc-use (λ memory. gc (with_memory m memory)) m (gc m) (gc-use m)
 ask-use m (taken Nothing) = silent-use m _ refl refl
+ask-use m (taken Version2) = silent-use m _ refl refl
 ask-use m (taken Census) = silent-use m _ refl refl
 ask-use m (taken c) = mutate-use m c
 ask-use m _ = silent-use m _ refl refl

@@ -7,7 +7,7 @@ use Rattle.std.proofs.lemmas.Bool.{false≢true, and_parts}
 use Rattle.cc_lists.specs.Members.{Among}
 use Rattle.cc_names.specs.declared.name.Name.{Name}
 use Rattle.cc_model.specs.declared.command.Command.{Command}
-use Rattle.cc_model.specs.declared.command.Command.TheVariants.{Nothing, Slice, Collect, Gc, Census}
+use Rattle.cc_model.specs.declared.command.Command.TheVariants.{Nothing, Version2, Slice, Collect, Gc, Census}
 use Rattle.cc_model.specs.declared.item.Event.{Event}
 use Rattle.cc_model.specs.declared.item.Event.TheVariants.{Abandoned}
 use Rattle.cc_model.specs.Asks.{Ask, taken}
@@ -128,6 +128,7 @@ ask-follows m s (taken Collect) ds r keeps d = let t = ended m s ds r d in
     stopped s.graph r.well_made ds m (collect m).machine t (collect-spent s.graph r.well_made ds m t)
 ask-follows m s (taken Gc) ds r keeps d = gc-follows m s ds r d
 ask-follows m s (taken Nothing) ds r keeps d = (refl, d)
+ask-follows m s (taken Version2) ds r keeps d = (refl, d)
 ask-follows m s (taken Census) ds r keeps d = (refl, d)
 ask-follows m s (taken c) ds r keeps d = (refl, mutate-follows m c ds r.sound keeps d)
 ask-follows m s _ ds r keeps d = (refl, d)

@@ -15,14 +15,14 @@ use Rattle.cc_names.specs.declared.kind.Kind.TheVariants.{Plain, Reflector, Map,
 use Rattle.cc_names.specs.Names.{native, object, reflector}
 use Rattle.cc_names.specs.Sizes.{bank_length, most_slots}
 use Rattle.cc_model.specs.declared.command.Command.{Command}
-use Rattle.cc_model.specs.declared.command.Command.TheVariants.{Native, Script, WeakMap, Proxy, CopyNative, CopyScript, Drop, Set, Get, Put, Take, Wrap, Unwrap, Preserve, SetEntry, GetEntry, Expose}
+use Rattle.cc_model.specs.declared.command.Command.TheVariants.{Native, Script, WeakMap, Proxy, CopyNative, CopyScript, Drop, Set, Get, Move, Put, Take, Wrap, Unwrap, Preserve, SetEntry, GetEntry, Expose}
 use Rattle.cc_model.specs.Slots.{reflector_slots}
 use Rattle.cc_model.specs.Ranges.{in_range, is_register, is_slots}
 use Rattle.cc_model.specs.Checks.{slot_at, slots_at, value_at, native_of, reflector_of}
 use Rattle.cc_model.specs.Heap.{Heap, HeapNative, HeapScript, Outcome, silently, register, source, objects_of, has_reflector, change_native, with_native_slot, set_register, preserve}
 use Rattle.cc_model.specs.Cascade.{take_up, let_go}
 use Rattle.cc_model.specs.Exposure.{exposed}
-use Rattle.cc_model.specs.Effects.{effects, put_in_register, hold_native, store_native, put_in_slot, with_native, make_native, with_script, with_reflector, make_object, hold_script, wrapped, put_in_script, make_proxy}
+use Rattle.cc_model.specs.Effects.{effects, put_in_register, hold_native, store_native, put_in_slot, taken_out, move_slot, with_native, make_native, with_script, with_reflector, make_object, hold_script, wrapped, put_in_script, make_proxy}
 use Rattle.cc_model.specs.WellFormed.{IsWellFormed, native_names, script_names, names_there}
 use Rattle.cc_model.specs.Counts.{times}
 use Rattle.cc_model.specs.Listed.{after_events}
@@ -38,13 +38,14 @@ use Rattle.cc_laws_heap.proofs.Writes.{native_register-sound, native_slot-sound}
 use Rattle.cc_laws_heap.proofs.Making.{new_native}
 use Rattle.cc_laws_heap.proofs.MadeSound.{with_native-sound}
 use Rattle.cc_laws_heap.proofs.Holding.{IsIn-natives, IsIn-no_script, native_register-there, script_register-there, source-there, slot_at-there, native_of-there}
-use Rattle.cc_laws_heap.proofs.NativeCommands.{IsIn-take_up, HasSlot, HasSlot-take_up, put_in_slot-written, names_there-take_up, IsIn-made}
+use Rattle.cc_laws_heap.proofs.NativeCommands.{IsIn-take_up, HasSlot, HasSlot-from, HasSlot-take_up, put_in_slot-written, names_there-take_up, IsIn-made}
+use Rattle.cc_laws_heap.proofs.Moving.{taken_out-sound, taken_out-there, HasSlot-taken_out, move_slot-is}
 use Rattle.cc_laws_heap.proofs.ScriptCommands.{blank}
 use Rattle.cc_laws_heap.proofs.Emptying.{let_go-frees}
 use Rattle.cc_laws_heap.proofs.Taken.{IsTaken}
-use Rattle.cc_laws_heap.proofs.CommandsSound.{below-first, few-slots}
+use Rattle.cc_laws_heap.proofs.CommandsSound.{below-first, few-slots, moved-slots}
 use Rattle.cc_laws_run.proofs.Listing.{after_events-freed}
-use Rattle.cc_laws_run.proofs.NamesKept.{SameNames, SameNames-refl, SameNames-trans, SameNames-alike, SameNames-change_native, SameNames-preserve, SameNames-put_in_script, SameNames-set_entry, SameNames-exposed}
+use Rattle.cc_laws_run.proofs.NamesKept.{SameNames, SameNames-refl, SameNames-trans, SameNames-alike, SameNames-change_native, SameNames-preserve, SameNames-put_in_script, SameNames-set_entry, SameNames-exposed, SameNames-taken_out}
 use Rattle.cc_laws_run.proofs.FreedListed.{has-native}
 use Rattle.cc_laws_run.proofs.TouchedCommands.{scripts_made-preserve}
 
@@ -133,6 +134,17 @@ store_native-names h d i x there room s =
     let taken : IsSound (numbers_of x ++ []) (take_up h x) = take_up-sound [] h x there s in
     put_in_slot-names h (take_up h x) d i x (SameNames-alike h (take_up h x) (HoldsTheSame-take_up h x)) (names_there-take_up h x there)
     (HasSlot-take_up (numbers_of x ++ []) h d i x taken room) taken
+
+-- what a slot holds moved into another
+move_slot-names : (h : Heap) (d i s j : ℕ) → i < length (slots_at (objects_of h) (N d)) → j < length (slots_at (objects_of h) (N s)) → IsSound [] h →
+    (ks : List ℕ) × NamesAfter h (move_slot h d i s j) ks [] []
+move_slot-names h d i s j to from sound =
+    let f = HasSlot-from h s j sound.well_formed from in
+    let x : Option Name = slice_index_or f.there.slots j None in
+    let left : Heap = taken_out h (Some (native f.number)) j x in
+    subst (λ (o : Outcome). (ks : List ℕ) × NamesAfter h o ks [] []) (sym (move_slot-is h d i s j f))
+    (put_in_slot-names h left d i x (SameNames-taken_out h (Some (native f.number)) j x sound.well_formed) (taken_out-there h f.number j f.there x sound.well_formed f.found refl)
+    (HasSlot-taken_out h f.number j x d i (HasSlot-from h d i sound.well_formed to)) (taken_out-sound h f.number j x [] f.there f.found f.room refl sound))
 
 -- a native made
 make_native-names : (h : Heap) (d n : ℕ) → d < bank_length → n ≤ most_slots → h.natives_made < h.limits.natives → IsSound [] h →
@@ -237,6 +249,7 @@ effects-names h (Set d i q) s r t = store_native-names h d i (source h q) (sourc
 effects-names h (Get (N d) q i) s r t = hold_native-names h d (slot_at (objects_of h) (N q) i) (below-first d (is_register q) r)
     (IsIn-no_script h (slot_at (objects_of h) (N q) i) s.well_formed (slot_at-there h (N q) i s.well_formed) t.content) s
 effects-names h (Get (S d) q i) s r t = hold_script-names h d (slot_at (objects_of h) (N q) i) s.well_formed
+effects-names h (Move d i q j) s r t = let slots = moved-slots h d i q j t.slot in move_slot-names h d i q j slots.0 slots.1 s
 effects-names h (Put d i q) s r t = NamesAfter-same h (put_in_script h (register h (S d)) i (source h (option_map S q)))
     (SameNames-put_in_script h (register h (S d)) i (source h (option_map S q)))
 effects-names h (Take d q i) s r t = hold_script-names h d (slot_at (objects_of h) (S q) i) s.well_formed

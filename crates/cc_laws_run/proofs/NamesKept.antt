@@ -1,9 +1,11 @@
 -- WHAT LEAVES THE NAMES OF ALL OBJECTS: what changes slots, flags, counts and colours.
 use Rattle.std.proofs.Common.{arith, ◌≡◌, ℕ, Option, Some, None, refl, ◌∙◌}
 use Rattle.cc_names.specs.declared.name.Name.{Name}
+use Rattle.cc_names.specs.declared.name.Name.TheVariants as name
+use Rattle.cc_names.specs.Names.{object, reflector}
 use Rattle.cc_model.specs.Heap.{Heap, HeapNative, HeapScript, change_native, change_script, set_slot, preserve}
 use Rattle.cc_model.specs.Exposure.{exposed}
-use Rattle.cc_model.specs.Effects.{put_in_script, set_entry}
+use Rattle.cc_model.specs.Effects.{touched, taken_out, put_in_script, set_entry}
 use Rattle.cc_model.specs.WellFormed.{IsWellFormed, native_names, script_names}
 use Rattle.cc_lists.proofs.ListWrites.{map-kept}
 use Rattle.cc_laws_heap.proofs.Natives.{KeepsNumber, changed_at-number}
@@ -61,3 +63,13 @@ native_names-exposed h x = grind arith
 -- an exposure
 pub SameNames-exposed : (h : Heap) (x : Option Name) → IsWellFormed h → SameNames h (exposed h x)
 SameNames-exposed h x w = record { natives = native_names-exposed h x; scripts = script_names-exposed h x w }
+
+-- what is taken out of a slot
+pub SameNames-taken_out : (h : Heap) (from : Option Name) (j : ℕ) (x : Option Name) → IsWellFormed h → SameNames h (taken_out h from j x)
+SameNames-taken_out h from j x w = SameNames-trans h (touched h x) (taken_out h from j x) (go x) (SameNames-set_slot (touched h x) from j None)
+  where
+    go : (y : Option Name) → SameNames h (touched h y)
+    go None = SameNames-refl h
+    go (Some (name.Native k)) = record { natives = refl; scripts = refl }
+    go (Some (name.Script k)) = SameNames-exposed h (Some (object k.0)) w
+    go (Some (name.Reflector k)) = SameNames-exposed h (Some (reflector k.0)) w

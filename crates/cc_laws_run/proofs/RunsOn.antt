@@ -4,7 +4,7 @@ use Rattle.std.specs.Prelude.{IsTrue}
 use Rattle.std.proofs.lemmas.Bool.{false≢true}
 use Rattle.cc_names.specs.Allowance.{Allowance}
 use Rattle.cc_model.specs.declared.command.Command.{Command}
-use Rattle.cc_model.specs.declared.command.Command.TheVariants.{Nothing, Slice, Collect, Gc, Census}
+use Rattle.cc_model.specs.declared.command.Command.TheVariants.{Nothing, Version2, Slice, Collect, Gc, Census}
 use Rattle.cc_model.specs.Asks.{Ask, taken}
 use Rattle.cc_model.specs.Ranges.{in_range}
 use Rattle.cc_model.specs.Checks.{refusal_of, reply_if_taken}
@@ -102,16 +102,21 @@ mutate-runs m s c r i = mutate-cases m c (λ (u : Turn). IsRunning u.machine (ne
     (λ e f. subst (λ z. IsRunning (record m { memory = later_answers m.memory }) z) (sym (next-unmet s c)) (with_memory-runs m s (later_answers m.memory) r))
     (λ e memory. done-runs m s c memory r i e)
 
--- a census leaves the graph
+-- a census leaves the graph, and so does the line that asks for a version
 step-census : (g : Graph) → step g Census ≡ g
 unfolding changed
 step-census g = grind arith
+
+step-version : (g : Graph) → step g Version2 ≡ g
+unfolding changed
+step-version g = grind arith
 
 -- EACH ASK THAT MOVES NO COLLECTION LEAVES A MACHINE THAT RUNS.
 pub ask-runs : (m : Machine) (s : State) (ask : Ask) → IsRunning m s → IsTrue (ask_in_range ask) → IsTrue (moves_no_collection ask) →
     IsRunning (do_ask m ask).machine (next s ask (do_ask m ask).answer)
 unfolding do_ask
 ask-runs m s (taken Census) r i t = subst (λ g. IsRunning m (record s { graph = g })) (sym (step-census s.graph)) r
+ask-runs m s (taken Version2) r i t = subst (λ g. IsRunning m (record s { graph = g })) (sym (step-version s.graph)) r
 ask-runs m s (taken (Slice u)) r i t = absurd (false≢true t)
 ask-runs m s (taken Collect) r i t = absurd (false≢true t)
 ask-runs m s (taken Gc) r i t = absurd (false≢true t)

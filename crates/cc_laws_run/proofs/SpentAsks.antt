@@ -6,7 +6,7 @@ use Rattle.std.proofs.lemmas.Bool.{and_parts}
 use Rattle.cc_lists.specs.Members.{Among}
 use Rattle.cc_names.specs.declared.name.Name.{Name}
 use Rattle.cc_model.specs.declared.command.Command.{Command}
-use Rattle.cc_model.specs.declared.command.Command.TheVariants.{Nothing, Slice, Collect, Gc, Census}
+use Rattle.cc_model.specs.declared.command.Command.TheVariants.{Nothing, Version2, Slice, Collect, Gc, Census}
 use Rattle.cc_model.specs.Asks.{Ask, taken}
 use Rattle.cc_model.specs.Ranges.{in_range}
 use Rattle.cc_model.specs.WellFormed.{IsWellFormed, names_there}
@@ -82,6 +82,7 @@ ask-spends m s (taken Collect) ds r i keeps d =
     (collect-holds s.graph r.well_made (Spending ds) (each-spends s.graph ds) (λ h o es p e. e) m (spending-on m s ds r d)).holds
 ask-spends m s (taken Gc) ds r i keeps d = gc-spends m s ds r d
 ask-spends m s (taken Nothing) ds r i keeps d = d
+ask-spends m s (taken Version2) ds r i keeps d = d
 ask-spends m s (taken Census) ds r i keeps d = d
 ask-spends m s (taken c) ds r i keeps d = mutate-spends m c ds r.sound i keeps d
 ask-spends m s _ ds r i keeps d = d

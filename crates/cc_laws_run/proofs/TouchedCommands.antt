@@ -14,7 +14,7 @@ use Rattle.cc_names.specs.declared.kind.Kind.TheVariants.{Plain, Reflector, Map,
 use Rattle.cc_names.specs.Names.{native, object, reflector, same_name}
 use Rattle.cc_names.proofs.NameTests.{same_name-exact}
 use Rattle.cc_model.specs.declared.command.Command.{Command}
-use Rattle.cc_model.specs.declared.command.Command.TheVariants.{Native, Script, WeakMap, Proxy, CopyNative, CopyScript, Drop, Set, Get, Put, Take, Wrap, Unwrap, Preserve, SetEntry, GetEntry, Expose}
+use Rattle.cc_model.specs.declared.command.Command.TheVariants.{Native, Script, WeakMap, Proxy, CopyNative, CopyScript, Drop, Set, Get, Move, Put, Take, Wrap, Unwrap, Preserve, SetEntry, GetEntry, Expose}
 use Rattle.cc_model.specs.Slots.{reflector_slots}
 use Rattle.cc_model.specs.Entries.{Entry, is_entry_of, with_entry, without_entry, Joint, joints, entry}
 use Rattle.cc_model.specs.Checks.{slot_at, value_at, native_of, reflector_of}
@@ -22,7 +22,7 @@ use Rattle.cc_model.specs.Heap.{Heap, HeapNative, HeapScript, change_native, cha
 use Rattle.cc_model.specs.View.{view, native_edges, script_edges}
 use Rattle.cc_model.specs.Cascade.{take_up}
 use Rattle.cc_model.specs.Exposure.{slots_of_scripts, exposure_rules, exposed_names, as_black, blackened, exposed}
-use Rattle.cc_model.specs.Effects.{effects, put_in_register, hold_native, put_in_slot, store_native, with_native, make_native, hold_script, with_script, with_object, make_object, with_reflector, wrapped, set_entry, put_in_script, make_proxy}
+use Rattle.cc_model.specs.Effects.{effects, touched, taken_out, put_in_register, hold_native, put_in_slot, store_native, move_slot, with_native, make_native, hold_script, with_script, with_object, make_object, with_reflector, wrapped, set_entry, put_in_script, make_proxy}
 use Rattle.cc_model.specs.WellFormed.{IsWellFormed}
 use Rattle.cc_model.specs.Snapshot.{Snapshot}
 use Rattle.cc_model.proofs.Joints.{Gives, its_key, gives-joint, joint-cases, its_value}
@@ -169,6 +169,22 @@ module _ (ds : List Name) (g : Heap) where
   leaves-exposed h (Some x) none d = leaves-still ds g h (blackened h (exposed_names h x)) (omega arith) (omega arith) refl
       (Spares-exposed ds h x d.apart.holder (none x (inl refl))) d
 
+  -- what is taken out of a slot is touched
+  leaves-touched : (h : Heap) (x : Option Name) → IsUntouched ds x → Left h → Left (touched h x)
+  leaves-touched h None none d = d
+  leaves-touched h (Some (name.Native k)) none d = leaves-touch ds g h k.0 (none (native k.0) (inl refl)) d
+  leaves-touched h (Some (name.Script k)) none d = leaves-exposed h (Some (object k.0)) none d
+  leaves-touched h (Some (name.Reflector k)) none d = leaves-exposed h (Some (reflector k.0)) none d
+
+  -- and moved into another slot
+  leaves-move_slot : (h : Heap) (r i q j : ℕ) → Left h → Left (move_slot h r i q j).heap
+  unfolding move_slot
+  leaves-move_slot h r i q j d =
+      let none = slot_at-untouched ds h d.apart (N q) j in
+      leaves-put_in_slot (taken_out h (register h (N q)) j (slot_at (objects_of h) (N q) j)) r i (slot_at (objects_of h) (N q) j) none
+      (leaves-slot (touched h (slot_at (objects_of h) (N q) j)) (register h (N q)) j None (register-untouched ds h d.apart (N q)) (λ y m i. m)
+      (leaves-touched h (slot_at (objects_of h) (N q) j) none d))
+
   -- what comes into a script register
   leaves-hold_script : (h : Heap) (r : ℕ) (x : Option Name) → IsUntouched ds x → Left h → Left (hold_script h r x)
   leaves-hold_script h r x none d = leaves-register (exposed h x) (S r) x none (leaves-exposed h x none d)
@@ -268,6 +284,7 @@ module _ (ds : List Name) (g : Heap) where
   leaves-effects h (Set r i q) w keeps a b d = leaves-store_native h r i (source h q) (source-untouched ds h d.apart q) d
   leaves-effects h (Get (N r) q i) w keeps a b d = leaves-hold_native h r (slot_at (objects_of h) (N q) i) (slot_at-untouched ds h d.apart (N q) i) d
   leaves-effects h (Get (S r) q i) w keeps a b d = leaves-hold_script h r (slot_at (objects_of h) (N q) i) (slot_at-untouched ds h d.apart (N q) i) d
+  leaves-effects h (Move r i q j) w keeps a b d = leaves-move_slot h r i q j d
   leaves-effects h (Put r i q) w keeps a b d = leaves-put_in_script h (register h (S r)) i (source h (option_map S q))
       (register-untouched ds h d.apart (S r)) (native_of-untouched ds h d.apart r w) (script_source-untouched ds h d.apart q) d
   leaves-effects h (Take r q i) w keeps a b d = leaves-hold_script h r (slot_at (objects_of h) (S q) i) (slot_at-untouched ds h d.apart (S q) i) d

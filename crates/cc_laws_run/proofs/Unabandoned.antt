@@ -14,7 +14,7 @@ use Rattle.cc_model.specs.Heap.{Heap, Outcome, silently, after, native_at, regis
 use Rattle.cc_model.specs.Cascade.{cascade, take_up, let_go}
 use Rattle.cc_model.specs.Colours.{marked}
 use Rattle.cc_model.specs.Sweep.{unmarked, without_dead_entries, without_script, let_native_go, sweep_one, sweep_each, sweep, collect_scripts}
-use Rattle.cc_model.specs.Effects.{effects, hold_native, store_native, make_native, with_native}
+use Rattle.cc_model.specs.Effects.{effects, hold_native, store_native, move_slot, make_native, with_native}
 use Rattle.cc_model.specs.End.{root_each, empty_slot, empty_each, slots_now, unlink, unlink_each, unroot_each, take_away}
 use Rattle.cc_model.specs.Lawful.{is_abandonment}
 use Rattle.cc_laws_heap.proofs.Freed.{freed_event}
@@ -125,6 +125,11 @@ store_native-none : (h : Heap) (d i : ℕ) (x : Option Name) → TellsNone (stor
 unfolding store_native
 store_native-none h d i x = let_go-none (set_slot (take_up h x) (register (take_up h x) (N d)) i x) (slot_at (objects_of (take_up h x)) (N d) i)
 
+-- nor what a slot holds moved into another
+move_slot-none : (h : Heap) (d i s j : ℕ) → TellsNone (move_slot h d i s j).events
+unfolding move_slot
+move_slot-none h d i s j = grind (arith, let_go-none)
+
 -- nor does a native made
 make_native-none : (h : Heap) (d n : ℕ) → TellsNone (make_native h d n).events
 unfolding make_native
@@ -133,4 +138,4 @@ make_native-none h d n = let_go-none (set_register (with_native h n) (N d) (Some
 -- A command tells none.
 pub effects-none : (h : Heap) (c : Command) → TellsNone (effects h c).events
 unfolding effects
-effects-none h c = grind (arith, make_native-none, hold_native-none, let_go-none, store_native-none)
+effects-none h c = grind (arith, make_native-none, hold_native-none, let_go-none, store_native-none, move_slot-none)

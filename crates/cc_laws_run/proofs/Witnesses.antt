@@ -8,7 +8,6 @@ use Rattle.cc_lists.specs.Least.{system}
 use Rattle.cc_names.specs.Allowance.{Allowance}
 use Rattle.cc_names.specs.Names.{native, object, reflector, same_name}
 use Rattle.cc_names.proofs.NameTests.{same_name-exact}
-use Rattle.cc_model.specs.Forms.{version_one_forms}
 use Rattle.cc_model.specs.Asks.{asks_of}
 use Rattle.cc_model.specs.View.{View, ReachedIn, view, view_rules}
 use Rattle.cc_model.specs.Snapshot.{Snapshot, untraversed, traversed, IsWhite}
@@ -39,12 +38,12 @@ left_by-left : (input : List ℕ) → IsLeftByAScript (left_by input)
 left_by-left input = (enough, [], input, refl)
 
 -- It runs.
-left_by-runs : (input : List ℕ) → IsRunning (left_by input) (state_after (start enough) (asks_of version_one_forms input) (plain_run enough [] (asks_of version_one_forms input)))
-left_by-runs input = run-runs enough [] (asks_of version_one_forms input) (asks_of-range input)
+left_by-runs : (input : List ℕ) → IsRunning (left_by input) (state_after (start enough) (asks_of input) (plain_run enough [] (asks_of input)))
+left_by-runs input = run-runs enough [] (asks_of input) (asks_of-range input)
 
 -- No unreached native is forgotten in it.
 left_by-suspected : (input : List ℕ) → IsSuspectedNow (left_by input)
-left_by-suspected input = run-suspected enough [] (asks_of version_one_forms input) (asks_of-range input)
+left_by-suspected input = run-suspected enough [] (asks_of input) (asks_of-range input)
 
 -- A white native
 

@@ -4,7 +4,6 @@ ghost use Rattle.std.specs.Prelude.{ℕ, Bool, IsTrue, List};
 ghost use Rattle.std.specs.List.{list_all};
 ghost use Rattle.cc_names.specs.Allowance.{Allowance};
 ghost use Rattle.cc_model.specs.Asks.{Ask, asks_of};
-ghost use Rattle.cc_model.specs.Forms.{version_one_forms};
 ghost use Rattle.cc_model.specs.Lawful.{IsLawful, State};
 ghost use Rattle.cc_model.specs.Quiet.{IsQuiet};
 ghost use Rattle.cc_model.specs.Collecting.{Machine};
@@ -26,5 +25,5 @@ pub fn plain_run_is_lawful()
         IsLawful limits asks (plain_run limits memory asks) }
     ensures quiet { (limits : Allowance) (memory : List Bool) (asks : List Ask) → IsTrue (list_all ask_in_range asks) →
         IsQuiet limits asks (plain_run limits memory asks) }
-    ensures in_range { (bytes : List ℕ) → IsTrue (list_all ask_in_range (asks_of version_one_forms bytes)) }
+    ensures in_range { (bytes : List ℕ) → IsTrue (list_all ask_in_range (asks_of bytes)) }
 {}

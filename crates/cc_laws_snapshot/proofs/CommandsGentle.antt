@@ -7,7 +7,7 @@ use Rattle.cc_names.specs.declared.register.Reg.TheVariants.{N, S}
 use Rattle.cc_names.specs.declared.kind.Kind.TheVariants.{Plain, Map}
 use Rattle.cc_names.specs.Sizes.{bank_length}
 use Rattle.cc_model.specs.declared.command.Command.{Command}
-use Rattle.cc_model.specs.declared.command.Command.TheVariants.{Native, Script, WeakMap, Proxy, CopyNative, CopyScript, Drop, Set, Get, Put, Take, Wrap, Unwrap, Preserve, SetEntry, GetEntry, Expose}
+use Rattle.cc_model.specs.declared.command.Command.TheVariants.{Native, Script, WeakMap, Proxy, CopyNative, CopyScript, Drop, Set, Get, Move, Put, Take, Wrap, Unwrap, Preserve, SetEntry, GetEntry, Expose}
 use Rattle.cc_model.specs.Ranges.{in_range, is_register, is_slots}
 use Rattle.cc_model.specs.Checks.{slot_at, slots_at, value_at, native_of}
 use Rattle.cc_model.specs.Heap.{Heap, register, source, objects_of}
@@ -20,7 +20,7 @@ use Rattle.cc_laws_heap.specs.Sound.{IsSound}
 use Rattle.cc_laws_heap.proofs.Writes.{contents-at}
 use Rattle.cc_laws_heap.proofs.Holding.{IsIn-no_script, native_register-there, script_register-there, source-there, script_source-there, slot_at-there, native_of-there}
 use Rattle.cc_laws_heap.proofs.Taken.{IsTaken}
-use Rattle.cc_laws_heap.proofs.CommandsSound.{below-first, few-slots, effects-sound}
+use Rattle.cc_laws_heap.proofs.CommandsSound.{below-first, few-slots, moved-slots, effects-sound}
 use Rattle.cc_laws_heap.proofs.Coloured.{IsColoured, AreColoured-from_view, HasColourInvariant-from}
 use Rattle.cc_laws_heap.proofs.ColourChanges.{IsHeldBlack}
 use Rattle.cc_laws_heap.proofs.CommandsColours.{effects-coloured}
@@ -32,6 +32,7 @@ use Rattle.cc_laws_snapshot.proofs.GentleBut.{AreGentle, AreGentle-refl, IsGentl
 use Rattle.cc_laws_snapshot.proofs.NativeParts.{IsNotGray, register-gentle, preserve-gentle}
 use Rattle.cc_laws_snapshot.proofs.ScriptParts.{not_gray-held, exposed-gentle, hold_script-gentle, put_in_script-gentle, make_object-gentle, make_proxy-gentle, wrapped-gentle, set_entry-gentle}
 use Rattle.cc_laws_snapshot.proofs.NativesHeld.{put_in_register-gentle, hold_native-gentle, store_native-gentle, make_native-gentle}
+use Rattle.cc_laws_snapshot.proofs.MovesGentle.{move_slot-gentle}
 
 -- What registers hold is not gray
 
@@ -72,6 +73,7 @@ effects-gentle {owned} h (Set d i q) s c r t = store_native-gentle owned h d i (
 effects-gentle {owned} h (Get (N d) q i) s c r t = hold_native-gentle owned h d (slot_at (objects_of h) (N q) i) (below-first d (is_register q) r)
     (IsIn-no_script h (slot_at (objects_of h) (N q) i) s.well_formed (slot_at-there h (N q) i s.well_formed) t.content) s
 effects-gentle {owned} h (Get (S d) q i) s c r t = hold_script-gentle h d (slot_at (objects_of h) (N q) i) s.well_formed
+effects-gentle {owned} h (Move d i q j) s c r t = let slots = moved-slots h d i q j t.slot in move_slot-gentle owned h d i q j slots.0 slots.1 s
 effects-gentle {owned} h (Put d i q) s c r t = put_in_script-gentle owned h (register h (S d)) i (source h (option_map S q)) (script_register-there h d s.well_formed)
     (script_source-there h q s.well_formed) (script_register-pale h d c) (script_source-pale h q c) s
 effects-gentle {owned} h (Take d q i) s c r t = hold_script-gentle h d (slot_at (objects_of h) (S q) i) s.well_formed

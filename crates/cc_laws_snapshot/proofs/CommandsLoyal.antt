@@ -10,7 +10,7 @@ use Rattle.cc_names.specs.declared.kind.Kind.TheVariants.{Plain, Map}
 use Rattle.cc_names.specs.Names.{native}
 use Rattle.cc_names.specs.Sizes.{bank_length, most_slots}
 use Rattle.cc_model.specs.declared.command.Command.{Command}
-use Rattle.cc_model.specs.declared.command.Command.TheVariants.{Native, Script, WeakMap, Proxy, CopyNative, CopyScript, Drop, Set, Get, Put, Take, Wrap, Unwrap, Preserve, SetEntry, GetEntry, Expose}
+use Rattle.cc_model.specs.declared.command.Command.TheVariants.{Native, Script, WeakMap, Proxy, CopyNative, CopyScript, Drop, Set, Get, Move, Put, Take, Wrap, Unwrap, Preserve, SetEntry, GetEntry, Expose}
 use Rattle.cc_model.specs.Slots.{contents}
 use Rattle.cc_model.specs.Ranges.{in_range, is_register, is_slots}
 use Rattle.cc_model.specs.Checks.{slot_at, slots_at, value_at, native_of, reflector_of}
@@ -28,7 +28,7 @@ use Rattle.cc_laws_heap.proofs.Writes.{contents-at, native_register-sound, nativ
 use Rattle.cc_laws_heap.proofs.MadeSound.{with_native-sound}
 use Rattle.cc_laws_heap.proofs.Holding.{IsIn-natives, IsIn-no_script, native_register-there, script_register-there, source-there, slot_at-there, native_of-there}
 use Rattle.cc_laws_heap.proofs.NativeCommands.{IsIn-take_up, IsIn-made, HasSlot, HasSlot-take_up, put_in_slot-written, names_there-take_up}
-use Rattle.cc_laws_heap.proofs.CommandsSound.{below-first, few-slots}
+use Rattle.cc_laws_heap.proofs.CommandsSound.{below-first, few-slots, moved-slots}
 use Rattle.cc_laws_heap.proofs.Taken.{IsTaken}
 use Rattle.cc_laws_heap.proofs.ScriptsKept.{native-no_script}
 use Rattle.cc_laws_snapshot.specs.Losing.{IsLoyal}
@@ -36,6 +36,7 @@ use Rattle.cc_laws_snapshot.proofs.ReachedStays.{written-reached}
 use Rattle.cc_laws_snapshot.proofs.Handing.{register-reached, handed-loyal}
 use Rattle.cc_laws_snapshot.proofs.Handed.{TakesUp-take_up, TakesUp-with_native, made-living, Hands-register, Hands-slot, Still, Hands-still}
 use Rattle.cc_laws_snapshot.proofs.StillNatives.{Still-refl, Still-script_register, Still-exposed, Still-hold_script, Still-preserve, Still-set_entry, Still-put_in_script, Still-make_object, Still-make_proxy, Hands-wrapped}
+use Rattle.cc_laws_snapshot.proofs.MovesLoyal.{move_slot-loyal}
 
 -- a native comes into a native register
 pub hold_native-loyal : {owned : List ℕ} (h : Heap) (d : ℕ) (x : Option Name) → d < bank_length → IsIn (native_names h) x → IsSound owned h → IsLoyal (view h) (view (hold_native h d x).heap)
@@ -113,6 +114,7 @@ effects-loyal {owned} h (Get (N d) q i) s r t u = hold_native-loyal h d (slot_at
     (IsIn-no_script h (slot_at (objects_of h) (N q) i) s.well_formed (slot_at-there h (N q) i s.well_formed) t.content) s
 effects-loyal {owned} h (Get (S d) q i) s r t u = still-loyal h (hold_script h d (slot_at (objects_of h) (N q) i)) s u
     (Still-hold_script h d (slot_at (objects_of h) (N q) i))
+effects-loyal {owned} h (Move d i q j) s r t u = let slots = moved-slots h d i q j t.slot in move_slot-loyal h d i q j slots.0 slots.1 s
 effects-loyal {owned} h (Put d i q) s r t u = still-loyal h (put_in_script h (register h (S d)) i (source h (option_map S q))) s u
     (Still-put_in_script h (register h (S d)) i (source h (option_map S q))
     (λ k m. native-no_script h k s.well_formed (script_register-there h d s.well_formed (native k) m)))

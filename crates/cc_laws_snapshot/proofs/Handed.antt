@@ -13,7 +13,7 @@ use Rattle.cc_names.specs.declared.register.Reg.TheVariants.{N}
 use Rattle.cc_names.specs.Names.{native, reflector}
 use Rattle.cc_model.specs.Slots.{contents}
 use Rattle.cc_model.specs.Entries.{rules_of}
-use Rattle.cc_model.specs.Heap.{Heap, HeapNative, native_at, register, set_register, change_native, with_native_slot, with_mark}
+use Rattle.cc_model.specs.Heap.{Heap, HeapNative, native_at, register, set_register, change_native, with_native_slot, with_mark, touch}
 use Rattle.cc_model.specs.View.{view, buffered, ReachedIn}
 use Rattle.cc_model.specs.Cascade.{add_ref, take_up}
 use Rattle.cc_model.specs.Effects.{with_native}
@@ -30,9 +30,10 @@ use Rattle.cc_laws_snapshot.proofs.Handing.{register-reached, Hands, edge-from_s
 
 -- A reference taken, or a native made
 
--- the same natives but for counts, and maybe one more; x alone may have lost its mark, or entered the buffer
+-- natives hold what they held, maybe but for x, and maybe there is one more; x alone may have lost its mark, or entered the buffer
 pub record TakesUp (h g : Heap) (x : Option Name) : Type 0 where
-  pub natives : (n : HeapNative) → Among n h.natives → (m : HeapNative) × Among m g.natives × (uncounted m ≡ uncounted n)
+  pub slots : (n : HeapNative) (i : ℕ) → Among n h.natives → Among (native i) (contents n.slots) →
+      ((m : HeapNative) × Among m g.natives × (m.number ≡ n.number) × Among (native i) (contents m.slots)) ⊎ Among (native i) (option_to_list x)
   pub reflectors : (i : ℕ) → Among (reflector i) (script_names h) → Among (reflector i) (script_names g)
   pub registers : g.native_registers ≡ h.native_registers
   pub purple : (i : ℕ) → IsPurple h i → IsPurple g i ⊎ Among (native i) (option_to_list x)
@@ -41,7 +42,7 @@ pub record TakesUp (h g : Heap) (x : Option Name) : Type 0 where
 -- nothing taken
 pub TakesUp-nothing : (h : Heap) (x : Option Name) → TakesUp h h x
 TakesUp-nothing h x = record {
-  natives = λ n m. (n, m, refl);
+  slots = λ n i m c. inl (n, m, refl, c);
   reflectors = λ i m. m;
   registers = refl;
   purple = λ i p. inl p;
@@ -57,11 +58,23 @@ touched-buffer : (h : Heap) (k i : ℕ) → Among (native i) (view (record h { b
     Among (native i) (view h).buffer ⊎ Among (native i) (native k ∷ [])
 touched-buffer h k i m = ⊎_elim (λ e. inr (inl e)) (λ o. inl o) (marked-buffer h false k (native i) m)
 
+-- a native touched
+pub TakesUp-touch : (h : Heap) (k : ℕ) → TakesUp h (touch h k) (Some (native k))
+TakesUp-touch h k = record {
+  slots = λ n i m c. inl (n, m, refl, c);
+  reflectors = λ i m. m;
+  registers = refl;
+  purple = touched-purple h k;
+  buffer = touched-buffer h k;
+}
+
 -- one reference more
 pub TakesUp-add_ref : (h : Heap) (k : ℕ) → TakesUp h (add_ref h k) (Some (native k))
 TakesUp-add_ref h k = record {
-  natives = λ n m. Among-map_cases uncounted (add_ref h k).natives (uncounted n)
-      (subst (λ us. Among (uncounted n) us) (sym (HoldsTheSame-add_ref h k).natives) (Among-map uncounted n h.natives m));
+  slots = λ n i m c.
+      let f = Among-map_cases uncounted (add_ref h k).natives (uncounted n)
+      (subst (λ us. Among (uncounted n) us) (sym (HoldsTheSame-add_ref h k).natives) (Among-map uncounted n h.natives m)) in
+      inl (f.0, f.1, ap (λ (u : Uncounted). u.number) f.2, subst (λ s. Among (native i) (contents s)) (sym (ap (λ (u : Uncounted). u.slots) f.2)) c);
   reflectors = λ i m. m;
   registers = refl;
   purple = touched-purple h k;
@@ -76,7 +89,7 @@ TakesUp-take_up h x = TakesUp-nothing h x
 -- a native made
 pub TakesUp-with_native : (h : Heap) (n : ℕ) → TakesUp h (with_native h n) (Some (native (h.natives_made + 1)))
 TakesUp-with_native h n = record {
-  natives = λ m i. (m, Among-left m h.natives (new_native h n ∷ []) i, refl);
+  slots = λ m j i c. inl (m, Among-left m h.natives (new_native h n ∷ []) i, refl, c);
   reflectors = λ i m. m;
   registers = refl;
   purple = touched-purple h (h.natives_made + 1);
@@ -96,10 +109,7 @@ pub Hands-register : (h g : Heap) (d : ℕ) (x : Option Name) → d < length g.n
     ((i : ℕ) → Among (native i) (native_names g) → Among (native i) (native_names h) ⊎ Among (native i) (option_to_list x)) →
     Hands (numbers_of (register g (N d))) h (set_register g (N d) x)
 Hands-register h g d x room t living = record {
-  slots = λ n i m c.
-      let k = t.natives n m in
-      let slots : k.0.slots ≡ n.slots = ap (λ (u : Uncounted). u.slots) k.2 in
-      inl (k.0, k.1, ap (λ (u : Uncounted). u.number) k.2, subst (λ s. Among (native i) (contents s)) (sym slots) c);
+  slots = λ n i m c. ⊎_elim (λ k. inl k) (λ o. inr (inr (held i o))) (t.slots n i m c);
   reflectors = t.reflectors;
   registers = λ i m. ⊎_elim (λ a. inl a) (λ a. inr (numbers_of-there (register g (N d)) i a))
       (contents-written_kept g.native_registers d x (native i) (subst (λ s. Among (native i) (contents s)) (sym t.registers) m));
@@ -120,12 +130,13 @@ pub Hands-slot : (h g : Heap) (number i : ℕ) (holder : HeapNative) (x : Option
     Hands (numbers_of (get_or holder.slots i None)) h (change_native g number (with_native_slot i x))
 Hands-slot h g number i holder x distinct t found room reached living = record {
   slots = λ n j m c.
-      let k = t.natives n m in
-      let inside : Among (native j) (contents k.0.slots) = subst (λ s. Among (native j) (contents s)) (sym (ap (λ (u : Uncounted). u.slots) k.2)) c in
       ⊎_elim
-      (λ s. inl (s.0, s.1, s.2 ∙ ap (λ (u : Uncounted). u.number) k.2, s.3))
-      (λ o. inr (numbers_of-there (get_or holder.slots i None) j o))
-      (slot_written-kept g number i holder x distinct found k.0 (native j) k.1 inside);
+      (λ k. ⊎_elim
+      (λ s. inl (s.0, s.1, s.2 ∙ k.2, s.3))
+      (λ o. inr (inl (numbers_of-there (get_or holder.slots i None) j o)))
+      (slot_written-kept g number i holder x distinct found k.0 (native j) k.1 k.3))
+      (λ o. inr (inr (held j o)))
+      (t.slots n j m c);
   reflectors = t.reflectors;
   registers = λ j m. inl (subst (λ s. Among (native j) (contents s)) (sym t.registers) m);
   purple = λ j p. ⊎_elim (λ q. inl q) (λ m. inr (held j m)) (t.purple j p);

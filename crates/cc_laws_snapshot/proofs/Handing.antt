@@ -59,10 +59,10 @@ edge-from_reflector h i m =
 pub register-reached : (h : Heap) (x : Name) → Among x (contents h.native_registers) → ReachedIn (view h) x
 register-reached h x m = derive-root (view h).registers (view h).edges (rules_of (joints h.entries)) x (Among-left x (contents h.native_registers) (contents h.script_registers) m)
 
--- only the natives `owned` lose references; who loses his mark, enters the buffer or is made is reached
+-- only the natives `owned` and those that are reached lose references; who loses his mark, enters the buffer or is made is reached
 pub record Hands (owned : List ℕ) (h g : Heap) : Type 0 where
   pub slots : (n : HeapNative) (i : ℕ) → Among n h.natives → Among (native i) (contents n.slots) →
-      ((m : HeapNative) × Among m g.natives × (m.number ≡ n.number) × Among (native i) (contents m.slots)) ⊎ Among i owned
+      ((m : HeapNative) × Among m g.natives × (m.number ≡ n.number) × Among (native i) (contents m.slots)) ⊎ (Among i owned ⊎ ReachedIn (view g) (native i))
   pub reflectors : (i : ℕ) → Among (reflector i) (script_names h) → Among (reflector i) (script_names g)
   pub registers : (i : ℕ) → Among (native i) (contents h.native_registers) → Among (native i) (contents g.native_registers) ⊎ Among i owned
   pub purple : (i : ℕ) → IsPurple h i → IsPurple g i ⊎ ReachedIn (view g) (native i)
@@ -97,14 +97,17 @@ let_go-loses owned x g s = LetsGo-nothing x g (λ i m. m)
 
 module _ (y : Option Name) (h g f : Heap) (before : IsWellFormed h) (c : Hands (numbers_of y) h g) (l : LetsGo y g f) where
   -- an edge to a native
-  edge-kept : (x : Name) (i : ℕ) → Among (x, native i) (view h).edges → Among (x, native i) (view f).edges ⊎ PurpleOrGone (view f) i
+  edge-kept : (x : Name) (i : ℕ) → Among (x, native i) (view h).edges → Among (x, native i) (view f).edges ⊎ (PurpleOrGone (view f) i ⊎ ReachedIn (view f) (native i))
   edge-kept x i m = ⊎_elim
       (λ a. ⊎_elim
-      (λ b. l.loses.edge x i (subst (λ z. Among (z, native i) (view g).edges) (ap native b.2 ∙ a.2) (edge-from_slot g b.0 (native i) b.1 b.3)))
-      (λ o. inr (l.given i o))
+      (λ b. stays (subst (λ z. Among (z, native i) (view g).edges) (ap native b.2 ∙ a.2) (edge-from_slot g b.0 (native i) b.1 b.3)))
+      (λ b. inr (⊎_elim (λ o. inl (l.given i o)) (λ r. inr (l.reached (native i) r)) b))
       (c.slots a.0 i a.1 a.3))
-      (λ a. l.loses.edge x i (subst (λ z. Among (z, native i) (view g).edges) a.0 (edge-from_reflector g i (c.reflectors i a.1))))
+      (λ a. stays (subst (λ z. Among (z, native i) (view g).edges) a.0 (edge-from_reflector g i (c.reflectors i a.1))))
       (edge-to h x i before m)
+    where
+      stays : Among (x, native i) (view g).edges → Among (x, native i) (view f).edges ⊎ (PurpleOrGone (view f) i ⊎ ReachedIn (view f) (native i))
+      stays e = ⊎_elim (λ k. inl k) (λ p. inr (inl p)) (l.loses.edge x i e)
 
   -- a native in a register
   register-kept : (i : ℕ) → Among (native i) (view h).registers → Among (native i) (view f).registers ⊎ PurpleOrGone (view f) i
@@ -139,7 +142,7 @@ module _ (y : Option Name) (h g f : Heap) (before : IsWellFormed h) (c : Hands (
   -- BOTH TOGETHER ARE LOYAL.
   both-loyal : IsLoyal (view h) (view f)
   both-loyal = record {
-    edge = λ x i m. ⊎_elim (λ e. inl e) (λ p. inr (inl p)) (edge-kept x i m);
+    edge = edge-kept;
     register = λ i m. ⊎_elim (λ e. inl e) (λ p. inr (inl p)) (register-kept i m);
     purple = λ i m. ⊎_elim (λ p. inl (l.loses.purple i p)) (λ r. inr (l.reached (native i) r)) (c.purple i m);
     buffer = buffer-kept;

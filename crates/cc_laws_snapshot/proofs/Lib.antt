@@ -20,6 +20,7 @@ pub mod CascadesGentle
 pub mod ScriptsChange
 pub mod ScriptParts
 pub mod NativesHeld
+pub mod MovesGentle
 pub mod CommandsGentle
 pub mod KindsFresh
 pub mod KindsMade
@@ -36,6 +37,7 @@ pub mod SlotsWritten
 pub mod Handing
 pub mod Handed
 pub mod StillNatives
+pub mod MovesLoyal
 pub mod CommandsLoyal
 pub mod CommandsSuspected
 pub mod GivingBack

@@ -41,7 +41,7 @@ hold_native-gentle owned h d x room there s = AreGentle-then h (take_up h x) (pu
 -- Slots of natives
 
 -- a slot of a native written, its new reference owned, and the old one given up
-put_in_slot-gentle : (owned : List ℕ) (h : Heap) (d i : ℕ) (x : Option Name) → IsIn (names_there h) x → HasSlot h d i → AreTaken h x → IsNotGray h x →
+pub put_in_slot-gentle : (owned : List ℕ) (h : Heap) (d i : ℕ) (x : Option Name) → IsIn (names_there h) x → HasSlot h d i → AreTaken h x → IsNotGray h x →
     IsSound (numbers_of x ++ owned) h → AreGentle h (put_in_slot h d i x).heap
 put_in_slot-gentle owned h d i x there f taken pale s = subst (λ (o : Outcome). AreGentle h o.heap) (sym (put_in_slot-written h d i x f))
     (IsGentleBut-then (option_to_list old) h.natives_made h.natives_made (let_go written old).heap.natives_made (view h) (view written) (view (let_go written old).heap)

@@ -219,6 +219,10 @@ module _ (k : ℕ) (h g : Heap) (t : KeepsBut k h g) where
   but-reached : ReachedIn (view h) (native k) → ReachedIn (view g) (native k)
   but-reached r = ⊎_elim (λ a. a) (λ a. a) (either (native k) r)
 
--- A NATIVE THAT IS REACHED STAYS SO where one of its slots is written.
+-- A NATIVE THAT IS REACHED STAYS SO where one of its slots is written,
+pub slot_written-reached : (g : Heap) (k i : ℕ) (x : Option Name) → ReachedIn (view g) (native k) → ReachedIn (view (change_native g k (with_native_slot i x))) (native k)
+slot_written-reached g k i x = but-reached k g (change_native g k (with_native_slot i x)) (slot-keeps_but g k i x)
+
+-- with a reference taken before, too.
 pub written-reached : (h : Heap) (k i : ℕ) (x : Option Name) → ReachedIn (view h) (native k) → ReachedIn (view (change_native (take_up h x) k (with_native_slot i x))) (native k)
 written-reached h k i x = but-reached k h (change_native (take_up h x) k (with_native_slot i x)) (taken-keeps_but h k i x)

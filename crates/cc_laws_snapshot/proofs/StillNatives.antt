@@ -149,11 +149,10 @@ Still-make_proxy h d (Some x) = Still-trans h (preserve h (Some x)) (make_proxy 
 pub Hands-taken : (h i g : Heap) (x : Option Name) → TakesUp h i x → native_names i ≡ native_names h → Still i g →
     ((j : ℕ) → Among (native j) (option_to_list x) → ReachedIn (view g) (native j)) → Hands [] h g
 Hands-taken h i g x t names s held = record {
-  slots = λ n j m c.
-      let k = t.natives n m in
-      let slots : k.0.slots ≡ n.slots = ap (λ (u : Uncounted). u.slots) k.2 in
-      let l = s.natives k.0 k.1 in
-      inl (l.0, l.1, l.2 ∙ ap (λ (u : Uncounted). u.number) k.2, subst (λ s. Among (native j) (contents s)) (sym (l.3 ∙ slots)) c);
+  slots = λ n j m c. ⊎_elim
+      (λ k. let l = s.natives k.0 k.1 in inl (l.0, l.1, l.2 ∙ k.2, subst (λ s. Among (native j) (contents s)) (sym l.3) k.3))
+      (λ o. inr (inr (held j o)))
+      (t.slots n j m c);
   reflectors = λ j m. s.reflectors j (t.reflectors j m);
   registers = λ j m. inl (subst (λ s. Among (native j) (contents s)) (sym (s.registers ∙ t.registers)) m);
   purple = λ j p. ⊎_elim (λ q. inl (subst (λ bs. Among (native j) (map buffered (filter (λ b. b.purple) bs))) (sym s.buffer) q)) (λ m. inr (held j m)) (t.purple j p);
