@@ -7,14 +7,13 @@ use Rattle.cc_names.specs.declared.name.Name.{Name}
 use Rattle.cc_names.specs.declared.name.Name.TheVariants as name
 use Rattle.cc_names.specs.declared.register.Reg.TheVariants.{N}
 use Rattle.cc_names.specs.Names.{native, object, reflector}
-use Rattle.cc_model.specs.Slots.{Slots, contents}
-use Rattle.cc_model.specs.Checks.{slot_at, slots_at, slots_or_none}
-use Rattle.cc_model.specs.Heap.{Heap, HeapNative, Outcome, native_at, register, objects_of, change_native, with_native_slot, with_mark}
+use Rattle.cc_model.specs.Slots.{Slots}
+use Rattle.cc_model.specs.Checks.{slots_at}
+use Rattle.cc_model.specs.Heap.{Heap, HeapNative, Outcome, native_at, objects_of, with_mark}
 use Rattle.cc_model.specs.Exposure.{exposed}
-use Rattle.cc_model.specs.Cascade.{let_go}
 use Rattle.cc_model.specs.End.{slots_now}
 use Rattle.cc_model.specs.Effects.{touched, taken_out, put_in_slot, move_slot}
-use Rattle.cc_model.specs.WellFormed.{IsWellFormed, native_names, script_names, names_there}
+use Rattle.cc_model.specs.WellFormed.{IsWellFormed, names_there}
 use Rattle.cc_laws_heap.specs.Sound.{IsSound, numbers_of}
 use Rattle.cc_laws_heap.proofs.Natives.{native_at-there, native_at-change_same, native_at-change_other, native_names-change}
 use Rattle.cc_laws_heap.proofs.References.{native-there}
@@ -22,7 +21,7 @@ use Rattle.cc_laws_heap.proofs.Kept.{IsWellFormed-buffer}
 use Rattle.cc_laws_heap.proofs.Owning.{IsIn, IsBuffer-touch}
 use Rattle.cc_laws_heap.proofs.Writes.{contents-at, native_slot-sound}
 use Rattle.cc_laws_heap.proofs.ScriptsKept.{exposed-sound, script_names-exposed}
-use Rattle.cc_laws_heap.proofs.NativeCommands.{HasSlot, HasSlot-from, put_in_slot-written, put_in_slot-sound}
+use Rattle.cc_laws_heap.proofs.NativeCommands.{HasSlot, HasSlot-from, put_in_slot-sound}
 
 -- What is touched
 

@@ -9,7 +9,7 @@ use Rattle.cc_names.specs.declared.name.Name.TheVariants as name
 use Rattle.cc_names.specs.declared.register.Reg.TheVariants.{N, S}
 use Rattle.cc_names.specs.Names.{native, same_name, number_of}
 use Rattle.cc_model.specs.declared.command.Command.{Command}
-use Rattle.cc_model.specs.declared.command.Command.TheVariants.{Native, Script, WeakMap, Proxy, SetEntry, Wrap, Slice, Collect}
+use Rattle.cc_model.specs.declared.command.Command.TheVariants.{Version2, Native, Script, WeakMap, Proxy, SetEntry, Wrap, Slice, Collect}
 use Rattle.cc_model.specs.declared.item.Event.{Event}
 use Rattle.cc_model.specs.declared.item.Refusal.{Refusal}
 use Rattle.cc_model.specs.declared.item.Refusal.TheVariants.{NoMemory}
@@ -164,8 +164,14 @@ mutate-answers m s c r i t = mutate-cases m c (λ (u : Turn). (u.answer.listed �
     (λ e f. (refl, unmet-answers m s c r e f t))
     (λ e memory. (refl, done-answers m s c r i e t))
 
+-- the line that asks for a version is answered as if it were the mutator's
+version-answered : (m : Machine) → mutate m Version2 ≡ do_ask m (taken Version2)
+unfolding mutate do_ask refusal_of effects reply_if_taken
+version-answered m = refl
+
 -- EACH ASK THAT MOVES NO COLLECTION IS ANSWERED LAWFULLY.
 pub ask-answers : (m : Machine) (s : State) (ask : Ask) → IsRunning m s → IsTrue (ask_in_range ask) → IsTrue (moves_no_collection ask) →
     AnswersAsk s ask (do_ask m ask).answer
 unfolding do_ask
+ask-answers m s (taken Version2) r i t = subst (λ (u : Turn). (u.answer.listed ≡ []) × ReplyAnswers s Version2 u.answer u.answer.reply) (version-answered m) (mutate-answers m s Version2 r i t)
 ask-answers m s ask r i t = grind (arith, length-census_order, mutate-answers)

@@ -12,7 +12,7 @@ use Rattle.cc_model.specs.Checks.{slots_at}
 use Rattle.cc_model.specs.Heap.{Heap, HeapNative, Outcome, native_at, objects_of, change_native, with_native_slot}
 use Rattle.cc_model.specs.View.{view, buffered, ReachedIn}
 use Rattle.cc_model.specs.Cascade.{let_go}
-use Rattle.cc_model.specs.Effects.{touched, taken_out, put_in_slot, move_slot}
+use Rattle.cc_model.specs.Effects.{touched, taken_out, move_slot}
 use Rattle.cc_model.specs.WellFormed.{native_names}
 use Rattle.cc_laws_heap.specs.Sound.{IsSound, numbers_of}
 use Rattle.cc_laws_heap.specs.Balance.{HasDistinctNumbers}

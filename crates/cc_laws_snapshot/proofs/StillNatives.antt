@@ -20,7 +20,6 @@ use Rattle.cc_model.specs.Cascade.{add_ref}
 use Rattle.cc_model.specs.Exposure.{exposed, exposed_names, as_black}
 use Rattle.cc_model.specs.Effects.{hold_script, make_object, make_proxy, with_reflector, wrapped, set_entry, put_in_script}
 use Rattle.cc_model.specs.WellFormed.{native_names, script_names}
-use Rattle.cc_laws_heap.specs.Freeing.{Uncounted}
 use Rattle.cc_laws_heap.proofs.Natives.{changed_at, changed_at-number, native_names-change}
 use Rattle.cc_laws_heap.specs.Balance.{has_number}
 use Rattle.cc_laws_heap.proofs.HoldsTheSame.{HoldsTheSame-add_ref, native_names-alike}
