@@ -25,7 +25,7 @@ use crate::variable::{CHILDREN, CLOSURE, DATA, PARENT, SLOTS, Variable};
 use cc_collector::{Collector, Ended, Steps};
 use cc_heaps::Heaps;
 use cc_model::Notices;
-use cc_names::{Limits, Name, NativeNo, NoMemory, SlotNo};
+use cc_names::{Limits, Name, NativeNo, NoMemory, RegNo, SlotNo};
 use std::alloc::Global;
 use std::marker::{Brand, Model};
 use std::sync::ledger::{Blank, Ledger};
@@ -121,7 +121,7 @@ impl Document {
         ensures same { OnErr result (self.new ≡ self.old) }
         ensures tells { TellsWhatIsFreed self.old.heaps.heap self.new.heaps.heap (N.telling out.old) (N.telling out.new) }
     {
-        match self.parts.heaps.new_native(into.0, SLOTS, out)? {
+        match self.parts.heaps.new_native(into.0 as RegNo, SLOTS, out)? {
             Name::Native(number) => Ok(number),
             Name::Script(_) | Name::Reflector(_) => unreachable!(),
         }
@@ -277,7 +277,9 @@ impl Document {
         ensures makes { Makes 0 0 self.old self.new }
         ensures tells { TellsWhatIsFreed self.old.heaps.heap self.new.heaps.heap (N.telling out.old) (N.telling out.new) }
     {
-        self.parts.heaps.set_native_reg(variable.0, None, out);
+        self.parts
+            .heaps
+            .set_native_reg(variable.0 as RegNo, None, out);
     }
 
     /// Whether a collection runs.

@@ -11,7 +11,7 @@ ghost use Rattle.cc_document.specs.Shown.{IsShown, register_of};
 use crate::parts::Parts;
 use crate::variable::{CHILDREN, CLOSED, DATA, LISTENER, PLACES, SPOKEN, Variable};
 use cc_counted::{Held, native_held};
-use cc_names::{NKey, NativeNo, SKey, SlotNo};
+use cc_names::{NKey, NativeNo, RegNo, SKey, SlotNo};
 use cc_wrappers::unwrap_of;
 
 impl Parts {
@@ -28,14 +28,14 @@ impl Parts {
         ensures name { native_name self.now.heaps result ≡ source self.now.heaps.heap (register_of variable) }
         ensures there { IsNativeThere self.now.heaps result }
     {
-        self.heaps.native_reg(variable?.0)
+        self.heaps.native_reg(variable?.0 as RegNo)
     }
 
     /// The element that a variable holds.
     pub(crate) fn element_in(&self, variable: Variable) -> Option<NativeNo>
         ensures { option_map (λ n. n.0) result ≡ element_of (register self.now.heaps.heap (n_register variable.0)) }
     {
-        self.number_of(self.heaps.native_reg(variable.0))
+        self.number_of(self.heaps.native_reg(variable.0 as RegNo))
     }
 
     /// What slot `i` of the element in a variable holds.
@@ -45,7 +45,9 @@ impl Parts {
         ensures name { held_name self.now.heaps result ≡ slot_of (objects_of self.now.heaps.heap) (register self.now.heaps.heap (n_register of.0)) i }
         ensures there { IsThere self.now.heaps result }
     {
-        self.heaps.counted().slot(self.heaps.native_reg(of.0)?, i)
+        self.heaps
+            .counted()
+            .slot(self.heaps.native_reg(of.0 as RegNo)?, i)
     }
 
     /// Where the element in slot `i` of the element in a variable stands.
@@ -118,7 +120,7 @@ impl Parts {
         let reflector = self
             .heaps
             .counted()
-            .reflector(self.heaps.native_reg(of.0)?)?;
+            .reflector(self.heaps.native_reg(of.0 as RegNo)?)?;
         let data = self
             .heaps
             .weak()

@@ -2,9 +2,9 @@
 
 use cc_names::{RegNo, SlotNo};
 
-/// A variable of the host, by its number. It holds an element, or nothing.
+/// A variable of the host, by its number, which is 0 to 255. It holds an element, or nothing.
 #[derive(Clone, Copy, Debug, PartialEq, Eq, Drop)]
-pub struct Variable(pub RegNo);
+pub struct Variable(pub u8);
 
 /// How many children an element has at most.
 pub const PLACES: SlotNo = 8;
@@ -22,13 +22,13 @@ pub(crate) const CHILDREN: SlotNo = 2;
 pub(crate) const SLOTS: SlotNo = CHILDREN + PLACES;
 
 /// The script register that holds the weak map of all data.
-pub(crate) const DATA: SlotNo = 0;
+pub(crate) const DATA: RegNo = 0;
 
 /// The script register that holds a closure while it is made.
-pub(crate) const CLOSURE: SlotNo = 1;
+pub(crate) const CLOSURE: RegNo = 1;
 
 /// The script register that holds a reflector meanwhile.
-pub(crate) const WRAPPER: SlotNo = 2;
+pub(crate) const WRAPPER: RegNo = 2;
 
 /// The slot of a closure that holds the reflector of the element of which it speaks.
 pub(crate) const SPOKEN: SlotNo = 0;

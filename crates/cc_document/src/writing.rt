@@ -41,7 +41,7 @@ impl Parts {
         ensures none_came { NoneCame self.old.heaps.heap self.new.heaps.heap }
     {
         let content = self.key_in(from);
-        if let Some(element) = self.heaps.native_reg(of.0) {
+        if let Some(element) = self.heaps.native_reg(of.0 as RegNo) {
             self.heaps
                 .store_native(element, i, Held::of_native(content), out);
         }
@@ -57,7 +57,7 @@ impl Parts {
         ensures makes { Makes 0 0 self.old self.new }
     {
         let element = self.key_at(of, i);
-        self.heaps.set_native_reg(into.0, element, out);
+        self.heaps.set_native_reg(into.0 as RegNo, element, out);
     }
 
     /// The element in a variable has the closure that was made for its listener.
@@ -68,7 +68,7 @@ impl Parts {
         ensures makes { Makes 0 0 self.old self.new }
     {
         if let (Some(element), Some(closure)) = (
-            self.heaps.native_reg(to.0),
+            self.heaps.native_reg(to.0 as RegNo),
             self.heaps.script_reg(CLOSURE),
         ) {
             self.heaps
@@ -99,7 +99,7 @@ impl Parts {
         ensures stops { (e : DocumentError) → result ≡ Err e → StopsWrapping (heap.objects_of self.old.heaps.heap) element.0 e }
         ensures same { OnErr result (self.new ≡ self.old) }
     {
-        let Some(key) = self.heaps.native_reg(element.0) else {
+        let Some(key) = self.heaps.native_reg(element.0 as RegNo) else {
             return Err(DocumentError::Empty);
         };
         let reflector = wrap(&mut self.heaps, key)?;

@@ -1,9 +1,12 @@
 //! Heaps and their collector in one type, which keeps one fact.
+ghost use Rattle.std.specs.Prelude.{◌<◌};
+ghost use Rattle.cc_names.specs.Sizes.{bank_length};
+
 use cc_collector::Collector;
 use cc_counted::Held;
 use cc_heaps::{Heaps, MakeStop};
 use cc_model::Notices;
-use cc_names::{Limits, Name, NoMemory};
+use cc_names::{Limits, Name, NoMemory, RegNo};
 use std::alloc::Global;
 use std::marker::Model;
 
@@ -36,17 +39,24 @@ impl Host {
     }
 
     /// A register holds a new native with one slot. Its name.
-    pub fn make<N: Notices>(&mut self, r: u8, out: &mut N) -> Result<Name, MakeStop> {
+    pub fn make<N: Notices>(&mut self, r: RegNo, out: &mut N) -> Result<Name, MakeStop>
+        requires { r < bank_length }
+    {
         self.heaps.new_native(r, 1, out)
     }
 
     /// A register holds nothing from then on.
-    pub fn let_go<N: Notices>(&mut self, r: u8, out: &mut N) {
+    pub fn let_go<N: Notices>(&mut self, r: RegNo, out: &mut N)
+        requires { r < bank_length }
+    {
         self.heaps.set_native_reg(r, None, out);
     }
 
     /// The first slot of the native in one register holds that in another, where both hold one.
-    pub fn link<N: Notices>(&mut self, from: u8, to: u8, out: &mut N) {
+    pub fn link<N: Notices>(&mut self, from: RegNo, to: RegNo, out: &mut N)
+        requires from { from < bank_length }
+        requires to { to < bank_length }
+    {
         if let (Some(native), Some(held)) = (
             self.heaps.native_reg(from),
             self.heaps.native_reg(to),

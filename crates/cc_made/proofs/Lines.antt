@@ -3,8 +3,9 @@ use Rattle.std.proofs.Common.{◌≡◌, ℕ, zero, suc, ◌+◌, ◌*◌, ◌�
 use Rattle.std.specs.List.{All, list_all}
 use Rattle.std.proofs.lemmas.Bool.{and_parts, false≢true, leb-true}
 use Rattle.std.proofs.lemmas.List.Folds.{list_all-append, list_all-map}
-use Rattle.cc_model.specs.Asks.{Ask, ask_of, asks_of, command_of}
-use Rattle.cc_model.specs.Forms.{version_one_forms}
+use Rattle.cc_model.specs.Asks.{Ask, ask_of, asks_from, asks_of, command_of, dialect_after}
+use Rattle.cc_model.proofs.Dialects.{ask_of-start, asks_from-one}
+use Rattle.cc_model.specs.declared.dialect.Dialect.TheVariants.{Start, One}
 use Rattle.cc_model.specs.Lines.{lines_from as cut_from, lines_of}
 use Rattle.rand_pcg.specs.Lcg.{Lcg}
 use Rattle.cc_made.specs.Asked.{fills_of_eight, is_command, tail_asks}
@@ -69,20 +70,20 @@ bytes-made (suc count) words =
     omega (arith, short-made words, bytes-made count (made_line words).words, length-append (line ++ 10 ∷ []) others, length-append line (10 ∷ []))
 
 -- a test that each ask passes
-pub asks-pass : (test : Ask → Bool) → list_all (form_passes (λ line. test (ask_of version_one_forms line))) forms ≡ true → list_all (λ line. test (ask_of version_one_forms line)) tail ≡ true →
-    (count : ℕ) (words : Lcg) → list_all test (map (ask_of version_one_forms) (lines_from count words)) ≡ true
+pub asks-pass : (test : Ask → Bool) → list_all (form_passes (λ line. test (ask_of One line))) forms ≡ true → list_all (λ line. test (ask_of One line)) tail ≡ true →
+    (count : ℕ) (words : Lcg) → list_all test (map (ask_of One) (lines_from count words)) ≡ true
 asks-pass test all last count words =
-    list_all-map test (ask_of version_one_forms) (lines_from count words) ∙ all-made (λ line. test (ask_of version_one_forms line)) all last count words
+    list_all-map test (ask_of One) (lines_from count words) ∙ all-made (λ line. test (ask_of One line)) all last count words
 
-pub commands-made : (count : ℕ) (words : Lcg) → list_all is_command (map (ask_of version_one_forms) (lines_from count words)) ≡ true
+pub commands-made : (count : ℕ) (words : Lcg) → list_all is_command (map (ask_of One) (lines_from count words)) ≡ true
 unfolding command_of
 commands-made = asks-pass is_command refl refl
 
-pub registers-made : (count : ℕ) (words : Lcg) → list_all fills_of_eight (map (ask_of version_one_forms) (lines_from count words)) ≡ true
+pub registers-made : (count : ℕ) (words : Lcg) → list_all fills_of_eight (map (ask_of One) (lines_from count words)) ≡ true
 unfolding command_of
 registers-made = asks-pass fills_of_eight refl refl
 
-tail-asks : map (ask_of version_one_forms) tail ≡ tail_asks
+tail-asks : map (ask_of One) tail ≡ tail_asks
 unfolding command_of
 tail-asks = refl
 
@@ -95,22 +96,33 @@ pub many-drawn : (count : ℕ) (words : Lcg) → length (drawn_lines count words
 many-drawn zero words = refl
 many-drawn (suc count) words = ap (λ n. suc n) (many-drawn count (made_line words).words)
 
-pub tail-made : (count : ℕ) (words : Lcg) → map (ask_of version_one_forms) (lines_from count words) ≡ map (ask_of version_one_forms) (drawn_lines count words) ++ tail_asks
+pub tail-made : (count : ℕ) (words : Lcg) → map (ask_of One) (lines_from count words) ≡ map (ask_of One) (drawn_lines count words) ++ tail_asks
 tail-made zero words = tail-asks
-tail-made (suc count) words = ap (λ l. ask_of version_one_forms (made_line words).text ∷ l) (tail-made count (made_line words).words)
+tail-made (suc count) words = ap (λ l. ask_of One (made_line words).text ∷ l) (tail-made count (made_line words).words)
+
+-- what a command asks at the start it asks in version 1, and so do all lines behind it
+command-start : (ask : Ask) → is_command ask ≡ true → dialect_after Start ask ≡ One
+command-start ask is = grind arith
+
+asks-start : (line : List ℕ) (lines : List (List ℕ)) → is_command (ask_of Start line) ≡ true → asks_from Start (line ∷ lines) ≡ map (ask_of One) (line ∷ lines)
+asks-start line lines is = grind (arith, command-start, ask_of-start, asks_from-one)
+
+lines-start : (count : ℕ) (words : Lcg) → asks_from Start (lines_from count words) ≡ map (ask_of One) (lines_from count words)
+unfolding command_of
+lines-start zero words = refl
+lines-start (suc count) words = asks-start (made_line words).text (lines_from count (made_line words).words) (passes-made (λ line. is_command (ask_of Start line)) refl words)
 
 -- the asks of the script's bytes are those of its lines
-pub asks-made : (count : ℕ) (words : Lcg) →
-    asks_of version_one_forms (script_of (lines_from count words)) ≡ map (ask_of version_one_forms) (lines_from count words)
-asks-made count words = ap (map (ask_of version_one_forms)) (cut-script (lines_from count words) (uncut-made count words))
+pub asks-made : (count : ℕ) (words : Lcg) → asks_of (script_of (lines_from count words)) ≡ map (ask_of One) (lines_from count words)
+asks-made count words = ap (asks_from Start) (cut-script (lines_from count words) (uncut-made count words)) ∙ lines-start count words
 
 -- each is short
 pub each-short : (count : ℕ) (words : Lcg) → All (λ line. length line ≤ 13) (lines_from count words)
 each-short count words = λ k d within. leb-true _ _ (passes-at is_short (lines_from count words) k d within (all-made is_short refl refl count words))
 
 -- what stands before the tail fills the first eight registers alone
-pub drawn-fill : (count : ℕ) (words : Lcg) → list_all fills_of_eight (map (ask_of version_one_forms) (drawn_lines count words)) ≡ true
+pub drawn-fill : (count : ℕ) (words : Lcg) → list_all fills_of_eight (map (ask_of One) (drawn_lines count words)) ≡ true
 drawn-fill count words =
-    let all : list_all fills_of_eight (map (ask_of version_one_forms) (drawn_lines count words) ++ tail_asks) ≡ true =
+    let all : list_all fills_of_eight (map (ask_of One) (drawn_lines count words) ++ tail_asks) ≡ true =
     ap (list_all fills_of_eight) (sym (tail-made count words)) ∙ registers-made count words in
-    (and_parts _ _ (sym (list_all-append fills_of_eight (map (ask_of version_one_forms) (drawn_lines count words)) tail_asks) ∙ all)).0
+    (and_parts _ _ (sym (list_all-append fills_of_eight (map (ask_of One) (drawn_lines count words)) tail_asks) ∙ all)).0

@@ -8,8 +8,9 @@ use Rattle.cc_names.specs.declared.name.Name.{Name}
 use Rattle.cc_names.specs.declared.name.Name.TheVariants as name
 use Rattle.cc_names.specs.declared.register.Reg.{Reg}
 use Rattle.cc_names.specs.declared.register.Reg.TheVariants.{N, S}
+use Rattle.cc_names.specs.Sizes.{bank_length}
 use Rattle.cc_model.specs.declared.command.Command.{Command}
-use Rattle.cc_model.specs.declared.command.Command.TheVariants.{Nothing, Native, Script, WeakMap, Proxy, CopyNative, CopyScript, Drop, Set, Get, Put, Take, Wrap, Unwrap, Preserve, SetEntry, GetEntry, Expose, Slice, Collect, Gc, Census}
+use Rattle.cc_model.specs.declared.command.Command.TheVariants.{Nothing, Version2, Native, Script, WeakMap, Proxy, CopyNative, CopyScript, Drop, Set, Get, Move, Put, Take, Wrap, Unwrap, Preserve, SetEntry, GetEntry, Expose, Slice, Collect, Gc, Census}
 use Rattle.cc_model.specs.declared.item.Refusal.{Refusal}
 use Rattle.cc_model.specs.declared.item.Reply.{Reply}
 use Rattle.cc_model.specs.Answers.{Answer}
@@ -33,7 +34,7 @@ none-at (suc n) zero = refl
 none-at (suc n) (suc r) = none-at n r
 
 pub none-filled : (limits : Allowance) → HasEmptied 0 0 (empty_graph limits)
-none-filled limits = record { in_natives = λ r i. none-at 256 r; in_scripts = λ r i. none-at 256 r }
+none-filled limits = record { in_natives = λ r i. none-at bank_length r; in_scripts = λ r i. none-at bank_length r }
 
 -- both have the same registers
 pub record SameBanks (g h : Graph) : Type 0 where
@@ -156,6 +157,7 @@ changed-kept g (CopyNative d s) low e = filled g g (N d) _ (same g) low e
 changed-kept g (CopyScript d s) low e = filled g g (S d) _ (same g) low e
 changed-kept g (Drop r) low e = emptied g r e
 changed-kept g (Set d i r) low e = kept 0 0 g _ (slot-banks g _ i _) e
+changed-kept g (Move d i s j) low e = kept 0 0 g _ (banks-then g _ _ (slot-banks g _ j _) (slot-banks _ _ i _)) e
 changed-kept g (Get r s i) low e = filled g g r _ (same g) low e
 changed-kept g (Put d i s) low e = kept 0 0 g _ (banks-then g _ _ (preserve-banks g _) (slot-banks _ _ i _)) e
 changed-kept g (Take d s i) low e = filled g g (S d) _ (same g) low e
@@ -166,6 +168,7 @@ changed-kept g (SetEntry m k v) low e = kept 0 0 g _ (entry-banks g _ _ _) e
 changed-kept g (GetEntry d m k) low e = filled g g (S d) _ (same g) low e
 changed-kept g (Expose s i) low e = e
 changed-kept g Nothing low e = e
+changed-kept g Version2 low e = e
 changed-kept g (Slice u) low e = e
 changed-kept g Collect low e = e
 changed-kept g Gc low e = e

@@ -5,7 +5,6 @@ ghost use Rattle.std.specs.List.{list_all};
 ghost use Rattle.cc_names.specs.Allowance.{Allowance};
 ghost use Rattle.cc_model.specs.Answers.{Answer};
 ghost use Rattle.cc_model.specs.Asks.{Ask, asks_of};
-ghost use Rattle.cc_model.specs.Forms.{version_one_forms};
 ghost use Rattle.cc_model.specs.Lawful.{IsLawful};
 ghost use Rattle.cc_model.specs.Lines.{lines_of};
 ghost use Rattle.cc_model.specs.Quiet.{IsQuiet};
@@ -24,21 +23,21 @@ pub fn made_scripts_are_cut_into_their_lines()
     ensures within { (seed count : ℕ) → count ≤ 1000000 → length (made_script seed count) ≤ 2 ^ 32 - 1 }
 {}
 
-/// Each line of a made script asks a command: none is blank, a comment, too long or not in the grammar. They fill the
-/// first eight registers of each bank alone; and the last twenty empty these, collect, and take a census.
+/// Each line of a made script asks a command: none is blank, a comment, too long or not in the grammar, and none asks for
+/// a version, so the script is of version 1. They fill the first eight registers of each bank alone; and the last twenty empty these, collect, and take a census.
 pub fn made_scripts_ask_commands()
-    ensures many { (seed count : ℕ) → length (asks_of version_one_forms (made_script seed count)) ≡ count + 20 }
-    ensures commands { (seed count : ℕ) → IsTrue (list_all is_command (asks_of version_one_forms (made_script seed count))) }
-    ensures registers { (seed count : ℕ) → IsTrue (list_all fills_of_eight (asks_of version_one_forms (made_script seed count))) }
-    ensures tail { (seed count : ℕ) → (asks : List Ask) × (asks_of version_one_forms (made_script seed count) ≡ asks ++ tail_asks) }
+    ensures many { (seed count : ℕ) → length (asks_of (made_script seed count)) ≡ count + 20 }
+    ensures commands { (seed count : ℕ) → IsTrue (list_all is_command (asks_of (made_script seed count))) }
+    ensures registers { (seed count : ℕ) → IsTrue (list_all fills_of_eight (asks_of (made_script seed count))) }
+    ensures tail { (seed count : ℕ) → (asks : List Ask) × (asks_of (made_script seed count) ≡ asks ++ tail_asks) }
 {}
 
 /// In each lawful and quiet transcript of a made script the last census lists nothing, where the tail's `collect` was not
 /// given up: no register holds anything by then.
 pub fn made_scripts_leave_nothing()
     ensures { (seed count : ℕ) (limits : Allowance) (answers : List Answer) →
-        IsLawful limits (asks_of version_one_forms (made_script seed count)) answers →
-        IsQuiet limits (asks_of version_one_forms (made_script seed count)) answers → LeavesNothing count answers }
+        IsLawful limits (asks_of (made_script seed count)) answers →
+        IsQuiet limits (asks_of (made_script seed count)) answers → LeavesNothing count answers }
 {}
 
 /// Some made scripts are those that were worked out apart from the definition.

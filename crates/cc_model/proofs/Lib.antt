@@ -1,3 +1,4 @@
+pub mod Dialects
 pub mod Tellings
 pub mod Places
 pub mod Joints

@@ -1,12 +1,13 @@
 //! The tokens of a line, and the numbers and registers that they name.
 
 ghost use Rattle.std.specs.Prelude.{◌≡◌, ◌≢◌, ◌<◌, ◌≤◌, [], ◌∷◌, length, slice_index, false, IsTrue, IfNone, IfSome};
-ghost use Rattle.cc_names.specs.Sizes.{most_slots};
+ghost use Rattle.cc_names.specs.Sizes.{bank_length, most_slots};
 ghost use Rattle.cc_model.specs.Tokens.{digits_from, native_register, number_within, register_with, script_register, slots_number, tokens_of, units_number};
 ghost use Rattle.cc_model.specs.Ranges.{is_reg};
 ghost use Rattle.cc_reader.specs.Words.{register_of};
 
-use cc_names::{BANK_LENGTH, MOST_SLOTS, Reg, RegNo, SlotNo};
+use cc_model::Dialect;
+use cc_names::{Reg, RegNo, SlotNo};
 
 /// A line from its first byte on that is no space.
 fn without_spaces(line: &[u8]) -> &[u8]
@@ -79,12 +80,12 @@ pub(crate) fn number(token: &[u8], most: u32) -> Option<u32>
     digits(token, most)
 }
 
-/// The number of slots that a token spells, where there are so many at most.
-pub(crate) fn slots_number(token: &[u8]) -> Option<SlotNo>
-    ensures value { result ≡ slots_number token.now }
+/// The number of slots that a token spells, where a line gives so many at most.
+pub(crate) fn slots_number(token: &[u8], dialect: Dialect) -> Option<SlotNo>
+    ensures value { result ≡ slots_number dialect token.now }
     ensures within { IfSome result (λ n. n ≤ most_slots) }
 {
-    let slots = number(token, MOST_SLOTS as u32)?;
+    let slots = number(token, u32::from(dialect.most_slots()))?;
     Some(slots as SlotNo)
 }
 
@@ -99,15 +100,16 @@ pub(crate) fn units_number(token: &[u8]) -> Option<u32>
 }
 
 /// The number of the register that a token names, where registers of its kind begin with this letter.
-fn register_with(letter: u8, token: &[u8]) -> Option<RegNo>
-    ensures { result ≡ register_with letter token.now }
+fn register_with(letter: u8, token: &[u8], dialect: Dialect) -> Option<RegNo>
+    ensures register { result ≡ register_with dialect letter token.now }
+    ensures in_range { IfSome result (λ r. r < bank_length) }
 {
     match token {
         [first, digits @ ..] => {
             if *first != letter {
                 return None;
             }
-            let value = number(digits, BANK_LENGTH as u32 - 1)?;
+            let value = number(digits, dialect.registers() as u32 - 1)?;
             Some(value as RegNo)
         }
         [] => None,
@@ -115,27 +117,29 @@ fn register_with(letter: u8, token: &[u8]) -> Option<RegNo>
 }
 
 /// The number of the native register that a token names.
-pub(crate) fn native(token: &[u8]) -> Option<RegNo>
-    ensures { result ≡ native_register token.now }
+pub(crate) fn native(token: &[u8], dialect: Dialect) -> Option<RegNo>
+    ensures register { result ≡ native_register dialect token.now }
+    ensures in_range { IfSome result (λ r. r < bank_length) }
 {
-    register_with(b'n', token)
+    register_with(b'n', token, dialect)
 }
 
 /// The number of the script register that a token names.
-pub(crate) fn script(token: &[u8]) -> Option<RegNo>
-    ensures { result ≡ script_register token.now }
+pub(crate) fn script(token: &[u8], dialect: Dialect) -> Option<RegNo>
+    ensures register { result ≡ script_register dialect token.now }
+    ensures in_range { IfSome result (λ r. r < bank_length) }
 {
-    register_with(b's', token)
+    register_with(b's', token, dialect)
 }
 
 /// The register of either kind that a token names.
-pub(crate) fn register_of(token: &[u8]) -> Option<Reg>
-    ensures register { result ≡ register_of token.now }
+pub(crate) fn register_of(token: &[u8], dialect: Dialect) -> Option<Reg>
+    ensures register { result ≡ register_of dialect token.now }
     ensures in_range { IfSome result (λ r. IsTrue (is_reg r)) }
 {
-    match native(token) {
+    match native(token, dialect) {
         Some(register) => Some(Reg::N(register)),
-        None => Some(Reg::S(script(token)?)),
+        None => Some(Reg::S(script(token, dialect)?)),
     }
 }
 
@@ -177,4 +181,14 @@ pub(crate) fn three_tokens(line: &[u8]) -> Option<(&[u8], &[u8], &[u8])>
     let (a, after) = next_token(line)?;
     let (b, c) = two_tokens(after)?;
     Some((a, b, c))
+}
+
+/// The tokens of a line that has just four.
+pub(crate) fn four_tokens(line: &[u8]) -> Option<(&[u8], &[u8], &[u8], &[u8])>
+    ensures some { IfSome result (λ t. tokens_of line.now ≡ t.0.now ∷ t.1.now ∷ t.2.now ∷ t.3.now ∷ []) }
+    ensures none { IfNone result (length (tokens_of line.now) ≢ 4) }
+{
+    let (a, after) = next_token(line)?;
+    let (b, c, d) = three_tokens(after)?;
+    Some((a, b, c, d))
 }

@@ -1,12 +1,13 @@
 -- HOW A RUN ENDS: from lines that were given and answered to what is written for the bytes taken.
-use Rattle.std.proofs.Common.{◌≡◌, ℕ, false, true, List, [], length, map, take, Option, Some, sym, ap, ◌∙◌, subst, ◌⊎◌, ⊎_elim, inl, inr, arith}
+use Rattle.std.proofs.Common.{◌≡◌, ℕ, false, true, List, [], length, take, Option, Some, sym, ap, ◌∙◌, subst, ◌⊎◌, ⊎_elim, inl, inr, arith}
 use Rattle.cc_names.specs.Allowance.{Allowance}
 use Rattle.cc_model.specs.Answers.{text_of_answers}
-use Rattle.cc_model.specs.Asks.{ask_of, asks_of}
+use Rattle.cc_model.specs.declared.dialect.Dialect.{Dialect}
+use Rattle.cc_model.specs.declared.dialect.Dialect.TheVariants.{Start}
+use Rattle.cc_model.specs.Asks.{asks_from, asks_of}
 use Rattle.cc_model.specs.Collecting.{Machine, empty_machine}
 use Rattle.cc_model.specs.Lines.{ended_lines_of, lines_of}
 use Rattle.cc_outside.specs.Reads.{Reads}
-use Rattle.cc_model.specs.Forms.{version_one_forms}
 use Rattle.cc_reader.specs.Pending.{Pending, nothing_read}
 use Rattle.cc_reader.specs.Given
 use Rattle.cc_reader.specs.Given.{HasGiven, AreAllGiven, IsBroken, IsOver, AreFirst, LastUnended}
@@ -18,7 +19,7 @@ use Rattle.cc_replay.proofs.Answers.{AreAnswered-run, AreAnswered-transcript}
 use Rattle.cc_replay.proofs.Causes.{whole-bytes}
 
 -- a run from a reader that begins, over empty heaps
-module _ (limits : Allowance) (m₀ m₁ : Moment) (r₀ r₁ : Reads) (begins : m₀.window ≡ nothing_read limits.bytes) (empty : m₀.machine ≡ empty_machine limits [])
+module _ (limits : Allowance) (m₀ m₁ : Moment) (r₀ r₁ : Reads) (begins : m₀.window ≡ nothing_read limits.bytes) (first : m₀.dialect ≡ Start) (empty : m₀.machine ≡ empty_machine limits [])
     (limit : m₁.window.limit ≡ m₀.window.limit) (reads : ReadsOn r₀ r₁ m₀.window m₁.window) where
   abbrev e : Ends
   e = record {
@@ -45,14 +46,15 @@ module _ (limits : Allowance) (m₀ m₁ : Moment) (r₀ r₁ : Reads) (begins :
 
   -- the text of a transcript of these lines is written
   abbrev AreWritten : List (List ℕ) → Type 0
-  AreWritten lines = Writes limits (map (ask_of version_one_forms) lines) m₀.telling.told m₁.telling.told
+  AreWritten lines = Writes limits (asks_from Start lines) m₀.telling.told m₁.telling.told
 
   -- the lines that were given, answered from the empty heaps on
   module _ {IsGiven : Option (List ℕ) → Option (List ℕ) → Pending → List (List ℕ) → Type 0} (a : Answers IsGiven m₀ m₁) where
-    answered : (given : List (List ℕ)) × IsGiven m₀.left m₁.left m₁.window given × AreAnswered (empty_machine limits []) m₁.machine given m₀.telling m₁.telling
+    answered : (given : List (List ℕ)) × IsGiven m₀.left m₁.left m₁.window given × AreAnswered Start m₁.dialect (empty_machine limits []) m₁.machine given m₀.telling m₁.telling
     answered =
         let l = a.lines m₀.left (subst (λ (p : Pending). HasGiven m₀.left m₀.left p []) (sym begins) (HasGiven-none m₀.left limits.bytes)) in
-        (l.0, l.1, subst (λ (k : Machine). AreAnswered k m₁.machine l.0 m₀.telling m₁.telling) empty l.2)
+        (l.0, l.1, subst (λ (v : Dialect). AreAnswered v m₁.dialect (empty_machine limits []) m₁.machine l.0 m₀.telling m₁.telling) first
+            (subst (λ (k : Machine). AreAnswered m₀.dialect m₁.dialect k m₁.machine l.0 m₀.telling m₁.telling) empty l.2))
 
     -- and what is written for them, where no write failed
     written : m₁.telling.broken ≡ false → (given : List (List ℕ)) × IsGiven m₀.left m₁.left m₁.window given × AreWritten given
@@ -62,7 +64,7 @@ module _ (limits : Allowance) (m₀ m₁ : Moment) (r₀ r₁ : Reads) (begins :
           l.1,
           record {
             text = text_of_answers l.2.answers;
-            transcript = AreAnswered-transcript limits m₁.machine l.0 m₀.telling m₁.telling l.2;
+            transcript = AreAnswered-transcript limits m₁.dialect m₁.machine l.0 m₀.telling m₁.telling l.2;
             written = (l.2.told.whole whole).grown;
           },
         )
@@ -73,14 +75,14 @@ module _ (limits : Allowance) (m₀ m₁ : Moment) (r₀ r₁ : Reads) (begins :
 
   -- and the answers to known bytes are counted
   pub whole-counts : Answers AreAllGiven m₀ m₁ → m₁.telling.broken ≡ false → (bytes : List ℕ) → m₀.left ≡ Some bytes →
-      Counts limits (asks_of version_one_forms bytes) m₀.telling.sums m₁.telling.sums
+      Counts limits (asks_of bytes) m₀.telling.sums m₁.telling.sums
   whole-counts a whole bytes known =
       let l = answered a in
-      subst (λ lines. Counts limits (map (ask_of version_one_forms) lines) m₀.telling.sums m₁.telling.sums)
+      subst (λ lines. Counts limits (asks_from Start lines) m₀.telling.sums m₁.telling.sums)
       (l.1.lines_are ∙ ap lines_of (whole-bytes bytes m₀.left m₁.left l.1.given known l.1.consumed l.1.at_end))
       (record {
         answers = l.2.answers;
-        run = AreAnswered-run limits m₁.machine l.0 m₀.telling m₁.telling l.2;
+        run = AreAnswered-run limits m₁.dialect m₁.machine l.0 m₀.telling m₁.telling l.2;
         summed = (l.2.told.whole whole).summed;
       })
 
@@ -104,7 +106,7 @@ module _ (limits : Allowance) (m₀ m₁ : Moment) (r₀ r₁ : Reads) (begins :
         first = lines_read l.0 l.1;
         writes = record {
           text = text_of_answers l.2.answers;
-          transcript = AreAnswered-transcript limits m₁.machine l.0 m₀.telling m₁.telling l.2;
+          transcript = AreAnswered-transcript limits m₁.dialect m₁.machine l.0 m₀.telling m₁.telling l.2;
           written = (l.2.told.broke unbroken broken).part;
         };
       }

@@ -14,7 +14,7 @@ use Rattle.cc_model.specs.declared.command.Command.TheVariants.{Collect, Gc, Cen
 use Rattle.cc_model.specs.Answers.{Answer, all_items_of, items_of}
 use Rattle.cc_model.specs.Asks.{Ask, ask_of, taken}
 use Rattle.cc_model.specs.Checks.{refusal_of, reply_if_taken}
-use Rattle.cc_model.specs.Forms.{version_one_forms}
+use Rattle.cc_model.specs.declared.dialect.Dialect.TheVariants.{One}
 use Rattle.cc_model.specs.Lawful.{IsLawful, IsLawfulFrom, ReplyAnswers, State, census_of, next, start}
 use Rattle.cc_model.specs.Quiet.{IsQuiet}
 use Rattle.cc_model.specs.Summed.{none_summed, summed, with_item}
@@ -46,10 +46,10 @@ pub leaves-nothing : (seed count : ℕ) (limits : Allowance) (answers : List Ans
     LeavesNothing count answers
 leaves-nothing seed count limits answers lawful quiet =
     let words = seeded seed in
-    let drawn = map (ask_of version_one_forms) (drawn_lines count words) in
+    let drawn = map (ask_of One) (drawn_lines count words) in
     let are : made_asks seed count ≡ drawn ++ tail_asks = asks-made count words ∙ tail-made count words in
     ends limits drawn count answers (drawn-fill count words)
-    (length-map (drawn_lines count words) (ask_of version_one_forms) ∙ many-drawn count words)
+    (length-map (drawn_lines count words) (ask_of One) ∙ many-drawn count words)
     (subst (λ (asks : List Ask). IsLawful limits asks answers) are lawful)
     (subst (λ (asks : List Ask). IsQuiet limits asks answers) are quiet)
 
@@ -94,11 +94,11 @@ pub nothing-left : (seed count : ℕ) (limits : Allowance) (answers : List Answe
     (sums_of answers).nomem ≡ 0 → (sums_of answers).census ≡ 0
 nothing-left seed count limits answers lawful quiet nomem =
     let words = seeded seed in
-    let drawn = map (ask_of version_one_forms) (drawn_lines count words) in
+    let drawn = map (ask_of One) (drawn_lines count words) in
     let are : made_asks seed count ≡ (drawn ++ take 16 tail_asks) ++ drop 16 tail_asks =
     asks-made count words ∙ (tail-made count words ∙ sym (append_assoc drawn (take 16 tail_asks) (drop 16 tail_asks))) in
     let many : length (drawn ++ take 16 tail_asks) ≡ count + 16 =
-    length-append drawn (take 16 tail_asks) ∙ ap (λ (n : ℕ). n + 16) (length-map (drawn_lines count words) (ask_of version_one_forms) ∙ many-drawn count words) in
+    length-append drawn (take 16 tail_asks) ∙ ap (λ (n : ℕ). n + 16) (length-map (drawn_lines count words) (ask_of One) ∙ many-drawn count words) in
     let rest = lawful-rest (start limits) (drawn ++ take 16 tail_asks) (drop 16 tail_asks) answers (subst (λ (asks : List Ask). IsLawful limits asks answers) are lawful) in
     last-four (count + 16) answers rest.0 (drop (count + 16) answers) refl (subst (λ (n : ℕ). IsLawfulFrom rest.0 (drop 16 tail_asks) (drop n answers)) many rest.1)
     (collected-nothing count answers (leaves-nothing seed count limits answers lawful quiet)) nomem

@@ -9,7 +9,7 @@ use Rattle.cc_names.specs.Allowance.{Allowance}
 use Rattle.cc_model.specs.declared.sums.Sums.{Sums}
 use Rattle.cc_model.specs.Summed.{none_summed}
 use Rattle.cc_model.specs.Asks.{ask_of, command_of}
-use Rattle.cc_model.specs.Forms.{version_one_forms}
+use Rattle.cc_model.specs.declared.dialect.Dialect.TheVariants.{One}
 use Rattle.cc_made.specs.Asked.{is_command}
 use Rattle.cc_made.specs.Made.{made_line, made_script, seeded}
 use Rattle.cc_made.proofs.Lines.{asks-made, bytes-made, commands-made, drawn_lines, many-made, tail-made}
@@ -30,20 +30,20 @@ many-asked : (seed count : ℕ) → length (made_asks seed count) ≡ count + 20
 many-asked seed count = search (asks-made, length-map, many-made)
 
 -- no line that is drawn asks for a census
-drawn-no_census : (words : _) → not (asks_census (ask_of version_one_forms (made_line words).text)) ≡ true
+drawn-no_census : (words : _) → not (asks_census (ask_of One (made_line words).text)) ≡ true
 unfolding command_of
-drawn-no_census words = passes-made (λ line. not (asks_census (ask_of version_one_forms line))) refl words
+drawn-no_census words = passes-made (λ line. not (asks_census (ask_of One line))) refl words
 
 uncounted : (b : Bool) → not b ≡ true → cond {A = ℕ} b 1 0 ≡ 0
 uncounted true e = absurd (false≢true e)
 uncounted false e = refl
 
-drawn-censuses : (count : ℕ) (words : _) → count_by asks_census (map (ask_of version_one_forms) (drawn_lines count words)) ≡ 0
+drawn-censuses : (count : ℕ) (words : _) → count_by asks_census (map (ask_of One) (drawn_lines count words)) ≡ 0
 drawn-censuses zero words = refl
 drawn-censuses (suc count) words = omega (
   arith,
-  count_by-cons asks_census (ask_of version_one_forms (made_line words).text) (map (ask_of version_one_forms) (drawn_lines count (made_line words).words)),
-  uncounted (asks_census (ask_of version_one_forms (made_line words).text)) (drawn-no_census words),
+  count_by-cons asks_census (ask_of One (made_line words).text) (map (ask_of One) (drawn_lines count (made_line words).words)),
+  uncounted (asks_census (ask_of One (made_line words).text)) (drawn-no_census words),
   drawn-censuses count (made_line words).words,
 )
 

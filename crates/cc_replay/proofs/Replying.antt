@@ -30,8 +30,8 @@ use Rattle.cc_collector.specs.Collected.{LedTo, IsSliced, IsCollected, IsSwept}
 use Rattle.cc_laws_run.specs.Memory.{with_memory}
 
 -- A command is one of the mutator, where it is none of these
-pub others-applied : (c : Command) → c ≢ command.Nothing → c ≢ command.Census → ((u : ℕ) → c ≢ command.Slice u) → c ≢ command.Collect → c ≢ command.Gc → IsTrue (is_applied c)
-others-applied c nothing census slice collect gc_one = grind arith
+pub others-applied : (c : Command) → c ≢ command.Nothing → c ≢ command.Version2 → c ≢ command.Census → ((u : ℕ) → c ≢ command.Slice u) → c ≢ command.Collect → c ≢ command.Gc → IsTrue (is_applied c)
+others-applied c nothing version census slice collect gc_one = grind arith
 
 -- and the plain run does it as such
 applied-mutates : (m : Machine) (c : Command) → IsTrue (is_applied c) → do_ask m (taken c) ≡ mutate m c
@@ -128,6 +128,11 @@ answered-census m before mid after listed t = by_turn m m before after command.C
 pub answered-nothing : (m : Machine) (before : Telling) → IsAnswered m m (taken command.Nothing) before before
 unfolding do_ask
 answered-nothing m before = by_turn m m before before command.Nothing [] (say_nothing (with_memory m [])) refl refl refl (Tells-nil before)
+
+-- the version asked for
+pub answered-version : (m : Machine) (before after : Telling) → Tells before after (of_reply Done ∷ []) → IsAnswered m m (taken command.Version2) before after
+unfolding do_ask
+answered-version m before after told = by_turn m m before after command.Version2 [] (answering (with_memory m []) [] Done) refl refl refl told
 
 -- A COMMAND OF THE MUTATOR, by what applying it gives, and its reply
 pub answered-applied : (c : Command) → IsTrue (is_applied c) → (old new : Keyed) (kept : Option Built) (before mid after : Telling) (r : Reply) →

@@ -117,6 +117,7 @@ one-answer : (s : State) (ask : Ask) (a : Answer) → is_command ask ≡ true �
 one-answer s long a is l = absurd (false≢true is)
 one-answer s bad a is l = absurd (false≢true is)
 one-answer s (taken command.Nothing) a is l = absurd (false≢true is)
+one-answer s (taken command.Version2) a is l = absurd (false≢true is)
 one-answer s (taken command.Census) a is l = one-by a (Census (length s.listed)) 1 (ap (λ (b : Answer). b.reply) l) refl
 one-answer s (taken c) a is l = one-command s c a a.reply refl l.1
 

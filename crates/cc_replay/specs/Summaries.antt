@@ -8,7 +8,6 @@ use Rattle.cc_model.specs.Summed.{none_summed, summed}
 use Rattle.cc_model.specs.Telling.{AppendsFront}
 use Rattle.cc_model.specs.Answers.{Answer, all_items_of}
 use Rattle.cc_model.specs.Asks.{Ask, asks_of}
-use Rattle.cc_model.specs.Forms.{version_one_forms}
 use Rattle.cc_model.specs.Run.{plain_run}
 use Rattle.cc_made.specs.Made.{made_script}
 use Rattle.cc_replay.specs.Transcripts.{IsRun}
@@ -42,7 +41,7 @@ widest = record { natives = 1000000; scripts = 1000000; bytes = 4294967295 }
 
 -- what a made script asks
 abbrev pub made_asks : ℕ → ℕ → List Ask
-made_asks seed count = asks_of version_one_forms (made_script seed count)
+made_asks seed count = asks_of (made_script seed count)
 
 -- the sums over all items of answers
 abbrev pub sums_of : List Answer → Sums

@@ -1,12 +1,13 @@
 -- WHAT IS WRITTEN FOR AN INPUT: the text of a transcript that is the plain run's, lawful and quiet.
-use Rattle.std.specs.Prelude.{◌≡◌, ◌≢◌, ℕ, ◌+◌, ◌≤◌, ◌⊎◌, Bool, List, [], ◌++◌, length, map, take, Option}
+use Rattle.std.specs.Prelude.{◌≡◌, ◌≢◌, ℕ, ◌+◌, ◌≤◌, ◌⊎◌, Bool, List, [], ◌++◌, length, take, Option}
 use Rattle.std.specs.Io.KnownBytes.{Appends, Consumes, IsAtEnd}
 use Rattle.cc_names.specs.Allowance.{Allowance}
 use Rattle.cc_model.specs.Telling.{AppendsFront}
+use Rattle.cc_model.specs.declared.dialect.Dialect.TheVariants.{Start}
 use Rattle.cc_model.specs.declared.sums.Sums.{Sums}
 use Rattle.cc_model.specs.Summed.{sums_after}
 use Rattle.cc_model.specs.Answers.{Answer, all_items_of, text_of_answers}
-use Rattle.cc_model.specs.Asks.{Ask, ask_of, asks_of, ended}
+use Rattle.cc_model.specs.Asks.{Ask, asks_from, asks_of, ended}
 use Rattle.cc_model.specs.Lines.{lines_of, ended_lines_of, rest_from}
 use Rattle.cc_model.specs.Lawful.{IsLawful}
 use Rattle.cc_model.specs.Quiet.{IsQuiet}
@@ -14,7 +15,6 @@ use Rattle.cc_model.specs.Run.{plain_run}
 use Rattle.cc_laws_run.specs.Memory.{noes, all_noes_told}
 use Rattle.cc_laws_headline.specs.Headline.{TellsOfAGraph}
 use Rattle.cc_outside.specs.Reads.{Reads}
-use Rattle.cc_model.specs.Forms.{version_one_forms}
 use Rattle.cc_reader.specs.HasRead.{ReadsBytes, ReadsToEnd}
 
 -- A RUN of these asks: the plain run's answers, for some answers of memory
@@ -85,7 +85,7 @@ pub record IsDone (limits : Allowance) (e : Ends) : Type 0 where
   pub at_end : IsAtEnd e.left_now
   pub within : length given ≤ limits.bytes
   pub reads : ReadsToEnd e.reads e.reads_now (length given)
-  pub writes : Writes limits (asks_of version_one_forms given) e.written e.written_now
+  pub writes : Writes limits (asks_of given) e.written e.written_now
 
 -- a read failed after these bytes: the lines that ended are answered; each read that was answered gave a byte
 pub record StopsAtFault (limits : Allowance) (e : Ends) : Type 0 where
@@ -93,7 +93,7 @@ pub record StopsAtFault (limits : Allowance) (e : Ends) : Type 0 where
   pub consumed : Consumes e.left e.left_now given
   pub within : length given ≤ limits.bytes
   pub reads : ReadsBytes e.reads e.reads_now (length given)
-  pub writes : Writes limits (ended version_one_forms given) e.written e.written_now
+  pub writes : Writes limits (ended given) e.written e.written_now
 
 -- one byte more than the limit was taken: the lines that ended within the limit are answered; each read that was
 -- answered gave a byte
@@ -102,7 +102,7 @@ pub record StopsAtLimit (limits : Allowance) (e : Ends) : Type 0 where
   pub consumed : Consumes e.left e.left_now given
   pub above : length given ≡ limits.bytes + 1
   pub reads : ReadsBytes e.reads e.reads_now (length given)
-  pub writes : Writes limits (ended version_one_forms (take limits.bytes given)) e.written e.written_now
+  pub writes : Writes limits (ended (take limits.bytes given)) e.written e.written_now
 
 -- these bytes were all, within the limit: one read said the end, and each other that was answered gave a byte
 pub record ReadsAll (limits : Allowance) (e : Ends) (given : List ℕ) : Type 0 where
@@ -131,4 +131,4 @@ pub record StopsAtWrite (limits : Allowance) (e : Ends) : Type 0 where
   pub most : length given ≤ limits.bytes + 1
   pub lines : List (List ℕ)
   pub first : AreFirstEnded limits e given lines ⊎ AreAllUnended limits e given lines
-  pub writes : WritesFront limits (map (ask_of version_one_forms) lines) e.written e.written_now
+  pub writes : WritesFront limits (asks_from Start lines) e.written e.written_now

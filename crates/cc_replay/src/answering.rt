@@ -8,7 +8,6 @@ ghost use Rattle.cc_reader.specs.Given.{HasGiven, IsBroken, IsOver, AreAllGiven,
 ghost use Rattle.cc_model.specs.declared.command.Command.TheVariants as command;
 ghost use Rattle.cc_model.specs.Ranges.{in_range};
 ghost use Rattle.cc_model.specs.Asks.{asks_of, taken};
-ghost use Rattle.cc_model.specs.Forms.{version_one_forms};
 ghost use Rattle.cc_model.specs.Heap.{empty_heap};
 ghost use Rattle.cc_replay.specs.Answered.{IsAnswered};
 ghost use Rattle.cc_builder.specs.Building.{Built};
@@ -24,7 +23,7 @@ use crate::outlet::Reports;
 use crate::status::Status;
 use cc_collector::{Collector, Steps};
 use cc_heaps::Heaps;
-use cc_model::{Command, Item, Notices, Refusal, Reply};
+use cc_model::{Command, Dialect, Item, Notices, Refusal, Reply};
 use cc_mutator::apply;
 use cc_names::NoMemory;
 use cc_outside::Source;
@@ -120,6 +119,7 @@ fn answer_command<N: Notices>(
 {
     match command {
         Command::Nothing => {}
+        Command::Version2 => out.tell(Item::Reply(Reply::Done)),
         Command::Census => answer_census(heaps, out),
         Command::Slice(units) => {
             answer_slice::<Brand, N>(units, heaps, collector, out, Blank::new(1))
@@ -130,14 +130,22 @@ fn answer_command<N: Notices>(
     }
 }
 
-/// Answers a line of at most 120 bytes.
-fn answer_text<N: Notices>(text: &[u8], heaps: &mut Heaps, collector: &mut Collector, out: &mut N)
+/// Answers a line of at most 120 bytes, which decides how the next is read.
+fn answer_text<N: Notices>(
+    text: &[u8],
+    dialect: &mut Dialect,
+    heaps: &mut Heaps,
+    collector: &mut Collector,
+    out: &mut N,
+)
     requires short { length text.now ≤ 120 }
     requires runs { RunsIn heaps.old collector.old }
-    ensures answered { LineIsAnswered (machine_of heaps.old.heap collector.old) (machine_of heaps.new.heap collector.new) text.now (N.telling out.old) (N.telling out.new) }
+    ensures answered { LineIsAnswered dialect.old dialect.new (machine_of heaps.old.heap collector.old) (machine_of heaps.new.heap collector.new) text.now (N.telling out.old) (N.telling out.new) }
     ensures runs { RunsIn heaps.new collector.new }
 {
-    match parse(text) {
+    let asked = parse(text, *dialect);
+    *dialect = dialect.after(asked);
+    match asked {
         Some(command) => answer_command(command, heaps, collector, out),
         None => out.tell(Item::Reply(Reply::Refused(Refusal::Line))),
     }
@@ -155,6 +163,7 @@ enum Next {
 /// Reads the next line and answers it.
 fn answer_next<S: Source, N: Notices>(
     lines: &mut Lines<'_, S>,
+    dialect: &mut Dialect,
     heaps: &mut Heaps,
     collector: &mut Collector,
     out: &mut N,
@@ -163,7 +172,7 @@ fn answer_next<S: Source, N: Notices>(
     requires runs { RunsIn heaps.old collector.old }
     ensures answered { result ≡ Ok Next.Answered → (line : List ℕ)
         × GivesLine (S.left lines.old.source.now) (S.left lines.new.source.now) lines.old.window lines.new.window line
-        × LineIsAnswered (machine_of heaps.old.heap collector.old) (machine_of heaps.new.heap collector.new) line (N.telling out.old) (N.telling out.new) }
+        × LineIsAnswered dialect.old dialect.new (machine_of heaps.old.heap collector.old) (machine_of heaps.new.heap collector.new) line (N.telling out.old) (N.telling out.new) }
     ensures going_on { result ≡ Ok Next.Answered → lines.new.stopped ≡ false }
     ensures falls { result ≡ Ok Next.Answered → weight lines.new.window < weight lines.old.window }
     ensures whole { result ≡ Ok Next.End → (start : Option (List ℕ)) (given : List (List ℕ)) →
@@ -175,8 +184,8 @@ fn answer_next<S: Source, N: Notices>(
     ensures over { result ≡ Err ReadStop.Limit → (start : Option (List ℕ)) (given : List (List ℕ)) →
         HasGiven start (S.left lines.old.source.now) lines.old.window given →
         IsOver start (S.left lines.new.source.now) lines.new.window given }
-    ensures quiet { result ≡ Ok Next.End → (heaps.new ≡ heaps.old) × (collector.new ≡ collector.old) × (N.telling out.new ≡ N.telling out.old) }
-    ensures still { OnErr result ((heaps.new ≡ heaps.old) × (collector.new ≡ collector.old) × (N.telling out.new ≡ N.telling out.old)) }
+    ensures quiet { result ≡ Ok Next.End → (dialect.new ≡ dialect.old) × (heaps.new ≡ heaps.old) × (collector.new ≡ collector.old) × (N.telling out.new ≡ N.telling out.old) }
+    ensures still { OnErr result ((dialect.new ≡ dialect.old) × (heaps.new ≡ heaps.old) × (collector.new ≡ collector.old) × (N.telling out.new ≡ N.telling out.old)) }
     ensures runs { RunsIn heaps.new collector.new }
     ensures limit { lines.new.window.limit ≡ lines.old.window.limit }
     ensures reads { ReadsOn (S.reads lines.old.source.now) (S.reads lines.new.source.now) lines.old.window lines.new.window }
@@ -188,11 +197,12 @@ fn answer_next<S: Source, N: Notices>(
     match lines.next()? {
         Line::End => Ok(Next::End),
         Line::TooLong => {
+            *dialect = dialect.after(None);
             out.tell(Item::Reply(Reply::Refused(Refusal::Long)));
             Ok(Next::Answered)
         }
         Line::Text => {
-            answer_text(lines.text(), heaps, collector, out);
+            answer_text(lines.text(), dialect, heaps, collector, out);
             Ok(Next::Answered)
         }
     }
@@ -215,6 +225,7 @@ fn ended_by(next: Result<Next, ReadStop>) -> Option<Status>
 /// is passed.
 fn answer_all<S: Source, N: Reports>(
     lines: &mut Lines<'_, S>,
+    dialect: &mut Dialect,
     heaps: &mut Heaps,
     collector: &mut Collector,
     out: &mut N,
@@ -222,14 +233,14 @@ fn answer_all<S: Source, N: Reports>(
     requires going { lines.old.stopped ≡ false }
     requires runs { RunsIn heaps.old collector.old }
     requires whole { (N.telling out.old).broken ≡ false }
-    ensures done { result ≡ Status.Done → Answers AreAllGiven (moment (S.left lines.old.source.now) lines.old.window (machine_of heaps.old.heap collector.old) (N.telling out.old))
-        (moment (S.left lines.new.source.now) lines.new.window (machine_of heaps.new.heap collector.new) (N.telling out.new)) }
-    ensures fault { result ≡ Status.ReadFault → Answers IsBroken (moment (S.left lines.old.source.now) lines.old.window (machine_of heaps.old.heap collector.old) (N.telling out.old))
-        (moment (S.left lines.new.source.now) lines.new.window (machine_of heaps.new.heap collector.new) (N.telling out.new)) }
-    ensures over { result ≡ Status.Limit → Answers IsOver (moment (S.left lines.old.source.now) lines.old.window (machine_of heaps.old.heap collector.old) (N.telling out.old))
-        (moment (S.left lines.new.source.now) lines.new.window (machine_of heaps.new.heap collector.new) (N.telling out.new)) }
-    ensures first { result ≡ Status.WriteFault → Answers AreFirst (moment (S.left lines.old.source.now) lines.old.window (machine_of heaps.old.heap collector.old) (N.telling out.old))
-        (moment (S.left lines.new.source.now) lines.new.window (machine_of heaps.new.heap collector.new) (N.telling out.new)) }
+    ensures done { result ≡ Status.Done → Answers AreAllGiven (moment (S.left lines.old.source.now) lines.old.window dialect.old (machine_of heaps.old.heap collector.old) (N.telling out.old))
+        (moment (S.left lines.new.source.now) lines.new.window dialect.new (machine_of heaps.new.heap collector.new) (N.telling out.new)) }
+    ensures fault { result ≡ Status.ReadFault → Answers IsBroken (moment (S.left lines.old.source.now) lines.old.window dialect.old (machine_of heaps.old.heap collector.old) (N.telling out.old))
+        (moment (S.left lines.new.source.now) lines.new.window dialect.new (machine_of heaps.new.heap collector.new) (N.telling out.new)) }
+    ensures over { result ≡ Status.Limit → Answers IsOver (moment (S.left lines.old.source.now) lines.old.window dialect.old (machine_of heaps.old.heap collector.old) (N.telling out.old))
+        (moment (S.left lines.new.source.now) lines.new.window dialect.new (machine_of heaps.new.heap collector.new) (N.telling out.new)) }
+    ensures first { result ≡ Status.WriteFault → Answers AreFirst (moment (S.left lines.old.source.now) lines.old.window dialect.old (machine_of heaps.old.heap collector.old) (N.telling out.old))
+        (moment (S.left lines.new.source.now) lines.new.window dialect.new (machine_of heaps.new.heap collector.new) (N.telling out.new)) }
 
     ensures limit { lines.new.window.limit ≡ lines.old.window.limit }
     ensures reads { ReadsOn (S.reads lines.old.source.now) (S.reads lines.new.source.now) lines.old.window lines.new.window }
@@ -245,7 +256,7 @@ fn answer_all<S: Source, N: Reports>(
     ensures sink { (N.telling out.new).sink ≡ (N.telling out.old).sink }
 {
     'lines: loop {
-        if let Some(status) = ended_by(answer_next(lines, heaps, collector, out)) {
+        if let Some(status) = ended_by(answer_next(lines, dialect, heaps, collector, out)) {
             return status;
         }
         if out.is_broken() {
@@ -269,7 +280,7 @@ pub(crate) fn answer_input<S: Source, N: Reports>(
     requires whole { (N.telling out.old).broken ≡ false }
     ensures done { result ≡ Status.Done → IsDone heaps.old.heap.limits (ends S.left S.reads (λ n. (N.telling n).told) lines.old.source.now lines.new.source.now out.old out.new) }
     ensures counted { result ≡ Status.Done → (bytes : List ℕ) → S.left lines.old.source.now ≡ Some bytes →
-        Counts heaps.old.heap.limits (asks_of version_one_forms bytes) (N.telling out.old).sums (N.telling out.new).sums }
+        Counts heaps.old.heap.limits (asks_of bytes) (N.telling out.old).sums (N.telling out.new).sums }
     ensures fault { result ≡ Status.ReadFault → StopsAtFault heaps.old.heap.limits (ends S.left S.reads (λ n. (N.telling n).told) lines.old.source.now lines.new.source.now out.old out.new) }
     ensures over { result ≡ Status.Limit → StopsAtLimit heaps.old.heap.limits (ends S.left S.reads (λ n. (N.telling n).told) lines.old.source.now lines.new.source.now out.old out.new) }
     ensures front { result ≡ Status.WriteFault → StopsAtWrite heaps.old.heap.limits (ends S.left S.reads (λ n. (N.telling n).told) lines.old.source.now lines.new.source.now out.old out.new) }
@@ -297,6 +308,7 @@ pub(crate) fn answer_input<S: Source, N: Reports>(
     ensures source { lines.new.source.ghost_name ≡ lines.old.source.ghost_name }
     ensures sink { (N.telling out.new).sink ≡ (N.telling out.old).sink }
 {
+    let mut dialect = Dialect::Start;
     let mut collector = Collector::new(alloc);
-    answer_all(lines, heaps, &mut collector, out)
+    answer_all(lines, &mut dialect, heaps, &mut collector, out)
 }

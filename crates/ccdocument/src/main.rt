@@ -10,7 +10,7 @@ ghost use Rattle.cc_document.specs.Words.{places};
 use anyhow::Result;
 use cc_document::{Document, DocumentError, PLACES, Variable};
 use cc_model::Notebook;
-use cc_names::{Limits, NativeNo, NoMemory};
+use cc_names::{Limits, NativeNo, NoMemory, SlotNo};
 use std::alloc::Global;
 use std::fmt;
 
@@ -61,7 +61,7 @@ fn read_links(document: &Document, at: Variable) -> Links {
 }
 
 /// The child at a place of the element in a variable.
-fn child(document: &Document, of: Variable, place: u8) -> Link
+fn child(document: &Document, of: Variable, place: SlotNo) -> Link
     requires { place < places }
 {
     Link(document.child(of, place))

@@ -2,7 +2,7 @@ use Rattle.std.proofs.Common.{ap, length, map, ◌∙◌}
 use Rattle.std.proofs.lemmas.List.{length-map}
 use Rattle.std.specs.List.{list_all}
 use Rattle.cc_model.specs.Asks.{ask_of}
-use Rattle.cc_model.specs.Forms.{version_one_forms}
+use Rattle.cc_model.specs.declared.dialect.Dialect.TheVariants.{One}
 use Rattle.cc_made.specs.Asked.{fills_of_eight, is_command}
 use Rattle.cc_made.specs.Made.{lines_from, seeded}
 use Rattle.cc_made.proofs.Lines.{asks-made, commands-made, drawn_lines, many-made, registers-made, tail-made}
@@ -10,7 +10,7 @@ use Rattle.cc_made.proofs.laws.made_scripts_ask_commands.Goals as goal
 
 pub returns-clause-many : goal.returns-clause-many
 returns-clause-many c = λ seed count.
-    ap length (asks-made count (seeded seed)) ∙ length-map (lines_from count (seeded seed)) (ask_of version_one_forms) ∙ many-made count (seeded seed)
+    ap length (asks-made count (seeded seed)) ∙ length-map (lines_from count (seeded seed)) (ask_of One) ∙ many-made count (seeded seed)
 
 pub returns-clause-commands : goal.returns-clause-commands
 returns-clause-commands c = λ seed count. ap (list_all is_command) (asks-made count (seeded seed)) ∙ commands-made count (seeded seed)
@@ -19,4 +19,4 @@ pub returns-clause-registers : goal.returns-clause-registers
 returns-clause-registers c = λ seed count. ap (list_all fills_of_eight) (asks-made count (seeded seed)) ∙ registers-made count (seeded seed)
 
 pub returns-clause-tail : goal.returns-clause-tail
-returns-clause-tail c = λ seed count. (map (ask_of version_one_forms) (drawn_lines count (seeded seed)), asks-made count (seeded seed) ∙ tail-made count (seeded seed))
+returns-clause-tail c = λ seed count. (map (ask_of One) (drawn_lines count (seeded seed)), asks-made count (seeded seed) ∙ tail-made count (seeded seed))

@@ -1,4 +1,5 @@
 use Rattle.std.proofs.Common.{◌≡◌, ◌≢◌, Option, Result, Ok, Err, sym, ap, subst, ◌∙◌, arith}
+use Rattle.cc_model.specs.declared.dialect.Dialect.{Dialect}
 use Rattle.cc_model.specs.Telling.{Telling}
 use Rattle.cc_reader.specs.declared.read_stop.ReadStop.{ReadStop}
 use Rattle.cc_reader.specs.declared.read_stop.ReadStop.TheVariants as stop
@@ -14,8 +15,9 @@ use Rattle.cc_replay.proofs.Answers.{Answers-none, Answers-still, Answers-more, 
 use Rattle.cc_replay.proofs.answering.answer_all.Goals as goal
 
 -- where nothing moves, the machine does not
-still_machine : {v w : Keyed} {b d : Option Built} {t u : Telling} → (w ≡ v) × (d ≡ b) × (u ≡ t) → (machine_of w.heap d ≡ machine_of v.heap b) × (u ≡ t)
-still_machine {v} {w} {b} {d} same = (ap (λ (k : Keyed). machine_of k.heap d) same.0 ∙ ap (machine_of v.heap) same.1, same.2)
+still_machine : {x y : Dialect} {v w : Keyed} {b d : Option Built} {t u : Telling} → (y ≡ x) × (w ≡ v) × (d ≡ b) × (u ≡ t) →
+    (y ≡ x) × (machine_of w.heap d ≡ machine_of v.heap b) × (u ≡ t)
+still_machine {x} {y} {v} {w} {b} {d} same = (same.0, ap (λ (k : Keyed). machine_of k.heap d) same.1 ∙ ap (machine_of v.heap) same.2, same.3)
 
 pub lines-init : goal.lines-init
 lines-init g c = search (Answers-none)

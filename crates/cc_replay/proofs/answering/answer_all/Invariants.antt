@@ -13,8 +13,8 @@ invariant-lines g l =
     let reads = g.S.Source.reads in
     let telling = g.N.Notices.telling in
     record {
-      lines : Answers HasGiven (moment (left l.fn.lines.source.now) l.fn.lines.window (machine_of l.fn.heaps.heap l.fn.collector) (telling l.fn.out))
-          (moment (left l.lines.source.now) l.lines.window (machine_of l.heaps.heap l.collector) (telling l.out));
+      lines : Answers HasGiven (moment (left l.fn.lines.source.now) l.fn.lines.window l.fn.dialect (machine_of l.fn.heaps.heap l.fn.collector) (telling l.fn.out))
+          (moment (left l.lines.source.now) l.lines.window l.dialect (machine_of l.heaps.heap l.collector) (telling l.out));
       runs : RunsIn l.heaps l.collector;
       going : l.lines.stopped ≡ false;
       limit : l.lines.window.limit ≡ l.fn.lines.window.limit;
