@@ -15,6 +15,7 @@ pub mod Checks
 pub mod Graph
 pub mod WellMade
 pub mod Reached
+pub mod Derivations
 pub mod Listed
 pub mod Lawful
 pub mod Quiet
