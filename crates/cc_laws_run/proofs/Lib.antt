@@ -51,3 +51,4 @@ pub mod WholeRuns
 pub mod Witnesses
 pub mod Face
 mod JointLists
+pub mod WalksAlike
