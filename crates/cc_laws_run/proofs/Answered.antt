@@ -36,7 +36,7 @@ use Rattle.cc_laws_heap.proofs.References.{times-some, times-cons_same, times-co
 use Rattle.cc_laws_heap.proofs.RepliesAlike.{refusal_of-alike, reply_if_taken-alike, objects-stand}
 use Rattle.cc_laws_heap.proofs.Taken.{IsTaken-from}
 use Rattle.cc_laws_heap.proofs.CommandsStand.{freed-unreached}
-use Rattle.cc_laws_run.proofs.WalksAlike.{why-alike}
+use Rattle.cc_laws_heap.proofs.WalksAlike.{why-alike}
 use Rattle.cc_laws_run.specs.Running.{IsRunning, ask_in_range, moves_no_collection}
 use Rattle.cc_laws_run.proofs.Listing.{AreListed, native-listed, length-census_order}
 use Rattle.cc_laws_run.proofs.NamesAfter.{NamesAfter, made_natives, made_scripts, effects-names}

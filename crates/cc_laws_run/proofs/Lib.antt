@@ -51,4 +51,3 @@ pub mod WholeRuns
 pub mod Witnesses
 pub mod Face
 mod JointLists
-pub mod WalksAlike
