@@ -8,5 +8,6 @@ pub mod UnitsEnd
 pub mod Replies
 pub mod Opened
 pub mod Derivations
+pub mod PathsFollow
 pub mod Leading
 pub mod MemberNodes
