@@ -84,4 +84,5 @@ pub mod StepsAlike
 pub mod CommandsStand
 pub mod GraphLeads
 pub mod WalksAlike
+pub mod LedReached
 pub mod Face

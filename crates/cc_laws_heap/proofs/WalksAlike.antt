@@ -1,8 +1,7 @@
 -- THE HEAPS DERIVE WHAT THE GRAPH DERIVES: from what is reached the walks go on alike, since it has the same places in both, and
 -- an entry of the graph that the heaps lack has a member that is not reached.
 use Rattle.std.proofs.Common.{arith, ◌≡◌, ℕ, zero, suc, ◌+◌, ◌≤◌, Bool, true, false, ◌&&◌, cond, List, [], ◌∷◌, ◌++◌, Option, Some, None, option_map, refl, sym, ◌∙◌, ap, subst, inl, inr, ◌⊎◌, ⊎_elim, count_by, append_assoc}
-use Rattle.std.proofs.lemmas.List.{map_push}
-use Rattle.std.proofs.lemmas.Bool.{and_parts, true≢false}
+use Rattle.std.proofs.lemmas.Bool.{and_parts}
 use Rattle.cc_lists.specs.Members.{Among, has}
 use Rattle.cc_lists.proofs.Members.{Among-append, Among-flat_map, has-there, has-among}
 use Rattle.cc_lists.proofs.Counting.{count_by-cons, count_by-some}
@@ -28,6 +27,7 @@ use Rattle.cc_model.specs.Derivations.{Leads, Walk, leads_made, leads_in, named,
 use Rattle.cc_model.proofs.Joints.{Gives, its_value, its_key}
 use Rattle.cc_model.proofs.Reaching.{joint-reached}
 use Rattle.cc_model.proofs.Derivations.{Follows, first-found, with_joints-keeps, with_edges-keeps, steps-step, steps-rooted, walk-goes_on, walk-rests}
+use Rattle.cc_model.proofs.PathsFollow.{AllReached, all_reached-grows}
 use Rattle.cc_model.proofs.Leading.{IsEnd, derivation-ends, heap-within}
 use Rattle.cc_laws_heap.proofs.EntryLists.{is_entry_of-own}
 use Rattle.cc_laws_heap.proofs.ReachedAlike.{ArePart-among, ArePart-none, edges_of-made, here, same_delegate}
@@ -49,22 +49,12 @@ walk-same l (suc a) (suc b) w p q = go (walk-same l a b) w.waiting refl
         first ∙ (later (walked_first l s ss w) (subst (λ (v : Walk). v.waiting ≡ []) first p) (subst (λ (v : Walk). v.waiting ≡ []) second q) ∙ sym second)
 
 module _ (h : Heap) (g : Graph) (w : IsWellFormed h) (m : IsWellMade g) (s : StandsFor h g) where
-  -- all that is found is reached
-  abbrev AllReached : List Step → Type 0
-  AllReached ss = (y : Name) → has same_name (named ss) y ≡ true → Reached g y
+  -- a walk whose steps are all reached
+  abbrev IsReached : Walk → Type 0
+  IsReached v = AllReached g (steps_of v)
 
-  -- what follows from reached steps is reached
-  follows-reached : (ss : List Step) (x : Name) (r : Reason) → Follows (leads_made g) ss x r → AllReached ss → Reached g x
-  follows-reached ss x (Root (N k)) f all = held (N k) x f
-  follows-reached ss x (Root (S k)) f all = held (S k) x f
-  follows-reached ss x (Edge y) f all = edge y x (all y f.0) f.1
-  follows-reached ss x (Pair a b) f all = joint-reached g (joint a b x) f.2 (all a f.0) (all b f.1)
-
-  reached-grows : (ss : List Step) (x : Name) (r : Reason) → has same_name (named ss) x ≡ false → Follows (leads_made g) ss x r → AllReached ss → AllReached (ss ++ (x, r) ∷ [])
-  reached-grows ss x r e f all y t = ⊎_elim
-      (λ a. all y (has-there same_name same_name-exact (named ss) y a))
-      (λ b. ⊎_elim (λ is. subst (Reached g) is (follows-reached ss x r f all)) (λ never. absurd never) b)
-      (Among-append y (named ss) (x ∷ []) (subst (Among y) (map_push (λ (t : Step). t.0) ss (x, r)) (has-among same_name same_name-exact (named (ss ++ (x, r) ∷ [])) y t)))
+  found-reached : (v : Walk) (x : Name) → IsReached v → is_found v x ≡ true → Reached g x
+  found-reached v x all f = all x (has-among same_name same_name-exact (named (steps_of v)) x f)
 
   -- what is reached has the same places in both
   places-alike : (x : Name) → Reached g x → contents ((leads_made g).places x) ≡ contents ((leads_in h).places x)
@@ -79,17 +69,17 @@ module _ (h : Heap) (g : Graph) (w : IsWellFormed h) (m : IsWellMade g) (s : Sta
       go false e = refl
 
   -- so an entry of which not both are reached gives nothing
-  idle-entry : (v : Walk) (e : Entry) → AllReached (steps_of v) → Among e g.entries → ((Reached g e.the_map) → (Reached g e.key) → ⊥) → with_joints (joints_of e) v ≡ v
+  idle-entry : (v : Walk) (e : Entry) → IsReached v → Among e g.entries → ((Reached g e.the_map) → (Reached g e.key) → ⊥) → with_joints (joints_of e) v ≡ v
   idle-entry v e all i never = by_delegate e.delegate refl
     where
       its_own : with_joint v (joint e.the_map e.key e.value) ≡ v
-      its_own = idle-joint v (joint e.the_map e.key e.value) (λ a b. never (all e.the_map a) (all e.key b))
+      its_own = idle-joint v (joint e.the_map e.key e.value) (λ a b. never (found-reached v e.the_map all a) (found-reached v e.key all b))
 
       by_delegate : (d : Option Name) → e.delegate ≡ d → with_joints (key_joint e.the_map d e.key ++ joint e.the_map e.key e.value ∷ []) v ≡ v
       by_delegate None q = its_own
       by_delegate (Some d) q =
           ap (λ u. with_joint u (joint e.the_map e.key e.value)) (idle-joint v (joint e.the_map d e.key)
-          (λ a b. never (all e.the_map a) (key e d i q (all e.the_map a) (all d b)))) ∙ its_own
+          (λ a b. never (found-reached v e.the_map all a) (key e d i q (found-reached v e.the_map all a) (found-reached v d all b)))) ∙ its_own
 
   -- what an entry gives from an object
   abbrev one : Name → Entry → Walk → Walk
@@ -103,11 +93,8 @@ module _ (h : Heap) (g : Graph) (w : IsWellFormed h) (m : IsWellMade g) (s : Sta
       go false = refl
 
   -- a walk whose steps are all reached goes on so
-  abbrev IsReached : Walk → Type 0
-  IsReached v = AllReached (steps_of v)
-
   walk-grows : (v : Walk) (x : Name) (r : Reason) → is_found v x ≡ false → Follows (leads_made g) (steps_of v) x r → IsReached v → IsReached (record v { waiting = v.waiting ++ (x, r) ∷ [] })
-  walk-grows v x r e f all = subst AllReached (append_assoc v.walked v.waiting ((x, r) ∷ [])) (reached-grows (steps_of v) x r e f all)
+  walk-grows v x r e f all = subst (AllReached g) (append_assoc v.walked v.waiting ((x, r) ∷ [])) (all_reached-grows g (steps_of v) x r e f all)
 
   one-reached : (x : Name) (v : Walk) (e : Entry) → Among e g.entries → IsReached v → IsReached (one x e v)
   one-reached x v e i all = go (is_member x e)
@@ -179,11 +166,11 @@ module _ (h : Heap) (g : Graph) (w : IsWellFormed h) (m : IsWellMade g) (s : Sta
   object-alike x v f all =
       let ys : List Name = contents ((leads_made g).places x) in
       entries-alike x h.entries g.entries all-kept (with_edges x ys v) (with_edges-keeps (leads_made g) IsReached walk-grows x ys v f (λ y i. i) all)
-      ∙ ap (λ zs. with_entries x h.entries (with_edges x zs v)) (places-alike x (all x f))
+      ∙ ap (λ zs. with_entries x h.entries (with_edges x zs v)) (places-alike x (found-reached v x all f))
 
   first-alike : (v : Walk) (t : Step) (ts : List Step) → v.waiting ≡ t ∷ ts → IsReached v → walked_first (leads_made g) t ts v ≡ walked_first (leads_in h) t ts v
   first-alike v t ts e all = object-alike t.0 (record { walked = v.walked ++ t ∷ []; waiting = ts }) (first-found v.walked t ts)
-      (subst AllReached (ap (λ q. v.walked ++ q) e ∙ sym (append_assoc v.walked (t ∷ []) ts)) all)
+      (subst (AllReached g) (ap (λ q. v.walked ++ q) e ∙ sym (append_assoc v.walked (t ∷ []) ts)) all)
 
   -- so do whole walks
   walk-alike : (n : ℕ) (v : Walk) → IsReached v → walk n (leads_made g) v ≡ walk n (leads_in h) v
@@ -195,7 +182,7 @@ module _ (h : Heap) (g : Graph) (w : IsWellFormed h) (m : IsWellMade g) (s : Sta
       go later [] e = walk-rests (suc n) (leads_made g) v e ∙ sym (walk-rests (suc n) (leads_in h) v e)
       go later (t ∷ ts) e =
           walk-goes_on n (leads_made g) v t ts e
-          ∙ (later (walked_first (leads_made g) t ts v) (steps-step (leads_made g) AllReached reached-grows v t ts e all)
+          ∙ (later (walked_first (leads_made g) t ts v) (steps-step (leads_made g) (AllReached g) (all_reached-grows g) v t ts e all)
           ∙ (ap (walk n (leads_in h)) (first-alike v t ts e all) ∙ sym (walk-goes_on n (leads_in h) v t ts e)))
 
   -- and each has steps enough
@@ -207,7 +194,7 @@ module _ (h : Heap) (g : Graph) (w : IsWellFormed h) (m : IsWellMade g) (s : Sta
   whole-alike =
       let made : Leads = leads_made g in
       let there : Leads = leads_in h in
-      let along = walk-alike made.objects (rooted made) (steps-rooted made AllReached reached-grows (λ y t. absurd (true≢false (sym t)))) in
+      let along = walk-alike made.objects (rooted made) (steps-rooted made (AllReached g) (all_reached-grows g) (λ y i. absurd i)) in
       let from = ap (walk made.objects there) rooted-alike in
       along ∙ (from ∙ walk-same there made.objects there.objects (rooted there)
       (subst (λ (v : Walk). v.waiting ≡ []) (along ∙ from) (derivation-ends made (names_of g) (graph-within g m)).rests)

@@ -21,7 +21,7 @@ use Rattle.cc_model.specs.Derivations.{Leads, leads_made, named, derivation, gro
 use Rattle.cc_model.specs.Paths as paths
 use Rattle.cc_model.specs.Paths.{IsShown, held, edge, value, key, EachFollows, IsPathTo}
 use Rattle.cc_model.proofs.Joints.{Gives, its_value, its_key, joint-cases}
-use Rattle.cc_model.proofs.Derivations.{Follows, AreFollowing, derivation-follows, derivation-distinct, needed-front}
+use Rattle.cc_model.proofs.Derivations.{Follows, AreFollowing, steps-all, derivation-follows, derivation-distinct, needed-front}
 
 -- one more step shows one more object
 shown-push : (ss : List Step) (s : Step) (y : Name) → IsShown (ss ++ s ∷ []) y → IsShown ss y ⊎ (s.0 ≡ y)
@@ -139,19 +139,38 @@ path-is_right g x led =
       last = end.last;
     }
 
--- WHAT A PATH LEADS TO IS REACHED.
-follows-reached : (g : Graph) (before : List Step) (x : Name) (r : Reason) → ((y : Name) → IsShown before y → Reached g y) → paths.Follows g before x r → Reached g x
+-- WHAT IS REACHED
+
+-- all that the steps show
+abbrev pub AllReached : Graph → List Step → Type 0
+AllReached g steps = (y : Name) → IsShown steps y → Reached g y
+
+-- what follows from reached objects is reached
+follows-reached : (g : Graph) (before : List Step) (x : Name) (r : Reason) → AllReached g before → paths.Follows g before x r → Reached g x
 follows-reached g before _ _ all (held r x e) = reached.held r x e
 follows-reached g before _ _ all (edge x y m i) = reached.edge x y (all x m) i
 follows-reached g before _ _ all (value e i a b) = reached.value e i (all e.the_map a) (all e.key b)
 follows-reached g before _ _ all (key e d i q a b) = reached.key e d i q (all e.the_map a) (all d b)
 
-all-reached : (g : Graph) (before ss : List Step) → ((y : Name) → IsShown before y → Reached g y) → EachFollows g before ss → (y : Name) → IsShown (before ++ ss) y → Reached g y
-all-reached g before [] all f y m = all y (subst (λ ts. IsShown ts y) (append-nil before) m)
-all-reached g before (s ∷ ss) all f y m = all-reached g (before ++ s ∷ []) ss
-    (λ z i. ⊎_elim (λ a. all z a) (λ is. subst (Reached g) is (follows-reached g before s.0 s.1 all f.0)) (shown-push before s z i)) f.1 y
-    (subst (λ ts. IsShown ts y) (sym (append_assoc before (s ∷ []) ss)) m)
+step-reached : (g : Graph) (before : List Step) (x : Name) (r : Reason) → paths.Follows g before x r → AllReached g before → AllReached g (before ++ (x, r) ∷ [])
+step-reached g before x r f all y m = ⊎_elim (λ a. all y a) (λ is. subst (Reached g) is (follows-reached g before x r all f)) (shown-push before (x, r) y m)
 
+-- so all that is found is,
+pub all_reached-grows : (g : Graph) (before : List Step) (x : Name) (r : Reason) → has same_name (named before) x ≡ false → Follows (leads_made g) before x r → AllReached g before →
+    AllReached g (before ++ (x, r) ∷ [])
+all_reached-grows g before x r e f all = step-reached g before x r (graph-follows g before x r f) all
+
+pub led-reached : (g : Graph) (x : Name) → is_led_to (leads_made g) x ≡ true → Reached g x
+led-reached g x led = steps-all (leads_made g) (AllReached g) (all_reached-grows g) (λ y m. absurd m) x
+    (has-among same_name same_name-exact (named (derivation (leads_made g))) x led)
+
+-- and all of a path.
+all-reached : (g : Graph) (before ss : List Step) → AllReached g before → EachFollows g before ss → AllReached g (before ++ ss)
+all-reached g before [] all f = subst (AllReached g) (sym (append-nil before)) all
+all-reached g before (s ∷ ss) all f =
+    subst (AllReached g) (append_assoc before (s ∷ []) ss) (all-reached g (before ++ s ∷ []) ss (step-reached g before s.0 s.1 f.0 all) f.1)
+
+-- WHAT A PATH LEADS TO IS REACHED.
 pub path-reached : (g : Graph) (x : Name) (steps : List Step) → IsPathTo g x steps → Reached g x
 path-reached g x steps p = all-reached g [] steps (λ y m. absurd m) p.each x
     (subst (λ ts. IsShown ts x) (sym p.last) (shown-longer p.others (x, p.why) x (inr refl)))
