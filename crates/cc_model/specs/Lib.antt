@@ -16,6 +16,7 @@ pub mod Graph
 pub mod WellMade
 pub mod Reached
 pub mod Derivations
+pub mod Paths
 pub mod Listed
 pub mod Lawful
 pub mod Quiet
