@@ -1,5 +1,5 @@
 -- ONE OBJECT CHANGED AT ITS KEY.
-use Rattle.std.proofs.Common.{◌≡◌, ◌≢◌, ℕ, ◌<◌, ◌≤◌, true, false, length, Some, None, refl, sym, ◌∙◌, ap, subst, ⊎_elim, ◌⊎◌, inl, inr, ◌==◌}
+use Rattle.std.proofs.Common.{◌≡◌, ◌≢◌, ℕ, ◌<◌, ◌≤◌, true, false, length, Some, None, refl, sym, ◌∙◌, ap, subst, ⊎_elim, ◌⊎◌, inl, inr, ◌==◌, arith}
 use Rattle.std.proofs.lemmas.Bool.{cases_lt, eq-eqb, ne_eqb}
 use Rattle.std.proofs.lemmas.Bool.Decides.{eqb_tells}
 use Rattle.std.proofs.lemmas.List.{get_or-set_same, get_or-set_other, get_or_past}
@@ -25,9 +25,7 @@ module _ (l : Lists) (p : IsPlaced l) (key : ℕ) (c d : Placed) (at : cell_at l
   other k o = get_or-set_other l.cells key k (Some d) None o
 
   cases : (k : ℕ) (b : Placed) → cell_at after.cells k ≡ Some b → ((k ≡ key) × (b ≡ d)) ⊎ (cell_at l.cells k ≡ Some b)
-  cases k b e = ⊎_elim
-      (λ t. let both : Some d ≡ Some b = sym (ap (cell_at after.cells) t.1 ∙ same) ∙ e in inl (t.1, cc))
-      (λ t. inr (sym (other k t.1) ∙ e)) (eqb_tells k key)
+  cases k b e = grind (arith, same, other, eqb_tells)
 
   pub IsPlaced-changed : length d.slots ≤ most_slots → FitsKind d.kind d.native → FitsDelegate d.kind d.delegate → IsPlaced (with_cell l key (Some d))
   IsPlaced-changed few fits stands = record {
@@ -43,15 +41,4 @@ module _ (l : Lists) (p : IsPlaced l) (key : ℕ) (c d : Placed) (at : cell_at l
 
   -- what is shown of it
   pub objects-changed : (f : Object → Object) → f (with_key key c) ≡ with_key key d → objects_of (with_cell l key (Some d)) ≡ change_object (objects_of l) key f
-  objects-changed f e = map-agree (shown_at after.cells) (λ k. changed_at key f (shown_at l.cells k)) l.order each ∙ sym (map-map (changed_at key f) (shown_at l.cells) l.order)
-    where
-      here : changed_at key f (shown_at l.cells key) ≡ with_key key d
-      here = let it : (key == key) ≡ true = eq-eqb key key refl in rw it (ap (λ o. f (with_key key (placed_or_nothing o))) at ∙ e)
-
-      there : (k : ℕ) → k ≢ key → changed_at key f (shown_at l.cells k) ≡ shown_at l.cells k
-      there k o = let it : (k == key) ≡ false = ne_eqb k key o in rw it refl
-
-      each : (k : ℕ) → Among k l.order → shown_at after.cells k ≡ changed_at key f (shown_at l.cells k)
-      each k m = ⊎_elim
-          (λ t. subst (λ j. shown_at after.cells j ≡ changed_at key f (shown_at l.cells j)) (sym t.1) (ap (λ o. with_key key (placed_or_nothing o)) same ∙ sym here))
-          (λ t. ap (λ o. with_key k (placed_or_nothing o)) (other k t.1) ∙ sym (there k t.1)) (eqb_tells k key)
+  objects-changed f e = grind (arith, map-agree, changed_at, map-map, eq-eqb, ne_eqb, same, other, eqb_tells)

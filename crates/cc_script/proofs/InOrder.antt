@@ -1,5 +1,5 @@
 -- THE COLOUR ORDER IS KEPT by each change of the objects.
-use Rattle.std.proofs.Common.{◌≡◌, ◌≢◌, ℕ, zero, suc, Bool, true, false, not, cond, List, [], ◌∷◌, ◌++◌, replicate, Option, Some, None, option_map, refl, sym, ◌∙◌, ap, subst, ⊎_elim, ◌⊎◌, inl, inr, ◌==◌}
+use Rattle.std.proofs.Common.{◌≡◌, ◌≢◌, ℕ, zero, suc, Bool, true, false, not, cond, List, [], ◌∷◌, ◌++◌, replicate, Option, Some, None, option_map, refl, sym, ◌∙◌, ap, subst, ⊎_elim, ◌⊎◌, inl, inr, ◌==◌, arith}
 use Rattle.std.specs.List.{find}
 use Rattle.std.proofs.Math.ListN.{set}
 use Rattle.std.proofs.lemmas.Bool.{ne_eqb, true≢false, false≢true}
@@ -21,11 +21,7 @@ HasColourOrder-none = record { held = λ o q m. absurd m }
 
 -- all white
 pub HasColourOrder-whitened : (objects : List Object) → HasColourOrder (whitened objects)
-HasColourOrder-whitened objects = record {
-  held = λ o q m above s.
-      let k = Among-map_cases (with_colour White) objects o m in
-      absurd (false≢true (ap (λ (z : Object). is_below White z.colour) k.2 ∙ above));
-}
+HasColourOrder-whitened objects = grind (arith, Among-map_cases, false≢true)
 
 -- one more object, which holds nothing
 pub no-slots : (n q : ℕ) → ¬ (Among (Some q) (replicate n None))
@@ -34,11 +30,7 @@ no-slots (suc n) q m = ⊎_elim (λ (e : None ≡ Some q). let bad = e in absurd
 
 find-left : {X : Type 0} (p : X → Bool) (xs ys : List X) (x : X) → find p xs ≡ Some x → find p (xs ++ ys) ≡ Some x
 find-left p [] ys x e = absurd (cc)
-find-left {X} p (z ∷ zs) ys x e = go (find-left p zs ys x) (p z) e
-  where
-    go : (find p zs ≡ Some x → find p (zs ++ ys) ≡ Some x) → (b : Bool) → cond b (Some z) (find p zs) ≡ Some x → cond b (Some z) (find p (zs ++ ys)) ≡ Some x
-    go ih true f = f
-    go ih false f = ih f
+find-left {X} p (z ∷ zs) ys x e = grind (arith, find-left p zs ys x)
 
 pub object_at-left : (objects others : List Object) (key : ℕ) (o : Object) → object_at objects key ≡ Some o → object_at (objects ++ others) key ≡ Some o
 object_at-left objects others key o e = find-left (λ (z : Object). z.key == key) objects others o e
@@ -73,12 +65,7 @@ module _ (objects : List Object) (h : HasColourOrder objects) (own : (o : Object
 
   -- what a slot then holds is what was written, or was held
   wrote-slots : (o : Object) (q : ℕ) → Among (Some q) (wrote o).slots → ((o.key ≡ key) × (x ≡ Some q)) ⊎ Among (Some q) o.slots
-  wrote-slots o q m = ⊎_elim
-      (λ t.
-      let slots : (wrote o).slots ≡ set o.slots i x = ap (λ (z : Object). z.slots) (changed_at-same key (with_slot i x) o t.1) in
-      ⊎_elim (λ e. inl (t.1, e)) (λ r. inr r) (Among-set_cases o.slots i x (Some q) (subst (λ xs. Among (Some q) xs) slots m)))
-      (λ t. let same : wrote o ≡ o = rw t.0 refl in inr (subst (λ (z : Object). Among (Some q) z.slots) same m))
-      (eqb_tells o.key key)
+  wrote-slots o q m = grind (arith, set, changed_at-same, Among-set_cases, eqb_tells)
 
   wrote-delegate : (o : Object) → (wrote o).delegate ≡ o.delegate
   wrote-delegate o = changed_where-either (λ z. z.delegate ≡ o.delegate) (λ z. z.key == key) (with_slot i x) o (λ e. refl) refl

@@ -17,14 +17,7 @@ abbrev pub no_lists : Lists
 no_lists = record { cells = []; order = [] }
 
 pub IsPlaced-none : IsPlaced no_lists
-IsPlaced-none = record {
-  in_order = λ k m. absurd m;
-  ordered = λ k c e. absurd (cc);
-  once = λ k. omega arith;
-  small = λ k c e. absurd (cc);
-  reflected = λ k c e. absurd (cc);
-  delegated = λ k c e. absurd (cc);
-}
+IsPlaced-none = grind arith
 
 -- one more
 module _ (l : Lists) (p : IsPlaced l) (key : ℕ) (d : Placed) (cells : List (Option Placed)) (vacant : cell_at l.cells key ≡ None) (at : cell_at cells key ≡ Some d)
@@ -34,9 +27,7 @@ module _ (l : Lists) (p : IsPlaced l) (key : ℕ) (d : Placed) (cells : List (Op
   other k m e = let f = p.in_order k m in let bad : None ≡ Some f.0 = sym vacant ∙ (ap (cell_at l.cells) (sym e) ∙ f.1) in absurd (cc)
 
   cases : (k : ℕ) (c : Placed) → cell_at cells k ≡ Some c → ((k ≡ key) × (c ≡ d)) ⊎ (cell_at l.cells k ≡ Some c)
-  cases k c e = ⊎_elim
-      (λ t. let both : Some d ≡ Some c = sym (ap (cell_at cells) t.1 ∙ at) ∙ e in inl (t.1, cc))
-      (λ t. inr (sym (others k t.1) ∙ e)) (eqb_tells k key)
+  cases k c e = grind (arith, eqb_tells)
 
   once : (j : ℕ) → count_by (λ k. k == j) (l.order ++ key ∷ []) ≤ 1
   once j = ⊎_elim
@@ -65,7 +56,4 @@ module _ (l : Lists) (p : IsPlaced l) (key : ℕ) (d : Placed) (cells : List (Op
   }
 
   pub objects-made : objects_of (made l cells key) ≡ objects_of l ++ with_key key d ∷ []
-  objects-made =
-      map-append (shown_at cells) l.order (key ∷ [])
-      ∙ (ap (λ os. os ++ shown_at cells key ∷ []) (map-agree (shown_at cells) (shown_at l.cells) l.order (λ k m. ap (λ o. with_key k (placed_or_nothing o)) (others k (other k m))))
-      ∙ ap (λ o. objects_of l ++ with_key key (placed_or_nothing o) ∷ []) at)
+  objects-made = grind (arith, map-append, map-agree, other)

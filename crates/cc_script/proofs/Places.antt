@@ -1,5 +1,5 @@
 -- OBJECTS BY KEY: what the list shows at a key is what stands there.
-use Rattle.std.proofs.Common.{◌≡◌, ℕ, true, false, Option, Some, None, option_map, option_and_then, is_some, refl, sym, ◌∙◌, ap, subst, ◌==◌}
+use Rattle.std.proofs.Common.{◌≡◌, ℕ, true, false, Option, Some, None, option_map, option_and_then, is_some, refl, sym, ◌∙◌, ap, subst, ◌==◌, arith}
 use Rattle.std.specs.List.{find}
 use Rattle.std.proofs.lemmas.Bool.{false≢true}
 use Rattle.cc_lists.specs.Members.{Among}
@@ -21,19 +21,11 @@ module _ (l : Lists) (p : IsPlaced l) where
   object_at-placed key c e = object_at-cell key ∙ ap (option_map (with_key key)) e
 
   pub colour_at-cell : (key : ℕ) → colour_at (objects_of l) key ≡ option_map (λ (c : Placed). c.colour) (cell_at l.cells key)
-  colour_at-cell key = ap (option_map (λ (o : Object). o.colour)) (object_at-cell key) ∙ go (cell_at l.cells key)
-    where
-      go : (o : Option Placed) → option_map (λ (o : Object). o.colour) (option_map (with_key key) o) ≡ option_map (λ (c : Placed). c.colour) o
-      go None = refl
-      go (Some c) = refl
+  colour_at-cell key = grind (arith, object_at-cell)
 
   -- a key of an object, and of none
   pub live-cell : (key : ℕ) → is_there (objects_of l) key ≡ true → (c : Placed) × (cell_at l.cells key ≡ Some c)
-  live-cell key live = go (cell_at l.cells key) refl
-    where
-      go : (o : Option Placed) → cell_at l.cells key ≡ o → (c : Placed) × (cell_at l.cells key ≡ Some c)
-      go None e = absurd (false≢true (sym (ap is_some (object_at-cell key ∙ ap (option_map (with_key key)) e)) ∙ live))
-      go (Some c) e = (c, e)
+  live-cell key live = grind (arith, false≢true, object_at-cell)
 
   pub live-some : (key : ℕ) → is_there (objects_of l) key ≡ true → is_some (cell_at l.cells key) ≡ true
   live-some key live = ap is_some (live-cell key live).1

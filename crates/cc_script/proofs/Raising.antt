@@ -38,11 +38,7 @@ module _ (g : Object → Object) (keeps_key : (o : Object) → (g o).key ≡ o.k
 
 module _ (g : Object → Object) (keeps_key : (o : Object) → (g o).key ≡ o.key) (keeps_slots : (o : Object) → (g o).slots ≡ o.slots) (objects : List Object) (q : ℕ) where
   pub slots_at-kept : slots_at (map g objects) q ≡ slots_at objects q
-  slots_at-kept = ap slots_or_none (object_at-map g keeps_key objects q) ∙ go (object_at objects q)
-    where
-      go : (o : Option Object) → slots_or_none (option_map g o) ≡ slots_or_none o
-      go None = refl
-      go (Some o) = keeps_slots o
+  slots_at-kept = grind (arith, object_at-map)
 
 -- The two cases
 
@@ -56,15 +52,11 @@ raise_key-enough to key m e = rw (e, raise_key) refl
 pub raise_key-cases : (to : Colour) (key : ℕ) (m : Marking) (P : Marking → Type 0) →
     (is_lower to (object_at m.objects key) ≡ true → P (record { objects = change_object m.objects key (raised to); waiting = m.waiting ++ key ∷ [] })) →
     (is_lower to (object_at m.objects key) ≡ false → P m) → P (raise_key to key m)
-raise_key-cases to key m P lower enough = ⊎_elim
-    (λ e. subst P (sym (raise_key-lower to key m e)) (lower e))
-    (λ e. subst P (sym (raise_key-enough to key m e)) (enough e))
-    (cases_Bool (is_lower to (object_at m.objects key)))
+raise_key-cases to key m P lower enough = grind (arith, raise_key-lower, raise_key-enough, cases_Bool)
 
 -- what is lower is there
 pub lower-some : (to : Colour) (o : Option Object) → is_lower to o ≡ true → (x : Object) × (o ≡ Some x) × (is_below x.colour to ≡ true)
-lower-some to None e = absurd (false≢true e)
-lower-some to (Some x) e = (x, refl, e)
+lower-some to o e = grind (arith, false≢true)
 
 -- What stays
 
@@ -112,12 +104,10 @@ module _ (to : Colour) (key : ℕ) where
       was o h = ⊎_elim (λ k. k) (λ k. absurd (true≢false (sym h ∙ stays o k))) (cases_Bool (lower o))
 
 pub raise_slot-there : (to : Colour) (x : Option ℕ) (m : Marking) (q : ℕ) → is_there (raise_slot to x m).objects q ≡ is_there m.objects q
-raise_slot-there to None m q = refl
-raise_slot-there to (Some key) m q = raise_key-there to key m q
+raise_slot-there to x m q = grind (arith, raise_key-there)
 
 pub raise_slot-slots : (to : Colour) (x : Option ℕ) (m : Marking) (q : ℕ) → slots_at (raise_slot to x m).objects q ≡ slots_at m.objects q
-raise_slot-slots to None m q = refl
-raise_slot-slots to (Some key) m q = raise_key-slots to key m q
+raise_slot-slots to x m q = grind (arith, raise_key-slots)
 
 -- so of many
 pub raise_each-there : (to : Colour) (xs : List (Option ℕ)) (m : Marking) (q : ℕ) → is_there (raise_each to xs m).objects q ≡ is_there m.objects q
@@ -151,8 +141,7 @@ raise_each-more to slots i m within =
 
 -- No more is to be done: an object that is raised waits, and is one less that may be raised
 pub raise_key-spends : (to : Colour) (key : ℕ) (m : Marking) → to_do to (raise_key to key m) ≤ to_do to m
-raise_key-spends to key m = raise_key-cases to key m (λ z. to_do to z ≤ to_do to m)
-    (λ e. omega (arith, fewer-lower to key m.objects e, length_push m.waiting key)) (λ e. omega arith)
+raise_key-spends to key m = grind (arith, raise_key-cases, fewer-lower, length_push)
 
 pub raise_each-spends : (to : Colour) (xs : List (Option ℕ)) (m : Marking) → to_do to (raise_each to xs m) ≤ to_do to m
 raise_each-spends to [] m = omega arith

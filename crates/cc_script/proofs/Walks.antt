@@ -1,5 +1,5 @@
 -- A WALK RAISES EXACTLY WHAT IS REACHED.
-use Rattle.std.proofs.Common.{◌≡◌, ℕ, Bool, true, false, ◌||◌, List, [], ◌∷◌, ◌++◌, Option, Some, None, option_map, refl, sym, ◌∙◌, ap, subst, ⊎_elim, ◌⊎◌, inl, inr, ◌==◌, if◌then◌else◌}
+use Rattle.std.proofs.Common.{◌≡◌, ℕ, Bool, true, false, ◌||◌, List, [], ◌∷◌, ◌++◌, Option, Some, None, option_map, refl, sym, ◌∙◌, ap, subst, ⊎_elim, ◌⊎◌, inl, inr, ◌==◌, if◌then◌else◌, arith}
 use Rattle.std.proofs.lemmas.Bool.{ne_eqb, true≢false}
 use Rattle.std.proofs.lemmas.Bool.Decides.{eqb_tells}
 use Rattle.std.proofs.lemmas.List.{map-id}
@@ -82,18 +82,7 @@ module _ (before : List Object) (root : ℕ) (to : Colour) where
 
   -- what isn't lower then
   met-enough : (keys : List ℕ) (q : ℕ) → is_lower to (object_at (raised_among keys to before) q) ≡ false → IsMet keys q
-  met-enough keys q e = go (has ◌==◌ keys q) refl
-    where
-      found : object_at (raised_among keys to before) q ≡ option_map (risen keys to) (object_at before q)
-      found = object_at-map (risen keys to) (risen-key keys to) before q
-
-      same : (a : Option Object) → object_at before q ≡ a → has ◌==◌ keys q ≡ false → option_map (risen keys to) a ≡ a
-      same None f h = refl
-      same (Some o) f h = ap Some (risen-out keys to o (ap (has ◌==◌ keys) (object_at-key before q o f) ∙ h))
-
-      go : (b : Bool) → has ◌==◌ keys q ≡ b → IsMet keys q
-      go true h = inl (has-among ◌==◌ number-exact keys q h)
-      go false h = inr (ap (is_lower to) (sym (found ∙ same (object_at before q) refl h)) ∙ e)
+  met-enough keys q e = grind (arith, object_at-map, risen-key, risen-out, object_at-key, has-among, number-exact)
 
   -- THE WALK SO FAR: these keys were raised, each is reached, and what the slots of each hold was met, but for those
   -- that wait or are in hand.
@@ -241,11 +230,7 @@ module _ (before : List Object) (root : ℕ) (to : Colour) where
         }
 
   pub walk-looked : (m : Marking) → IsWalk m → IsWalk (with_first_looked_into to m)
-  walk-looked m w = go m.waiting refl
-    where
-      go : (ks : List ℕ) → m.waiting ≡ ks → IsWalk (elim ks [ [] ↦ m | k ∷ ks ↦ raise_each to (places_at m.objects k) (record { objects = m.objects; waiting = ks }) ])
-      go [] e = w
-      go (k ∷ ks) e = walk-next m w k ks e
+  walk-looked m w = grind (arith, walk-next)
 
   -- THE END: where nothing waits, all that is reached was met
   module _ (own : (o : Object) → Among o before → object_at before o.key ≡ Some o) (ordered : HasColourOrder before) (m : Marking) (w : IsWalk m) (emptied : m.waiting ≡ []) where
@@ -278,19 +263,7 @@ module _ (before : List Object) (root : ℕ) (to : Colour) where
     reached_keys k = closure-decides ◌==◌ number-exact (reach_rules before (root ∷ [])) k
 
     each : (o : Object) → Among o before → risen keys to o ≡ risen (keys_reached before (root ∷ [])) to o
-    each o n = go (has ◌==◌ keys o.key) refl (has ◌==◌ (keys_reached before (root ∷ [])) o.key) refl
-      where
-        all : List ℕ
-        all = keys_reached before (root ∷ [])
-
-        go : (b : Bool) → has ◌==◌ keys o.key ≡ b → (c : Bool) → has ◌==◌ all o.key ≡ c → risen keys to o ≡ risen all to o
-        go true e true f = risen-in keys to o e ∙ sym (risen-in all to o f)
-        go false e false f = risen-out keys to o e ∙ sym (risen-out all to o f)
-        go true e false f = absurd (true≢false (sym ((reached_keys o.key).1 (w.marking.reached o.key (has-among ◌==◌ number-exact keys o.key e))) ∙ f))
-        go false e true f = ⊎_elim
-            (λ t. absurd (true≢false (sym (has-there ◌==◌ number-exact keys o.key t) ∙ e)))
-            (λ t. risen-out keys to o e ∙ (sym (raised-same to o (ap (is_lower to) (sym (own o n)) ∙ t)) ∙ sym (risen-in all to o f)))
-            (met o.key ((reached_keys o.key).0 f))
+    each o n = grind (arith, risen-in, risen-out, true≢false, reached_keys, has-among, number-exact, has-there, raised-same, met, w.marking.reached)
 
     pub walk-end : m.objects ≡ raised_among (keys_reached before (root ∷ [])) to before
     walk-end = w.marking.objects ∙ map-agree (risen keys to) (risen (keys_reached before (root ∷ [])) to) before each

@@ -1,5 +1,5 @@
 -- ALL OBJECTS MADE WHITE at once.
-use Rattle.std.proofs.Common.{◌≡◌, ℕ, ◌≤◌, List, map, length, Option, Some, None, option_map, refl, sym, ◌∙◌, ap, subst}
+use Rattle.std.proofs.Common.{◌≡◌, ℕ, ◌≤◌, List, map, length, Option, Some, None, option_map, refl, sym, ◌∙◌, ap, subst, arith}
 use Rattle.std.proofs.Math.ListN.{get_or-map}
 use Rattle.std.proofs.lemmas.Simd.{map-map}
 use Rattle.cc_lists.proofs.ListWrites.{map-agree}
@@ -18,19 +18,10 @@ module _ (l : Lists) (cells : List (Option Placed)) (e : cells ≡ all_white l.c
 
   -- what stands at a key was there in another colour
   was : (key : ℕ) (c : Placed) → cell_at cells key ≡ Some c → (d : Placed) × ((cell_at l.cells key ≡ Some d) × (c ≡ painted White d))
-  was key c f = go (cell_at l.cells key) refl (sym (at key) ∙ f)
-    where
-      go : (o : Option Placed) → cell_at l.cells key ≡ o → option_map (painted White) o ≡ Some c → (d : Placed) × ((cell_at l.cells key ≡ Some d) × (c ≡ painted White d))
-      go None h g = absurd (cc)
-      go (Some d) h g = (d, (h, cc))
+  was key c f = grind (arith, at)
 
   pub objects-whitened : objects_of (record { cells = cells; order = l.order }) ≡ whitened (objects_of l)
-  objects-whitened = map-agree (shown_at cells) (λ key. with_colour White (shown_at l.cells key)) l.order (λ key m. ap (λ o. with_key key (placed_or_nothing o)) (at key) ∙ white key (cell_at l.cells key))
-      ∙ sym (map-map (with_colour White) (shown_at l.cells) l.order)
-    where
-      white : (key : ℕ) (o : Option Placed) → with_key key (placed_or_nothing (option_map (painted White) o)) ≡ with_colour White (with_key key (placed_or_nothing o))
-      white key None = refl
-      white key (Some c) = refl
+  objects-whitened = grind (arith, map-agree, at, map-map)
 
   pub IsPlaced-whitened : IsPlaced l → IsPlaced (record { cells = cells; order = l.order })
   IsPlaced-whitened p = record {

@@ -1,6 +1,6 @@
 -- WHERE EACH SLOT HOLDS WHAT IS THERE, it does after each call but `remove`; and what is there stays there.
 use Rattle.cc_lists.proofs.Held.{is_some-found}
-use Rattle.std.proofs.Common.{◌≡◌, ℕ, true, List, [], ◌∷◌, ◌++◌, map, replicate, Some, None, is_some, sym, ◌∙◌, ap, subst, ⊎_elim, refl}
+use Rattle.std.proofs.Common.{◌≡◌, ℕ, true, List, [], ◌∷◌, ◌++◌, map, replicate, Some, None, is_some, sym, ◌∙◌, ap, subst, ⊎_elim, refl, arith}
 use Rattle.cc_lists.specs.Members.{Among}
 use Rattle.cc_lists.proofs.Members.{Among-append, Among-map_cases}
 use Rattle.cc_names.specs.declared.kind.Colour.{Colour}
@@ -35,10 +35,7 @@ whole-made objects o n empty delegate whole z q m s = ⊎_elim
 
 module _ (g : Object → Object) (keeps_key : (o : Object) → (g o).key ≡ o.key) (keeps_places : (o : Object) → places_of (g o) ≡ places_of o) (objects : List Object) where
   pub whole-mapped : AreWhole objects → AreWhole (map g objects)
-  whole-mapped whole o q m s =
-      let k = Among-map_cases g objects o m in
-      is_there-kept g keeps_key objects q
-      ∙ whole k.0 q k.1 (subst (λ xs. Among (Some q) xs) (ap places_of (sym k.2) ∙ keeps_places k.0) s)
+  whole-mapped whole o q m s = grind (arith, Among-map_cases, is_there-kept)
 
 pub there-whitened : (objects : List Object) (q : ℕ) → is_there (whitened objects) q ≡ is_there objects q
 there-whitened objects q = is_there-kept (with_colour White) (λ o. refl) objects q

@@ -29,10 +29,7 @@ empty-slots (suc n) = ap (λ ys. None ∷ ys) (empty-slots n)
 
 -- exactly a reflector has a native
 fits-kind : (b : Being) → FitsKind (kind_of b) (native_key_of b)
-fits-kind (being.Plain number) = (λ is. cc, λ is. cc)
-fits-kind (being.Map number) = (λ is. cc, λ is. cc)
-fits-kind (being.Proxy number delegate) = (λ is. cc, λ is. cc)
-fits-kind (being.Reflector number native) = (λ is. refl, λ is. refl)
+fits-kind b = grind arith
 
 -- exactly a proxy has a delegate
 fits-delegate : (b : Being) → FitsDelegate (kind_of b) (delegate_key_of b)
