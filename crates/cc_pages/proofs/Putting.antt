@@ -62,39 +62,39 @@ group-added {Z = Z} ps qs added k i = read-added (λ (p : Vec (Option ℕ) Z). i
 -- In all groups
 
 -- a number is its group, its page and its place
-same-number : (n m : ℕ) → n / 128 / 128 ≡ m / 128 / 128 → n / 128 % 128 ≡ m / 128 % 128 → n % 128 ≡ m % 128 → n ≡ m
+same-number : (n m : ℕ) → n / 128 / 64 ≡ m / 128 / 64 → n / 128 % 64 ≡ m / 128 % 64 → n % 128 ≡ m % 128 → n ≡ m
 same-number n m a b c = let page : n / 128 ≡ m / 128 = omega arith in omega arith
 
-module _ {X Y : Type 0} (gs : List (Vec (Vec (Option ℕ) X) Y)) (m : ℕ) (d y : Vec (Vec (Option ℕ) X) Y) (inside : m / 128 / 128 < length gs)
-    (here : d ≡ get_or gs (m / 128 / 128) d) where
-  pub groups-here : (o : Option ℕ) → in_group y.items (m / 128 % 128) (m % 128) ≡ o → in_groups (set gs (m / 128 / 128) y) m ≡ o
-  groups-here o put = read-written (λ (g : Vec (Vec (Option ℕ) X) Y). in_group g.items (m / 128 % 128) (m % 128)) gs (m / 128 / 128) y inside ∙ put
+module _ {X Y : Type 0} (gs : List (Vec (Vec (Option ℕ) X) Y)) (m : ℕ) (d y : Vec (Vec (Option ℕ) X) Y) (inside : m / 128 / 64 < length gs)
+    (here : d ≡ get_or gs (m / 128 / 64) d) where
+  pub groups-here : (o : Option ℕ) → in_group y.items (m / 128 % 64) (m % 128) ≡ o → in_groups (set gs (m / 128 / 64) y) m ≡ o
+  groups-here o put = read-written (λ (g : Vec (Vec (Option ℕ) X) Y). in_group g.items (m / 128 % 64) (m % 128)) gs (m / 128 / 64) y inside ∙ put
 
   -- numbers of other groups, and numbers of this one as far as their values stay
-  pub groups-at : (n : ℕ) → (n / 128 / 128 ≡ m / 128 / 128 → in_group y.items (n / 128 % 128) (n % 128) ≡ in_group d.items (n / 128 % 128) (n % 128)) →
-      in_groups (set gs (m / 128 / 128) y) n ≡ in_groups gs n
+  pub groups-at : (n : ℕ) → (n / 128 / 64 ≡ m / 128 / 64 → in_group y.items (n / 128 % 64) (n % 128) ≡ in_group d.items (n / 128 % 64) (n % 128)) →
+      in_groups (set gs (m / 128 / 64) y) n ≡ in_groups gs n
   groups-at n same = ⊎_elim
-      (λ t. ap (λ k. option_and_then part (slice_get (set gs (m / 128 / 128) y) k)) t.1
-      ∙ (read-written part gs (m / 128 / 128) y inside
+      (λ t. ap (λ k. option_and_then part (slice_get (set gs (m / 128 / 64) y) k)) t.1
+      ∙ (read-written part gs (m / 128 / 64) y inside
       ∙ (same t.1
-      ∙ (sym (read-at part gs (m / 128 / 128) d inside here) ∙ ap (λ k. option_and_then part (slice_get gs k)) (sym t.1)))))
-      (λ f. read-other part gs (m / 128 / 128) (n / 128 / 128) y f.1)
-      (eqb_tells (n / 128 / 128) (m / 128 / 128))
+      ∙ (sym (read-at part gs (m / 128 / 64) d inside here) ∙ ap (λ k. option_and_then part (slice_get gs k)) (sym t.1)))))
+      (λ f. read-other part gs (m / 128 / 64) (n / 128 / 64) y f.1)
+      (eqb_tells (n / 128 / 64) (m / 128 / 64))
     where
       part : Vec (Vec (Option ℕ) X) Y → Option ℕ
-      part g = in_group g.items (n / 128 % 128) (n % 128)
+      part g = in_group g.items (n / 128 % 64) (n % 128)
 
-  pub groups-others : ((k i : ℕ) → (k ≡ m / 128 % 128 → i ≡ m % 128 → ⊥) → in_group y.items k i ≡ in_group d.items k i) →
-      (n : ℕ) → n ≢ m → in_groups (set gs (m / 128 / 128) y) n ≡ in_groups gs n
-  groups-others same n other = groups-at n (λ e. same (n / 128 % 128) (n % 128) (λ a b. other (same-number n m e a b)))
+  pub groups-others : ((k i : ℕ) → (k ≡ m / 128 % 64 → i ≡ m % 128 → ⊥) → in_group y.items k i ≡ in_group d.items k i) →
+      (n : ℕ) → n ≢ m → in_groups (set gs (m / 128 / 64) y) n ≡ in_groups gs n
+  groups-others same n other = groups-at n (λ e. same (n / 128 % 64) (n % 128) (λ a b. other (same-number n m e a b)))
 
-  pub groups-kept : ((k i : ℕ) → in_group y.items k i ≡ in_group d.items k i) → (n : ℕ) → in_groups (set gs (m / 128 / 128) y) n ≡ in_groups gs n
-  groups-kept same n = groups-at n (λ e. same (n / 128 % 128) (n % 128))
+  pub groups-kept : ((k i : ℕ) → in_group y.items k i ≡ in_group d.items k i) → (n : ℕ) → in_groups (set gs (m / 128 / 64) y) n ≡ in_groups gs n
+  groups-kept same n = groups-at n (λ e. same (n / 128 % 64) (n % 128))
 
 -- empty groups have no value
 pub groups-added : {X Y : Type 0} (gs hs : List (Vec (Vec (Option ℕ) X) Y)) → HasEmpty gs hs → (n : ℕ) → in_groups hs n ≡ in_groups gs n
 groups-added {X = X} {Y = Y} gs hs added n =
-    read-added (λ (g : Vec (Vec (Option ℕ) X) Y). in_group g.items (n / 128 % 128) (n % 128)) (λ g e. ap (λ (ps : List (Vec (Option ℕ) X)). in_group ps (n / 128 % 128) (n % 128)) e) gs hs added (n / 128 / 128)
+    read-added (λ (g : Vec (Vec (Option ℕ) X) Y). in_group g.items (n / 128 % 64) (n % 128)) (λ g e. ap (λ (ps : List (Vec (Option ℕ) X)). in_group ps (n / 128 % 64) (n % 128)) e) gs hs added (n / 128 / 64)
 
 pub groups-none : {X Y : Type 0} (gs : List (Vec (Vec (Option ℕ) X) Y)) (n : ℕ) → gs ≡ [] → in_groups gs n ≡ None
 groups-none {X = X} {Y = Y} gs n none = ap (λ (hs : List (Vec (Vec (Option ℕ) X) Y)). in_groups hs n) none

@@ -10,9 +10,17 @@ in_page p i = get_or p.items i None
 abbrev pub in_group : {Z : Type 0} → List (Vec (Option ℕ) Z) → ℕ → ℕ → Option ℕ
 in_group {Z} ps k i = option_and_then (λ (p : Vec (Option ℕ) Z). in_page p i) (slice_get ps k)
 
+-- by its number within the group
+abbrev pub at_number : {Z : Type 0} → List (Vec (Option ℕ) Z) → ℕ → Option ℕ
+at_number ps m = in_group ps (m / 128) (m % 128)
+
+-- the same of the group at a place of the list of groups
+abbrev pub within_group : {X Y : Type 0} → List (Vec (Vec (Option ℕ) X) Y) → ℕ → ℕ → Option ℕ
+within_group {X} {Y} gs k m = option_and_then (λ (g : Vec (Vec (Option ℕ) X) Y). at_number g.items m) (slice_get gs k)
+
 -- and by the page's number
 abbrev pub in_page_of : {X Y : Type 0} → List (Vec (Vec (Option ℕ) X) Y) → ℕ → ℕ → Option ℕ
-in_page_of {X} {Y} gs q i = option_and_then (λ (g : Vec (Vec (Option ℕ) X) Y). in_group g.items (q % 128) i) (slice_get gs (q / 128))
+in_page_of {X} {Y} gs q i = option_and_then (λ (g : Vec (Vec (Option ℕ) X) Y). in_group g.items (q % 64) i) (slice_get gs (q / 64))
 
 -- the value of a number, whose page is that of 128 numbers
 abbrev pub in_groups : {X Y : Type 0} → List (Vec (Vec (Option ℕ) X) Y) → ℕ → Option ℕ

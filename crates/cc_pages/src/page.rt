@@ -1,5 +1,5 @@
 //! One page: the values of so many numbers that follow one another.
-ghost use Rattle.std.specs.Prelude.{◌≡◌, ℕ, ◌<◌, ◌≤◌, ◌==◌, length, if◌then◌else◌, unwrap_or, IfNone, IfOk, IfSome, OnErr, OnOk};
+ghost use Rattle.std.specs.Prelude.{◌≡◌, ℕ, ◌<◌, ◌≤◌, ◌==◌, length, if◌then◌else◌, false, IfNone, IfSome, IsTrue, OnErr, OnOk};
 ghost use Rattle.cc_pages.specs.Values.{IsFirst, in_page};
 
 use cc_names::NoMemory;
@@ -31,20 +31,16 @@ pub(crate) fn put_in_page(page: &mut Page, place: usize, value: u32) -> Result<(
     Ok(())
 }
 
-/// The value at a place, where this one stands from now on if none did. `NoMemory`, only where none did, leaves all values
-/// as they were.
-pub(crate) fn get_or_put_in_page(page: &mut Page, place: usize, value: u32) -> Result<u32, NoMemory>
-    requires { place < 128 }
-    ensures found { IfOk result (λ v. v ≡ unwrap_or (in_page page.old place) value) }
-    ensures put { IfOk result (λ v. (i : ℕ) → in_page page.new i ≡ (if place == i then Some v else in_page page.old i)) }
-    ensures err { OnErr result ((i : ℕ) → in_page page.new i ≡ in_page page.old i) }
-    ensures absent { OnErr result (in_page page.old place ≡ None) }
+/// A value stands at a place, where the page has it; else all values stay. Whether it has it.
+pub(crate) fn put_if_there_in_page(page: &mut Page, place: usize, value: u32) -> bool
+    ensures put { IsTrue result → (i : ℕ) → in_page page.new i ≡ (if place == i then Some value else in_page page.old i) }
+    ensures same { result ≡ false → (i : ℕ) → in_page page.new i ≡ in_page page.old i }
 {
-    if let Some(found) = value_in_page(page, place) {
-        return Ok(found);
+    if place >= page.len() {
+        return false;
     }
-    put_in_page(page, place, value)?;
-    Ok(value)
+    write(page, place, Some(value));
+    true
 }
 
 /// No value stands at a place. Takes no memory.

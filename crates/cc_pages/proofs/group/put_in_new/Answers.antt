@@ -1,7 +1,7 @@
 use Rattle.std.proofs.Common.{◌∙◌, Some, arith}
 use Rattle.cc_pages.proofs.Places.{err-always, err-then, ok-then}
 use Rattle.cc_pages.proofs.Putting.{groups-added, groups-here, groups-kept, groups-others}
-use Rattle.cc_pages.proofs.group.put.Goals as goal
+use Rattle.cc_pages.proofs.group.put_in_new.Goals as goal
 
 pub index_mut-group-requires : goal.index_mut-group-requires
 index_mut-group-requires c = omega (arith, c.in_ok-reach.ensures.room, c.reach.new.lists.ok.0)
