@@ -1,6 +1,6 @@
 -- A WALK over the numbers that have a value.
 use Rattle.std.specs.Prelude.{Vec, slice_get}
-use Rattle.std.proofs.Common.{◌≡◌, ℕ, ◌+◌, ◌*◌, ◌/◌, ◌%◌, ◌<◌, ◌≤◌, List, length, Option, None, option_and_then, ◌∙◌, sym, ap, ⊎_elim, arith}
+use Rattle.std.proofs.Common.{◌≡◌, ℕ, ◌+◌, ◌*◌, ◌/◌, ◌%◌, ◌<◌, ◌≤◌, List, length, Option, None, option_and_then, ◌∙◌, ap, ⊎_elim, arith}
 use Rattle.std.proofs.lemmas.Bool.{cases_lt}
 use Rattle.cc_pages.specs.Values.{IsFirst, at_number, in_group, in_groups, within_group}
 

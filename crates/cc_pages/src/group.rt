@@ -106,7 +106,23 @@ pub(crate) fn take(groups: &mut Table, number: usize)
 }
 
 /// The first value from a number on, and its number; none where there is none, of numbers that have 32 bits.
+// a number that is followed by the next one costs a look-up and no walk
 pub(crate) fn first_in(groups: &Table, start: usize) -> Option<(usize, u32)>
+    ensures found { IfSome result (λ r. IsFirst (in_groups groups.now.items) start r.0 r.1) }
+    ensures small { IfSome result (λ r. r.0 < 2 ^ 32) }
+    ensures none { IfNone result ((n : ℕ) → n < 2 ^ 32 → start ≤ n → in_groups groups.now.items n ≡ None) }
+{
+    if start < GROUPS * NUMBERS {
+        if let Some(value) = value_of(groups, start) {
+            return Some((start, value));
+        }
+    }
+    walk(groups, start)
+}
+
+/// The same, by a walk over the groups.
+#[inline(never)]
+fn walk(groups: &Table, start: usize) -> Option<(usize, u32)>
     ensures found { IfSome result (λ r. IsFirst (in_groups groups.now.items) start r.0 r.1) }
     ensures small { IfSome result (λ r. r.0 < 2 ^ 32) }
     ensures none { IfNone result ((n : ℕ) → n < 2 ^ 32 → start ≤ n → in_groups groups.now.items n ≡ None) }

@@ -1,7 +1,7 @@
 use Rattle.std.proofs.Common.{◌≤◌, ◌-◌}
 use Rattle.cc_pages.specs.Values.{in_groups}
 use Rattle.cc_pages.proofs.Walking.{AreNone}
-use Rattle.cc_pages.proofs.group.first_in.Given as goal
+use Rattle.cc_pages.proofs.group.walk.Given as goal
 
 abbrev pub invariant-loop-number : goal.invariant-loop-number
 invariant-loop-number l = record {
