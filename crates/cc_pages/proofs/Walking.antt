@@ -1,8 +1,8 @@
 -- A WALK over the numbers that have a value.
 use Rattle.std.specs.Prelude.{Vec, slice_get}
-use Rattle.std.proofs.Common.{◌≡◌, ℕ, ◌+◌, ◌*◌, ◌/◌, ◌%◌, ◌<◌, ◌≤◌, List, length, Option, None, option_and_then, ◌∙◌, ap, ⊎_elim, arith}
+use Rattle.std.proofs.Common.{◌≡◌, ℕ, ◌+◌, ◌*◌, ◌/◌, ◌%◌, ◌<◌, ◌≤◌, List, Option, None, option_and_then, ◌∙◌, ap, ⊎_elim, arith}
 use Rattle.std.proofs.lemmas.Bool.{cases_lt}
-use Rattle.cc_pages.specs.Values.{IsFirst, at_number, in_group, in_groups, within_group}
+use Rattle.cc_pages.specs.Values.{IsFirst, in_group, in_groups, within_group}
 
 -- no number from one up to another has a value
 abbrev pub AreNone : (ℕ → Option ℕ) → ℕ → ℕ → Type 0
