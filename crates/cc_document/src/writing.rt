@@ -5,6 +5,7 @@
 //! being made. So it is reached, and what script registers hold is black, as the calls of the heaps want it.
 ghost use Rattle.std.specs.Prelude.{◌≡◌, ◌≢◌, ◌<◌, ◌⊎◌, Some, Err, OnOk, OnErr};
 ghost use Rattle.cc_names.specs.declared.register.Reg.TheVariants.{S as s_register};
+ghost use Rattle.cc_names.specs.Sizes.{bank_length};
 ghost use Rattle.cc_model.specs.Heap as heap;
 ghost use Rattle.cc_model.specs.Graph.{Graph, objects_of};
 ghost use Rattle.cc_document.specs.declared.error.DocumentError.{DocumentError};
@@ -80,6 +81,7 @@ impl Parts {
     pub(crate) fn empty(&mut self, r: RegNo)
         requires shown { IsShown self.old }
         requires r { r ≢ data_register }
+        requires within { r < bank_length }
         ensures shows { ShowsAfter self.old self.new (without r) }
         ensures grows { Grows 0 self.old.heaps.heap self.new.heaps.heap }
         ensures running { self.new.running ≡ self.old.running }

@@ -4,8 +4,8 @@ use Rattle.cc_document.specs.Shown.{Shows, parts, empty_document}
 use Rattle.cc_document.proofs.Beginning.{Shows-empty, empty-idle}
 use Rattle.cc_document.proofs.document.Document.new.Goals as goal
 
-pub new_map-requires : goal.new_map-requires
-new_map-requires c = record { order = ([], c.in_ok-heaps.ensures.order) }
+pub new_map-requires-clause-order : goal.new_map-requires-clause-order
+new_map-requires-clause-order c = ([], c.in_ok-heaps.ensures.order)
 
 -- an object could be made
 room : (c : goal.After-new-running) → ¬ (c.args.limits.scripts ≤ 0)
