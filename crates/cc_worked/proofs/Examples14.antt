@@ -1,7 +1,6 @@
 -- WORKED EXAMPLES, part 14: what each writes, and that its run is lawful, quiet and passes the audit.
 -- Made by tools/worked_examples.py from examples/worked.txt.
 use Rattle.std.specs.Prelude.{◌≡◌, codes, refl}
-use Rattle.cc_model.specs.Forms.{version_one_forms}
 use Rattle.cc_worked.specs.Examples.{limits, default_limits, ample, refused_at, text_within}
 use Rattle.cc_worked.specs.Inputs as input
 use Rattle.cc_worked.specs.Works.{Works}
@@ -50,7 +49,7 @@ unfolding all_of_a_run
 input_of_exactly_the_bytes_allowed = record { writes = refl; passes = refl; audited = refl }
 
 -- An input of one byte more ends the run after the lines that end within the limit.
-pub input_of_one_byte_more : text_within version_one_forms (limits 1000000 1000000 12) ample input.input_of_one_byte_more
+pub input_of_one_byte_more : text_within (limits 1000000 1000000 12) ample input.input_of_one_byte_more
     ≡ codes "= #1\n"
 unfolding all_of_a_run
 input_of_one_byte_more = refl

@@ -35,3 +35,21 @@ pub forms_of_proxies_are_few : Works default_limits ample input.forms_of_proxies
     (codes "! line\n! line\n! line\n! line\n! line\n! line\n! line\n! line\n! line\n! line\n! line\n! empty\n")
 unfolding all_of_a_run
 forms_of_proxies_are_few = record { writes = refl; passes = refl; audited = refl }
+
+-- A script whose first line asks for version 2 has registers up to 1023 and objects of up to 256 slots.
+pub version_two_is_asked_for_first : Works default_limits ample input.version_two_is_asked_for_first
+    (codes "= ok\n= #1\n= @1\n= ok\n! slot\n= ok\n! slot\n! line\n! line\n! line\n! line\n= #2\n")
+unfolding all_of_a_run
+version_two_is_asked_for_first = record { writes = refl; passes = refl; audited = refl }
+
+-- A script that asks for nothing has 256 registers, 64 slots and no word of version 2, and can't ask later on.
+pub version_one_means_what_it_meant : Works default_limits ample input.version_one_means_what_it_meant
+    (codes "= #1\n! line\n! line\n! line\n")
+unfolding all_of_a_run
+version_one_means_what_it_meant = record { writes = refl; passes = refl; audited = refl }
+
+-- A comment before it leaves version 2 to be asked for.
+pub comment_before_version_two : Works default_limits ample input.comment_before_version_two
+    (codes "= ok\n")
+unfolding all_of_a_run
+comment_before_version_two = record { writes = refl; passes = refl; audited = refl }

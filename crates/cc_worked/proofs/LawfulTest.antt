@@ -16,7 +16,7 @@ use Rattle.cc_model.specs.declared.item.Reply.TheVariants.{Named, Nothing, Done,
 use Rattle.cc_model.specs.declared.item.Event.{Event}
 use Rattle.cc_model.specs.declared.item.Event.TheVariants.{Unlinked, Freed, Abandoned}
 use Rattle.cc_model.specs.Answers.{Answer}
-use Rattle.cc_model.specs.Asks.{Ask, long, bad, taken}
+use Rattle.cc_model.specs.Asks.{Ask, long, bad, taken, asks_of}
 use Rattle.cc_model.specs.Checks.{refusal_of}
 use Rattle.cc_model.specs.Graph.{Graph, objects_of, reply_to}
 use Rattle.cc_model.specs.Reached.{Reached, reached_names}
@@ -24,7 +24,7 @@ use Rattle.cc_model.specs.Listed.{after_event}
 use Rattle.cc_model.specs.Lawful.{State, start, next, graph_after, may_want_memory, is_without_memory, is_refused, is_abandoning, may_free, may_unlink, has_abandonment_in_place, census_of, MayBe, EachMayBe, WantsMemory, RepliesWith, AnswersCommand, ReplyAnswers, AnswersTaken, AnswersAsk, IsLawfulFrom, IsLawful}
 use Rattle.cc_model.proofs.Reaching.{reached-decided}
 use Rattle.cc_model.proofs.Replies.{is_without_memory-true}
-use Rattle.cc_worked.specs.Examples.{asks_in, answers_to, IsLawfulRun}
+use Rattle.cc_worked.specs.Examples.{answers_to, IsLawfulRun}
 use Rattle.cc_worked.specs.Verdict.{place_of_refusal, refusal_at, same_reply, same_replies, same_names, has_events, is_answer, wants_memory, replies_with, may_have, is_garbage, may_be, each_may_be, is_rising, answers_command, reply_answers, answers_taken, answers_ask, is_lawful_from, is_lawful, is_quiet, passes_verdict}
 use Rattle.cc_worked.proofs.Deciding.{both-decided, three-decided, either-decided, not-decided, itself-decided, has-decided, is_none-decided}
 
@@ -236,6 +236,6 @@ is_lawful-decided limits asks answers = is_lawful_from-decided (start limits) as
 -- A plain run that passes the verdict is lawful.
 pub run-lawful : (allowance : Allowance) (memory : List Bool) (input : List ℕ) → passes_verdict allowance memory input ≡ true → IsLawfulRun allowance memory input
 run-lawful allowance memory input h =
-    let asks = asks_in input in
+    let asks = asks_of input in
     let answers = answers_to allowance memory input in
     (is_lawful-decided allowance asks answers).0 (and_parts (is_lawful allowance asks answers) (is_quiet allowance asks answers) h).0

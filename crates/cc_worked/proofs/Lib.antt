@@ -25,4 +25,11 @@ pub mod Examples15
 pub mod Examples16
 pub mod Examples17
 pub mod Examples18
+pub mod Examples19
+pub mod Examples20
+pub mod Examples21
+pub mod Examples22
+pub mod Examples23
+pub mod Examples24
+pub mod Examples25
 pub mod Examples

@@ -8,12 +8,12 @@ use Rattle.cc_names.specs.declared.name.Name.{Name}
 use Rattle.cc_names.specs.Names.{same_name}
 use Rattle.cc_model.specs.declared.command.Command.TheVariants as command
 use Rattle.cc_model.specs.Answers.{Answer}
-use Rattle.cc_model.specs.Asks.{Ask, taken}
+use Rattle.cc_model.specs.Asks.{Ask, taken, asks_of}
 use Rattle.cc_model.specs.Reached.{Reached, reached_names}
 use Rattle.cc_model.specs.Lawful.{State, start, next, IsLawful}
 use Rattle.cc_model.specs.Quiet.{Row, nothing_yet, after_all, row_after, ListsReached, CensusIsQuiet, IsQuietFrom, IsQuiet}
 use Rattle.cc_model.proofs.Reaching.{reached-decided}
-use Rattle.cc_worked.specs.Examples.{asks_in, answers_to, IsQuietRun}
+use Rattle.cc_worked.specs.Examples.{answers_to, IsQuietRun}
 use Rattle.cc_worked.specs.Verdict.{have_same, lists_reached, census_is_quiet, is_lawful, is_quiet_from, is_quiet, verdict, passes_verdict}
 use Rattle.cc_worked.proofs.Deciding.{both-decided, has-decided, all-decided}
 use Rattle.cc_worked.proofs.LawfulTest.{is_lawful-decided}
@@ -65,4 +65,4 @@ verdict-decided limits asks answers = both-decided (is_lawful limits asks answer
 
 -- A plain run that passes the verdict is quiet.
 pub run-quiet : (allowance : Allowance) (memory : List Bool) (input : List ℕ) → passes_verdict allowance memory input ≡ true → IsQuietRun allowance memory input
-run-quiet allowance memory input h = ((verdict-decided allowance (asks_in input) (answers_to allowance memory input)).0 h).1
+run-quiet allowance memory input h = ((verdict-decided allowance (asks_of input) (answers_to allowance memory input)).0 h).1

@@ -2,13 +2,12 @@
 use Rattle.std.specs.Prelude.{ℕ, Bool, true, ◌&&◌, List, [], ◌∷◌}
 use Rattle.cc_names.specs.Allowance.{Allowance}
 use Rattle.cc_model.specs.declared.command.Command.TheVariants.{Gc}
-use Rattle.cc_model.specs.Asks.{Ask, taken}
+use Rattle.cc_model.specs.Asks.{Ask, taken, asks_of}
 use Rattle.cc_model.specs.Listed.{census_order}
 use Rattle.cc_model.specs.Lawful.{State, start, next}
 use Rattle.cc_model.specs.View.{view}
 use Rattle.cc_model.specs.Collecting.{Machine, empty_machine}
 use Rattle.cc_model.specs.Run.{do_ask, census_names}
-use Rattle.cc_worked.specs.Examples.{asks_in}
 use Rattle.cc_worked.specs.Verdict.{same_names}
 use Rattle.cc_worked.specs.HeapTests.{is_well_formed, has_counts, has_no_black_to_gray, has_colours}
 use Rattle.cc_worked.specs.SnapshotTests.{collection_is_right}
@@ -42,4 +41,4 @@ run_is_right m s asks = is_right m s && is_right_after_each m s asks
 
 -- WHETHER A SCRIPT'S PLAIN RUN PASSES THE AUDIT
 abbrev pub passes_audit : Allowance → List Bool → List ℕ → Bool
-passes_audit allowance memory input = run_is_right (empty_machine allowance memory) (start allowance) (asks_in input)
+passes_audit allowance memory input = run_is_right (empty_machine allowance memory) (start allowance) (asks_of input)

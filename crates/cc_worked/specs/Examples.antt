@@ -2,8 +2,7 @@
 use Rattle.std.specs.Prelude.{ℕ, ◌-◌, ◌^◌, Bool, true, false, List, [], ◌∷◌, ◌++◌, replicate, take}
 use Rattle.cc_names.specs.Allowance.{Allowance}
 use Rattle.cc_model.specs.Answers.{Answer, text_of_answers}
-use Rattle.cc_model.specs.Forms.{Form, version_one_forms}
-use Rattle.cc_model.specs.Asks.{Ask, asks_of, ended}
+use Rattle.cc_model.specs.Asks.{asks_of, ended}
 use Rattle.cc_model.specs.Lawful.{IsLawful}
 use Rattle.cc_model.specs.Quiet.{IsQuiet}
 use Rattle.cc_model.specs.Run.{plain_run}
@@ -23,21 +22,18 @@ ample = []
 abbrev pub refused_at : ℕ → List Bool
 refused_at k = replicate (k - 1) true ++ false ∷ []
 
--- what a script asks, where all forms of version 1 exist, and what the plain run answers
-abbrev pub asks_in : List ℕ → List Ask
-asks_in input = asks_of version_one_forms input
-
+-- what the plain run answers to a script
 abbrev pub answers_to : Allowance → List Bool → List ℕ → List Answer
-answers_to allowance memory input = plain_run allowance memory (asks_in input)
+answers_to allowance memory input = plain_run allowance memory (asks_of input)
 
 -- THE PLAIN RUN OF A SCRIPT IS LAWFUL
 abbrev pub IsLawfulRun : Allowance → List Bool → List ℕ → Type 0
-IsLawfulRun allowance memory input = IsLawful allowance (asks_in input) (answers_to allowance memory input)
+IsLawfulRun allowance memory input = IsLawful allowance (asks_of input) (answers_to allowance memory input)
 
 -- THE PLAIN RUN OF A SCRIPT IS QUIET
 abbrev pub IsQuietRun : Allowance → List Bool → List ℕ → Type 0
-IsQuietRun allowance memory input = IsQuiet allowance (asks_in input) (answers_to allowance memory input)
+IsQuietRun allowance memory input = IsQuiet allowance (asks_of input) (answers_to allowance memory input)
 
 -- what is written where the input has more bytes than may be read: of the first bytes the ended lines are answered
-abbrev pub text_within : List Form → Allowance → List Bool → List ℕ → List ℕ
-text_within forms allowance memory bytes = text_of_answers (plain_run allowance memory (ended forms (take allowance.bytes bytes)))
+abbrev pub text_within : Allowance → List Bool → List ℕ → List ℕ
+text_within allowance memory bytes = text_of_answers (plain_run allowance memory (ended (take allowance.bytes bytes)))

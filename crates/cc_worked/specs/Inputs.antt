@@ -565,3 +565,223 @@ full_proxy_preserves_nothing = codes "native n0 0\nscript s1 0\nwrap s0 n0\nprox
 -- A proxy is asked for with two script registers and nothing else.
 abbrev pub forms_of_proxies_are_few : List ℕ
 forms_of_proxies_are_few = codes "proxy\nproxy s0\nproxy n0 s0\nproxy s0 n0\nproxy s256 s0\nproxy s0 s256\nproxy s0 s1 s2\nproxy s0 none\nproxy s0 0\nProxy s0 s1\nproxy s00 s1\nproxy s255 s255\n"
+
+-- A script whose first line asks for version 2 has registers up to 1023 and objects of up to 256 slots.
+abbrev pub version_two_is_asked_for_first : List ℕ
+version_two_is_asked_for_first = codes "version 2\nnative n1023 256\nscript s1023 256\nset n1023 255 n1023\nset n1023 256 n1023\nput s1023 255 s1023\nput s1023 256 s1023\nnative n1024 0\nscript s1024 0\nnative n0 257\nscript s0 257\nnative n0 1\n"
+
+-- A script that asks for nothing has 256 registers, 64 slots and no word of version 2, and can't ask later on.
+abbrev pub version_one_means_what_it_meant : List ℕ
+version_one_means_what_it_meant = codes "native n255 64\nnative n256 0\nmove n255 0 n255 1\nversion 2\n"
+
+-- A comment before it leaves version 2 to be asked for.
+abbrev pub comment_before_version_two : List ℕ
+comment_before_version_two = codes "% c\nversion 2\n"
+
+-- Blank lines and comments in any number leave version 2 to be asked for, and spaces part its tokens too.
+abbrev pub blank_lines_before_version_two : List ℕ
+blank_lines_before_version_two = codes "\n  \n% note\n" ++ replicate 1 13 ++ codes "\n  " ++ replicate 1 13 ++ codes "\n%" ++ replicate 119 97 ++ codes "\n  version   2  \nnative n1023 0\n"
+
+-- A line that is too long makes the script one of version 1.
+abbrev pub long_line_before_version_two : List ℕ
+long_line_before_version_two = replicate 121 97 ++ codes "\nversion 2\nnative n256 0\nnative n255 65\nnative n255 64\n"
+
+-- A comment that is too long makes the script one of version 1.
+abbrev pub long_comment_before_version_two : List ℕ
+long_comment_before_version_two = codes "%" ++ replicate 120 97 ++ codes "\nversion 2\nnative n256 0\n"
+
+-- A line that is not in the grammar makes the script one of version 1.
+abbrev pub bad_line_before_version_two : List ℕ
+bad_line_before_version_two = codes "census now\nversion 2\nnative n256 0\n"
+
+-- A command makes the script one of version 1.
+abbrev pub command_before_version_two : List ℕ
+command_before_version_two = codes "census\nversion 2\nnative n256 0\n"
+
+-- A command that is refused makes the script one of version 1.
+abbrev pub refused_command_before_version_two : List ℕ
+refused_command_before_version_two = codes "preserve s0\nversion 2\nnative n256 0\n"
+
+-- No version is asked for again, and what is refused so leaves the script in version 2.
+abbrev pub version_two_is_asked_for_once : List ℕ
+version_two_is_asked_for_once = codes "version 2\nversion 2\nversion 1\nversion 3\nversion\n" ++ replicate 121 97 ++ codes "\nnative n256 65\n"
+
+-- Version 1 has no line that asks for it.
+abbrev pub version_one_is_not_asked_for : List ℕ
+version_one_is_not_asked_for = codes "version 1\nversion 2\nnative n256 0\n"
+
+-- There is no version 3, and who asks for it gets version 1.
+abbrev pub version_three_is_not_known : List ℕ
+version_three_is_not_known = codes "version 3\nversion 2\nnative n256 0\n"
+
+-- The number of the version is written without a zero before it.
+abbrev pub version_has_no_leading_zero : List ℕ
+version_has_no_leading_zero = codes "version 02\nversion 2\nnative n256 0\n"
+
+-- A version is asked for by its number.
+abbrev pub version_without_a_number : List ℕ
+version_without_a_number = codes "version\nversion 2\nnative n256 0\n"
+
+-- A version is asked for by one number.
+abbrev pub version_with_two_numbers : List ℕ
+version_with_two_numbers = codes "version 2 2\nversion 2\nnative n256 0\n"
+
+-- A tab does not part the word from its number.
+abbrev pub version_behind_a_tab : List ℕ
+version_behind_a_tab = codes "version" ++ replicate 1 9 ++ codes "2\nversion 2\nnative n256 0\n"
+
+-- The word is in lower case.
+abbrev pub version_with_a_capital_letter : List ℕ
+version_with_a_capital_letter = codes "Version 2\nversion 2\nnative n256 0\n"
+
+-- Version 2 is asked for by a line that ends with a carriage return too.
+abbrev pub version_two_with_carriage_returns : List ℕ
+version_two_with_carriage_returns = codes "version 2" ++ replicate 1 13 ++ codes "\nnative n256 0" ++ replicate 1 13 ++ codes "\n"
+
+-- One carriage return is dropped, and two of them are not.
+abbrev pub version_two_with_two_carriage_returns : List ℕ
+version_two_with_two_carriage_returns = codes "version 2" ++ replicate 1 13 ++ replicate 1 13 ++ codes "\nversion 2\nnative n256 0\n"
+
+-- Version 2 is asked for by a last line that no line feed ends.
+abbrev pub version_two_without_a_line_feed : List ℕ
+version_two_without_a_line_feed = codes "version 2"
+
+-- The lines that end within the limit are answered in version 2, where the input goes on behind it.
+abbrev pub version_two_within_the_bytes_allowed : List ℕ
+version_two_within_the_bytes_allowed = codes "version 2\nnative n256 0\ncensus\n"
+
+-- Version 2 is not asked for where its line feed is one byte more than may be read.
+abbrev pub version_two_of_one_byte_too_many : List ℕ
+version_two_of_one_byte_too_many = codes "version 2\n"
+
+-- In version 2 each form takes registers above 255.
+abbrev pub wide_registers_in_every_form : List ℕ
+wide_registers_in_every_form = codes "version 2\nnative n1000 2\nscript s1000 1\nweakmap s1001\nproxy s1002 s1000\ncopy n1001 n1000\ncopy s1003 s1000\nset n1000 0 n1001\nset n1000 1 s1003\nget n1002 n1000 0\nget s1004 n1000 1\nexpose n1000 1\nset n1000 1 none\nput s1000 0 s1001\ntake s1005 s1000 0\nput s1000 0 none\nwrap s1006 n1000\nunwrap n1003 s1006\npreserve s1006\nwset s1001 s1002 s1000\nwget s1007 s1001 s1002\nwset s1001 s1002 none\ndrop n1001\ndrop s1004\ncensus\n"
+
+-- In version 2 no form takes register 1024, at any place, nor 257 slots.
+abbrev pub register_1024_is_in_no_form : List ℕ
+register_1024_is_in_no_form = codes "version 2\nnative n1024 0\nnative n0 257\nscript s1024 0\nscript s0 257\nweakmap s1024\nproxy s1024 s0\nproxy s0 s1024\ncopy n1024 n0\ncopy n0 n1024\ncopy s1024 s0\ncopy s0 s1024\ndrop n1024\ndrop s1024\nset n1024 0 n0\nset n0 0 n1024\nset n1024 0 s0\nset n0 0 s1024\nset n1024 0 none\nget n1024 n0 0\nget n0 n1024 0\nget s1024 n0 0\nget s0 n1024 0\nput s1024 0 s0\nput s0 0 s1024\nput s1024 0 none\ntake s1024 s0 0\ntake s0 s1024 0\nwrap s1024 n0\nwrap s0 n1024\nunwrap n1024 s0\nunwrap n0 s1024\npreserve s1024\nwset s1024 s0 s0\nwset s0 s1024 s0\nwset s0 s0 s1024\nwset s1024 s0 none\nwset s0 s1024 none\nwget s1024 s0 s0\nwget s0 s1024 s0\nwget s0 s0 s1024\nexpose n1024 0\n"
+
+-- In version 1 no form takes register 256, at any place, nor 65 slots.
+abbrev pub register_256_is_in_no_form_of_version_one : List ℕ
+register_256_is_in_no_form_of_version_one = codes "native n256 0\nnative n0 65\nscript s256 0\nscript s0 65\nweakmap s256\nproxy s256 s0\nproxy s0 s256\ncopy n256 n0\ncopy n0 n256\ncopy s256 s0\ncopy s0 s256\ndrop n256\ndrop s256\nset n256 0 n0\nset n0 0 n256\nset n256 0 s0\nset n0 0 s256\nset n256 0 none\nget n256 n0 0\nget n0 n256 0\nget s256 n0 0\nget s0 n256 0\nput s256 0 s0\nput s0 0 s256\nput s256 0 none\ntake s256 s0 0\ntake s0 s256 0\nwrap s256 n0\nwrap s0 n256\nunwrap n256 s0\nunwrap n0 s256\npreserve s256\nwset s256 s0 s0\nwset s0 s256 s0\nwset s0 s0 s256\nwset s256 s0 none\nwset s0 s256 none\nwget s256 s0 s0\nwget s0 s256 s0\nwget s0 s0 s256\nexpose n256 0\n"
+
+-- Script collections and collections keep what a register above 255 holds, and take it when the register lets it go.
+abbrev pub registers_above_255_are_roots : List ℕ
+registers_above_255_are_roots = codes "version 2\nnative n1023 1\nset n1023 0 n1023\nscript s1023 0\ngc\ncollect\ngc\ncensus\ndrop n1023\ndrop s1023\ngc\ncollect\ngc\ncensus\n"
+
+-- A freed native gives up its slots above 63 as the others, in rising order.
+abbrev pub slots_above_63_are_given_up_in_rising_order : List ℕ
+slots_above_63_are_given_up_in_rising_order = codes "version 2\nnative n0 256\nnative n1 0\nnative n2 0\nnative n3 0\nset n0 255 n1\nset n0 64 n2\nset n0 63 n3\ndrop n1\ndrop n2\ndrop n3\ndrop n0\n"
+
+-- A cycle through both heaps is collected, where it goes through the last slot of a native and of a script object.
+abbrev pub last_slots_are_looked_at : List ℕ
+last_slots_are_looked_at = codes "version 2\nnative n0 256\nscript s0 256\nwrap s1 n0\nput s0 255 s1\nset n0 255 s0\ndrop n0\ndrop s0\ndrop s1\ngc\ncollect\ngc\n"
+
+-- What the last slot of the last register's native holds is moved, and its slot is empty then.
+abbrev pub last_register_and_last_slot_move : List ℕ
+last_register_and_last_slot_move = codes "version 2\nnative n1023 256\nset n1023 255 n1023\nnative n1024 0\nnative n0 257\nversion 2\nnative n0 1\nmove n0 0 n1023 255\nmove n1023 0 n0 0\nmove n1023 0 n0 0\n"
+
+-- A native that moves is freed when the slot that it moved to lets it go, and not before.
+abbrev pub move_changes_no_count : List ℕ
+move_changes_no_count = codes "version 2\nnative n0 1\nnative n1 1\nnative n2 0\nset n0 0 n2\ndrop n2\nmove n1 0 n0 0\nmove n0 0 n1 0\nget n2 n1 0\ndrop n1\nget n2 n0 0\ndrop n2\nset n0 0 none\ndrop n0\n"
+
+-- The slot that a native moves to gives up what it held, with all that this alone held.
+abbrev pub move_gives_up_what_the_slot_held : List ℕ
+move_gives_up_what_the_slot_held = codes "version 2\nnative n0 1\nnative n1 1\nnative n2 1\nnative n3 0\nset n0 0 n2\nset n2 0 n3\ndrop n2\ndrop n3\nnative n4 0\nset n1 0 n4\ndrop n4\nmove n0 0 n1 0\nget n2 n0 0\nget n3 n1 0\n"
+
+-- Where there is nothing to move, the slot that it would move to is emptied.
+abbrev pub move_of_nothing_empties_the_slot : List ℕ
+move_of_nothing_empties_the_slot = codes "version 2\nnative n0 2\nnative n1 1\nnative n2 0\nscript s0 0\nset n0 0 n2\nset n0 1 s0\ndrop n2\ndrop s0\nmove n0 0 n1 0\nmove n0 1 n1 0\nget n2 n0 0\ngc\n"
+
+-- A native moves into a slot of its own, and only itself holds it then.
+abbrev pub native_moves_into_its_own_slot : List ℕ
+native_moves_into_its_own_slot = codes "version 2\nnative n0 1\nnative n1 1\nset n1 0 n0\nmove n0 0 n1 0\ndrop n0\nget n2 n1 0\ncensus\ncollect\ncensus\n"
+
+-- What moves to where it is stays there, also where two registers name its holder.
+abbrev pub move_onto_its_own_place : List ℕ
+move_onto_its_own_place = codes "version 2\nnative n0 1\nnative n1 0\nset n0 0 n1\ndrop n1\ncopy n2 n0\nmove n0 0 n0 0\nmove n2 0 n0 0\nget n1 n0 0\ndrop n1\ndrop n2\ndrop n0\n"
+
+-- A native that moves onto itself in another slot is held by one slot then.
+abbrev pub move_onto_a_slot_that_holds_it : List ℕ
+move_onto_a_slot_that_holds_it = codes "version 2\nnative n0 2\nnative n1 0\nset n0 0 n1\nset n0 1 n1\ndrop n1\nmove n0 0 n0 1\nget n1 n0 1\nset n0 0 none\n"
+
+-- Script objects of each kind move, onto natives too, and a native moves onto a script object.
+abbrev pub all_kinds_of_objects_move : List ℕ
+all_kinds_of_objects_move = codes "version 2\nnative n0 1\nnative n1 1\nnative n2 0\nscript s0 0\nweakmap s1\nproxy s2 s0\nwrap s3 n1\nset n0 0 n2\ndrop n2\nset n1 0 s0\nmove n0 0 n1 0\nget n2 n0 0\nset n1 0 s1\nmove n0 0 n1 0\nset n1 0 s2\nmove n0 0 n1 0\nset n1 0 s3\nmove n0 0 n1 0\nget s4 n0 0\nset n1 0 n0\nmove n0 0 n1 0\nget s4 n0 0\n"
+
+-- Both registers hold natives before a slot is asked for, and both slots are there before anything moves.
+abbrev pub refused_moves_in_their_order : List ℕ
+refused_moves_in_their_order = codes "version 2\nnative n0 2\nnative n1 1\nset n1 0 n0\nmove n9 0 n1 0\nmove n0 0 n9 0\nmove n9 7 n9 7\nmove n9 0 n1 7\nmove n0 2 n1 0\nmove n0 0 n1 1\nmove n0 4294967295 n1 4294967295\nmove n0 4294967296 n9 0\nmove n0 1 n1 0\n"
+
+-- A move has a native register and a slot for each of its places, and nothing else.
+abbrev pub forms_of_moves_are_few : List ℕ
+forms_of_moves_are_few = codes "version 2\nmove\nmove n0 n1\nmove n0 0 n1\nmove n0 0 n1 0 0\nmove s0 0 n1 0\nmove n0 0 s1 0\nmove n0 none n1 0\nmove n0 0 none 0\nmove n0 0 none\nmove n1024 0 n0 0\nmove n0 0 n1024 0\nmove n0 4294967296 n1 0\nmove n0 0 n1 4294967296\nmove n0 00 n1 0\nmove n0 0 n1 -1\nMove n0 0 n1 0\nmove n0 0, n1 0\nmove n1023 0 n1023 0\n"
+
+-- A collection takes a native that only itself holds, when a move made the slot give it up.
+abbrev pub native_given_up_by_a_move_is_suspected : List ℕ
+native_given_up_by_a_move_is_suspected = codes "version 2\nnative n0 1\nnative n1 1\nnative n2 1\nset n2 0 n2\nset n0 0 n2\ndrop n2\ncollect\nmove n0 0 n1 0\ncollect\n"
+
+-- A move puts the native into the buffer without the purple mark: the collection has one node and takes three units.
+abbrev pub moved_native_is_no_candidate : List ℕ
+moved_native_is_no_candidate = codes "version 2\nnative n0 1\nnative n1 1\nnative n2 0\nset n0 0 n2\ndrop n2\ncollect\nnative n3 1\nset n3 0 n3\ndrop n3\nmove n1 0 n0 0\nslice 3\n"
+
+-- A native that was suspected is no longer, when it moves: the collection has one node and takes three units.
+abbrev pub move_ends_purple : List ℕ
+move_ends_purple = codes "version 2\nnative n0 1\nnative n1 1\nnative n2 0\nset n0 0 n2\ndrop n2\nnative n3 1\nset n3 0 n3\ndrop n3\nmove n1 0 n0 0\nslice 3\n"
+
+-- A native that moves to where it is comes into the buffer as any other that moves.
+abbrev pub move_onto_its_own_place_ends_purple : List ℕ
+move_onto_its_own_place_ends_purple = codes "version 2\nnative n0 1\nnative n1 0\nset n0 0 n1\ndrop n1\nnative n2 1\nset n2 0 n2\ndrop n2\nmove n0 0 n0 0\nslice 3\n"
+
+-- A native that a refused move would have moved is suspected still: the collection has two nodes and takes four units.
+abbrev pub refused_move_touches_nothing : List ℕ
+refused_move_touches_nothing = codes "version 2\nnative n0 1\nnative n1 0\nset n0 0 n1\ndrop n1\nnative n2 1\nset n2 0 n2\ndrop n2\nmove n0 1 n0 0\nslice 3\nslice 1\n"
+
+-- References that move from a traversed native to one that is not are noted twice, and nothing that a register reaches is unlinked.
+abbrev pub moved_to_a_native_that_is_yet_to_be_traversed : List ℕ
+moved_to_a_native_that_is_yet_to_be_traversed = codes "version 2\nnative n0 2\nnative n1 2\nset n0 0 n1\nset n0 1 n0\ncopy n2 n0\ndrop n2\ncopy n2 n1\ndrop n2\nslice 2\nmove n1 0 n0 0\nmove n1 1 n0 1\nslice 2\nget n3 n1 0\nget n4 n1 1\ncensus\ndrop n0\ndrop n1\ndrop n3\ndrop n4\ncollect\n"
+
+-- References that move from a native that is yet to be traversed to one that was are noted nowhere, and nothing is unlinked.
+abbrev pub moved_to_a_native_that_was_traversed : List ℕ
+moved_to_a_native_that_was_traversed = codes "version 2\nnative n0 2\nnative n1 2\nset n1 0 n0\nset n1 1 n1\ncopy n2 n0\ndrop n2\ncopy n2 n1\ndrop n2\nslice 2\nmove n0 0 n1 0\nmove n0 1 n1 1\nslice 2\nget n3 n0 0\nget n4 n0 1\ncensus\ndrop n0\ndrop n1\ndrop n3\ndrop n4\ncollect\n"
+
+-- References that were noted twice move back, and nothing that a register reaches is unlinked.
+abbrev pub moved_forth_and_back_between_slices : List ℕ
+moved_forth_and_back_between_slices = codes "version 2\nnative n0 2\nnative n1 2\nset n0 0 n1\nset n0 1 n0\ncopy n2 n0\ndrop n2\ncopy n2 n1\ndrop n2\nslice 2\nmove n1 0 n0 0\nmove n1 1 n0 1\nslice 1\nmove n0 0 n1 0\nmove n0 1 n1 1\nslice 1\nget n3 n0 0\nget n4 n0 1\n"
+
+-- The only reference to a native moves from a traversed native to one that is not, and the native is kept.
+abbrev pub only_reference_moves_behind_its_node : List ℕ
+only_reference_moves_behind_its_node = codes "version 2\nnative n0 1\nnative n1 1\nnative n2 0\nset n0 0 n2\ncopy n3 n0\ndrop n3\ncopy n3 n1\ndrop n3\ndrop n2\nslice 2\nmove n1 0 n0 0\nslice 2\nslice 1\nget n2 n1 0\ncensus\n"
+
+-- The only reference to a native moves from a native that is yet to be traversed to one that was, and the native is kept.
+abbrev pub only_reference_moves_before_its_node : List ℕ
+only_reference_moves_before_its_node = codes "version 2\nnative n0 1\nnative n1 1\nnative n2 0\nset n1 0 n2\ncopy n3 n0\ndrop n3\ncopy n3 n1\ndrop n3\ndrop n2\nslice 2\nmove n0 0 n1 0\nslice 2\nslice 1\nget n2 n0 0\ncensus\n"
+
+-- A candidate that moved is suspected again when the collection is abandoned: the next one has two nodes and takes four units.
+abbrev pub abandonment_suspects_a_moved_candidate : List ℕ
+abandonment_suspects_a_moved_candidate = codes "version 2\nnative n0 1\nnative n1 1\nnative n2 1\nset n2 0 n2\nset n0 0 n2\ndrop n2\nnative n3 1\nset n3 0 n3\ndrop n3\nslice 1\nmove n1 0 n0 0\nslice 1\nslice 3\nslice 1\n"
+
+-- A move is done where the next wish for memory is refused.
+abbrev pub move_takes_no_memory : List ℕ
+move_takes_no_memory = codes "version 2\nnative n0 1\nnative n1 1\nset n0 0 n1\nmove n1 0 n0 0\nnative n2 0\n"
+
+-- A gray reflector that moves is black, so a collection does not look at it before the next gc.
+abbrev pub moved_reflector_waits_for_gc : List ℕ
+moved_reflector_waits_for_gc = codes "version 2\nnative n0 2\nwrap s0 n0\nset n0 0 s0\ndrop s0\ngc\nmove n0 1 n0 0\ndrop n0\ncollect\ngc\ncollect\ngc\n"
+
+-- A gray reflector that moves to where it is is black as any other that moves.
+abbrev pub move_onto_its_own_place_exposes : List ℕ
+move_onto_its_own_place_exposes = codes "version 2\nnative n0 1\nwrap s0 n0\nset n0 0 s0\ndrop s0\ngc\nmove n0 0 n0 0\ndrop n0\ncollect\ngc\ncollect\ngc\n"
+
+-- A gray reflector moves out of a native before its node is traversed, and the native that it refers to is kept.
+abbrev pub native_lives_by_a_moved_reflector : List ℕ
+native_lives_by_a_moved_reflector = codes "version 2\nnative n0 1\nnative n1 0\nnative n2 2\nwrap s0 n1\nset n0 0 s0\nset n2 0 s0\nset n2 1 n2\ndrop s0\ndrop n1\ndrop n2\nnative n3 1\ngc\nslice 3\nmove n3 0 n0 0\nslice 10\nget s1 n3 0\nunwrap n1 s1\n"
+
+-- A gray key moves out of a native before its node is traversed, and what the value of its entry leads to is kept.
+abbrev pub value_lives_by_a_moved_key : List ℕ
+value_lives_by_a_moved_key = codes "version 2\nnative n0 1\nnative n1 0\nweakmap s0\nscript s1 0\nscript s2 1\nwrap s3 n1\nput s2 0 s3\nset n0 0 s1\nwset s0 s1 s2\ndrop s1\ndrop s2\ndrop s3\ndrop n1\nnative n3 1\ngc\nslice 1\nmove n3 0 n0 0\nslice 10\nget s1 n3 0\nwget s2 s0 s1\ntake s3 s2 0\nunwrap n1 s3\n"
+
+-- What a gray script object that moves holds in its slots is black too, and the native that this leads to is kept.
+abbrev pub move_exposes_over_slots : List ℕ
+move_exposes_over_slots = codes "version 2\nnative n0 1\nnative n1 0\nnative n2 2\nscript s1 1\nwrap s0 n1\nput s1 0 s0\nset n0 0 s1\nset n2 0 s0\nset n2 1 n2\ndrop s0\ndrop s1\ndrop n1\ndrop n2\nnative n3 1\ngc\nslice 3\nmove n3 0 n0 0\nslice 10\nget s1 n3 0\ntake s0 s1 0\nunwrap n1 s0\n"

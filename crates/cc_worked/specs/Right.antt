@@ -2,7 +2,7 @@
 use Rattle.std.specs.Prelude.{[], ◌∷◌, ◌++◌, codes, replicate}
 use Rattle.cc_names.specs.Names.{native, object, reflector}
 use Rattle.cc_model.specs.declared.item.Refusal.TheVariants.{Long, Line, NoMemory}
-use Rattle.cc_model.specs.declared.item.Reply.TheVariants.{Refused}
+use Rattle.cc_model.specs.declared.item.Reply.TheVariants.{Refused, Nothing as nothing_there}
 use Rattle.cc_model.specs.declared.item.Event.TheVariants.{Unlinked, Freed, Abandoned}
 use Rattle.cc_model.specs.Answers.{no_answer, replying}
 use Rattle.cc_worked.specs.Transcripts.{Transcript, answered, made, lists, ok, done_after, refused, without_memory}
@@ -55,6 +55,15 @@ proxy_key_goes_with_its_delegate = answered (codes "weakmap s0\nscript s1 0\npro
 abbrev pub lines_that_ask_nothing : Transcript
 lines_that_ask_nothing = answered ((replicate 121 97 ++ 10 ∷ []) ++ codes "dorp n0\n\n% drop n0\n")
     (refused Long ∷ refused Line ∷ no_answer ∷ no_answer ∷ [])
+
+-- A slot that takes something gives up what it held, which may be freed.
+abbrev pub move_frees_what_the_slot_held : Transcript
+move_frees_what_the_slot_held = answered (codes "version 2\nnative n0 1\nnative n1 0\nset n0 0 n1\ndrop n1\nnative n1 1\nmove n0 0 n1 0\n")
+    (ok ∷ made (native 1) ∷ made (native 2) ∷ ok ∷ ok ∷ made (native 3) ∷ replying (Freed (native 2) ∷ []) nothing_there ∷ [])
+
+-- Blank lines and comments leave version 2 to be asked for.
+abbrev pub version_two_behind_a_comment : Transcript
+version_two_behind_a_comment = answered (codes "% c\n\nversion 2\nnative n1023 256\n") (no_answer ∷ no_answer ∷ ok ∷ made (native 1) ∷ [])
 
 -- A census lists natives and then script objects, and a reflector that was made again goes last.
 abbrev pub census_in_order : Transcript

@@ -6,10 +6,10 @@ use Rattle.cc_model.specs.declared.item.Refusal.TheVariants.{NoMemory}
 use Rattle.cc_model.specs.declared.item.Reply.TheVariants.{Named, Done, Census, Refused}
 use Rattle.cc_model.specs.declared.item.Event.{Event}
 use Rattle.cc_model.specs.Answers.{Answer, replying, listing}
-use Rattle.cc_model.specs.Asks.{Ask}
+use Rattle.cc_model.specs.Asks.{Ask, asks_of}
 use Rattle.cc_model.specs.Lawful.{IsLawful}
 use Rattle.cc_model.specs.Quiet.{IsQuiet}
-use Rattle.cc_worked.specs.Examples.{default_limits, asks_in}
+use Rattle.cc_worked.specs.Examples.{default_limits}
 
 -- what was asked, and what was answered
 pub record Transcript : Type 0 where
@@ -18,7 +18,7 @@ pub record Transcript : Type 0 where
 
 -- a script with answers to its lines
 abbrev pub answered : List ℕ → List Answer → Transcript
-answered input answers = record { asks = asks_in input; answers = answers }
+answered input answers = record { asks = asks_of input; answers = answers }
 
 -- Answers
 

@@ -14,14 +14,14 @@ use Rattle.cc_model.specs.declared.item.Reply.TheVariants.{Named, Nothing as not
 use Rattle.cc_model.specs.declared.item.Event.{Event}
 use Rattle.cc_model.specs.declared.item.Event.TheVariants.{Unlinked, Freed, Abandoned}
 use Rattle.cc_model.specs.Answers.{Answer, no_answer, replying}
-use Rattle.cc_model.specs.Asks.{Ask, long, bad, taken}
+use Rattle.cc_model.specs.Asks.{Ask, long, bad, taken, asks_of}
 use Rattle.cc_model.specs.Checks.{refusal_of}
 use Rattle.cc_model.specs.Graph.{Graph, objects_of, reply_to}
 use Rattle.cc_model.specs.Reached.{reached_names}
 use Rattle.cc_model.specs.Listed.{after_event}
 use Rattle.cc_model.specs.Lawful.{State, start, next, graph_after, may_want_memory, is_without_memory, is_refused, is_abandoning, may_free, may_unlink, runs, unlinked_numbers, runs_allowed, has_abandonment_in_place, census_of}
 use Rattle.cc_model.specs.Quiet.{Row, nothing_yet, after_all, row_after}
-use Rattle.cc_worked.specs.Examples.{asks_in, answers_to}
+use Rattle.cc_worked.specs.Examples.{answers_to}
 
 -- Equality as tests
 
@@ -163,4 +163,4 @@ verdict limits asks answers = is_lawful limits asks answers && is_quiet limits a
 
 -- WHETHER A SCRIPT'S PLAIN RUN PASSES THE VERDICT
 abbrev pub passes_verdict : Allowance → List Bool → List ℕ → Bool
-passes_verdict allowance memory input = verdict allowance (asks_in input) (answers_to allowance memory input)
+passes_verdict allowance memory input = verdict allowance (asks_of input) (answers_to allowance memory input)

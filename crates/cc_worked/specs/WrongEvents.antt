@@ -2,7 +2,7 @@
 use Rattle.std.specs.Prelude.{[], ◌∷◌, codes}
 use Rattle.cc_names.specs.Names.{native, object, reflector}
 use Rattle.cc_model.specs.declared.item.Refusal.TheVariants.{Empty, NoMemory}
-use Rattle.cc_model.specs.declared.item.Reply.TheVariants.{Named, Refused}
+use Rattle.cc_model.specs.declared.item.Reply.TheVariants.{Named, Refused, Nothing as nothing_there}
 use Rattle.cc_model.specs.declared.item.Event.TheVariants.{Unlinked, Freed, Abandoned}
 use Rattle.cc_model.specs.Answers.{replying}
 use Rattle.cc_worked.specs.Transcripts.{Transcript, answered, made, ok, done_after, without_memory}
@@ -126,6 +126,16 @@ unlinked_by_a_drop = answered (codes "native n0 0\ndrop n0\n") (made (native 1) 
 abbrev pub unlinked_by_the_making_of_another : Transcript
 unlinked_by_the_making_of_another = answered (codes "native n0 0\ndrop n0\nnative n0 0\n")
     (made (native 1) ∷ ok ∷ replying (Unlinked (native 1) ∷ []) (Named (native 2)) ∷ [])
+
+-- A native that is moved is held by the slot that takes it.
+abbrev pub moved_native_is_freed : Transcript
+moved_native_is_freed = answered (codes "version 2\nnative n0 1\nnative n1 1\nnative n2 0\nset n0 0 n2\ndrop n2\nmove n1 0 n0 0\n")
+    (ok ∷ made (native 1) ∷ made (native 2) ∷ made (native 3) ∷ ok ∷ ok ∷ replying (Freed (native 3) ∷ []) (Named (native 3)) ∷ [])
+
+-- A move may free, and unlinks nothing.
+abbrev pub unlinked_by_a_move : Transcript
+unlinked_by_a_move = answered (codes "version 2\nnative n0 1\nnative n1 0\nset n0 0 n1\ndrop n1\nnative n1 1\nmove n0 0 n1 0\n")
+    (ok ∷ made (native 1) ∷ made (native 2) ∷ ok ∷ ok ∷ made (native 3) ∷ replying (Unlinked (native 2) ∷ []) nothing_there ∷ [])
 
 -- No script object is unlinked.
 abbrev pub script_object_is_unlinked : Transcript

@@ -53,6 +53,26 @@ comment_is_answered = answered (codes "% drop n0\n") (ok ∷ [])
 abbrev pub event_under_a_blank_line : Transcript
 event_under_a_blank_line = answered (codes "\n") (only (Abandoned ∷ []) ∷ [])
 
+-- Version 2 is asked for by a first line.
+abbrev pub version_two_is_refused : Transcript
+version_two_is_refused = answered (codes "version 2\n") (refused Line ∷ [])
+
+-- It is asked for by no other line.
+abbrev pub version_two_is_taken_twice : Transcript
+version_two_is_taken_twice = answered (codes "version 2\nversion 2\n") (ok ∷ ok ∷ [])
+
+-- A long line before it makes the script one of version 1.
+abbrev pub version_two_is_taken_behind_a_long_line : Transcript
+version_two_is_taken_behind_a_long_line = answered ((replicate 121 97 ++ 10 ∷ []) ++ codes "version 2\n") (refused Long ∷ ok ∷ [])
+
+-- Version 1 has no register 256.
+abbrev pub wide_register_is_taken_in_version_one : Transcript
+wide_register_is_taken_in_version_one = answered (codes "native n256 0\n") (made (native 1) ∷ [])
+
+-- Version 2 has one.
+abbrev pub wide_register_is_refused_in_version_two : Transcript
+wide_register_is_refused_in_version_two = answered (codes "version 2\nnative n256 0\n") (ok ∷ refused Line ∷ [])
+
 -- Replies
 
 -- A native that is made is named.
@@ -111,6 +131,20 @@ slot_of_a_proxy_is_read = answered (codes "script s0 0\nproxy s1 s0\ntake s2 s1 
 abbrev pub proxy_is_taken_for_a_map : Transcript
 proxy_is_taken_for_a_map = answered (codes "script s0 0\nproxy s1 s0\ntake s2 s1 0\n")
     (made (object 1) ∷ made (object 2) ∷ refused Kind ∷ [])
+
+-- What is moved is named.
+abbrev pub moved_native_is_not_named : Transcript
+moved_native_is_not_named = answered (codes "version 2\nnative n0 1\nset n0 0 n0\nmove n0 0 n0 0\n") (ok ∷ made (native 1) ∷ ok ∷ ok ∷ [])
+
+-- A slot from which something was moved is empty.
+abbrev pub moved_native_is_read_where_it_was : Transcript
+moved_native_is_read_where_it_was = answered (codes "version 2\nnative n0 2\nset n0 0 n0\nmove n0 1 n0 0\nget n1 n0 0\n")
+    (ok ∷ made (native 1) ∷ ok ∷ made (native 1) ∷ made (native 1) ∷ [])
+
+-- What is moved to where it is stays there.
+abbrev pub native_moved_onto_itself_is_lost : Transcript
+native_moved_onto_itself_is_lost = answered (codes "version 2\nnative n0 1\nset n0 0 n0\nmove n0 0 n0 0\nget n1 n0 0\n")
+    (ok ∷ made (native 1) ∷ ok ∷ made (native 1) ∷ replying [] nothing_there ∷ [])
 
 -- Wants of memory
 
@@ -174,6 +208,14 @@ expose_wants_memory = answered (codes "native n0 1\nexpose n0 0\n") (made (nativ
 -- Gc takes no memory.
 abbrev pub gc_wants_memory : Transcript
 gc_wants_memory = answered (codes "gc\n") (without_memory ∷ [])
+
+-- A move takes no memory.
+abbrev pub move_wants_memory : Transcript
+move_wants_memory = answered (codes "version 2\nnative n0 1\nmove n0 0 n0 0\n") (ok ∷ made (native 1) ∷ without_memory ∷ [])
+
+-- To ask for a version takes none.
+abbrev pub version_wants_memory : Transcript
+version_wants_memory = answered (codes "version 2\n") (without_memory ∷ [])
 
 -- A wrapping that the graph refuses asks no memory.
 abbrev pub refused_wrap_wants_memory : Transcript

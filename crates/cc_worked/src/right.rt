@@ -1,7 +1,7 @@
 //! Transcripts that are right, at the limits of what is lawful.
 
 ghost use Rattle.cc_worked.specs.Transcripts.{IsRight};
-ghost use Rattle.cc_worked.specs.Right.{memory_may_be_refused, reflector_may_be_refused_again, refused_collections_abandon, gc_abandons_first, two_collections_end, garbage_stays_for_a_while, value_goes_with_its_key, proxy_may_be_refused_memory, proxy_key_goes_with_its_delegate, lines_that_ask_nothing, census_in_order};
+ghost use Rattle.cc_worked.specs.Right.{memory_may_be_refused, reflector_may_be_refused_again, refused_collections_abandon, gc_abandons_first, two_collections_end, garbage_stays_for_a_while, value_goes_with_its_key, proxy_may_be_refused_memory, proxy_key_goes_with_its_delegate, lines_that_ask_nothing, move_frees_what_the_slot_held, version_two_behind_a_comment, census_in_order};
 
 /// What the clauses just allow is right.
 pub fn right_transcripts_pass()
@@ -15,5 +15,7 @@ pub fn right_transcripts_pass()
     ensures proxy_may_be_refused_memory { IsRight proxy_may_be_refused_memory }
     ensures proxy_key_goes_with_its_delegate { IsRight proxy_key_goes_with_its_delegate }
     ensures lines_that_ask_nothing { IsRight lines_that_ask_nothing }
+    ensures move_frees_what_the_slot_held { IsRight move_frees_what_the_slot_held }
+    ensures version_two_behind_a_comment { IsRight version_two_behind_a_comment }
     ensures census_in_order { IsRight census_in_order }
 {}

@@ -1,23 +1,25 @@
 //! Examples whose theorems are clauses: what they write, and that their runs are lawful and quiet.
 
 ghost use Rattle.std.specs.Prelude.{◌≡◌, ◌++◌, codes};
-ghost use Rattle.cc_model.specs.Forms.{version_one_forms};
 ghost use Rattle.cc_model.specs.Run.{plain_text};
 ghost use Rattle.cc_worked.specs.Examples.{IsLawfulRun, IsQuietRun, ample, default_limits, refused_at};
-ghost use Rattle.cc_worked.specs.Inputs.{cascade_of_two, collect_refused_at_a_node, cycle_through_a_proxy_key, cycle_through_a_reflector, cycle_through_an_entry, delegate_read_after_its_mapping_was_noted, entry_does_not_keep_its_key, gc_sweeps_three_rounds, native_lives_by_an_exposed_reflector, proxy_key_lives_as_long_as_map_and_delegate, read_between_slices, refusals_and_odd_lines, self_cycle_is_collected, self_cycle_outlives_its_register, touched_between_slices, two_cycle_takes_four_units, value_lives_by_its_mapping};
+ghost use Rattle.cc_worked.specs.Inputs.{cascade_of_two, collect_refused_at_a_node, cycle_through_a_proxy_key, cycle_through_a_reflector, cycle_through_an_entry, delegate_read_after_its_mapping_was_noted, entry_does_not_keep_its_key, gc_sweeps_three_rounds, last_register_and_last_slot_move, moved_forth_and_back_between_slices, moved_to_a_native_that_is_yet_to_be_traversed, native_lives_by_a_moved_reflector, native_lives_by_an_exposed_reflector, proxy_key_lives_as_long_as_map_and_delegate, read_between_slices, refusals_and_odd_lines, self_cycle_is_collected, self_cycle_outlives_its_register, touched_between_slices, two_cycle_takes_four_units, value_lives_by_a_moved_key, value_lives_by_its_mapping};
 
 /// What these examples write.
 pub fn examples_write_their_lines()
-    ensures self_cycle_is_collected { plain_text version_one_forms default_limits ample self_cycle_is_collected
+    ensures self_cycle_is_collected { plain_text default_limits ample self_cycle_is_collected
         ≡ codes "= #1\n= ok\n= ok\n+ #1\n= census 1\n- unlink #1\n- free #1\n= ok\n= census 0\n" }
-    ensures touched_between_slices { plain_text version_one_forms default_limits ample touched_between_slices
+    ensures touched_between_slices { plain_text default_limits ample touched_between_slices
         ≡ codes "= #1\n= ok\n= #1\n= ok\n= ok\n= #1\n= ok\n= ok\n= ok\n- unlink #1\n- free #1\n= ok\n" }
-    ensures value_lives_by_its_mapping { plain_text version_one_forms default_limits ample value_lives_by_its_mapping
+    ensures value_lives_by_its_mapping { plain_text default_limits ample value_lives_by_its_mapping
         ≡ codes "= #1\n= #2\n= @1\n= @2\n= @3\n= ~2\n= ok\n= ok\n= ok\n"
         ++ codes "= ok\n= ok\n= ok\n= ok\n= ok\n= ok\n= @2\n= @3\n= ~2\n= #2\n" }
-    ensures cycle_through_a_proxy_key { plain_text version_one_forms default_limits ample cycle_through_a_proxy_key
+    ensures cycle_through_a_proxy_key { plain_text default_limits ample cycle_through_a_proxy_key
         ≡ codes "= #1\n= ~1\n= @1\n= @2\n= @3\n= ok\n= ok\n= ok\n= ok\n= ok\n= ok\n= ok\n"
         ++ codes "- unlink #1\n= ok\n- free ~1\n- free #1\n- free @2\n- free @3\n= ok\n" }
+    ensures moved_to_a_native_that_is_yet_to_be_traversed { plain_text default_limits ample moved_to_a_native_that_is_yet_to_be_traversed
+        ≡ codes "= ok\n= #1\n= #2\n= ok\n= ok\n= #1\n= ok\n= #2\n= ok\n= ok\n= #2\n= #1\n= ok\n= #2\n= #1\n+ #1\n+ #2\n= census 2\n"
+        ++ codes "= ok\n= ok\n= ok\n= ok\n- unlink #1\n- unlink #2\n- free #1\n- free #2\n= ok\n" }
 {}
 
 /// The plain run of each of these examples is a transcript of an object graph from which nothing is freed.
@@ -37,6 +39,11 @@ pub fn examples_are_lawful()
     ensures proxy_key_lives_as_long_as_map_and_delegate { IsLawfulRun default_limits ample proxy_key_lives_as_long_as_map_and_delegate }
     ensures cycle_through_a_proxy_key { IsLawfulRun default_limits ample cycle_through_a_proxy_key }
     ensures delegate_read_after_its_mapping_was_noted { IsLawfulRun default_limits ample delegate_read_after_its_mapping_was_noted }
+    ensures last_register_and_last_slot_move { IsLawfulRun default_limits ample last_register_and_last_slot_move }
+    ensures moved_to_a_native_that_is_yet_to_be_traversed { IsLawfulRun default_limits ample moved_to_a_native_that_is_yet_to_be_traversed }
+    ensures moved_forth_and_back_between_slices { IsLawfulRun default_limits ample moved_forth_and_back_between_slices }
+    ensures native_lives_by_a_moved_reflector { IsLawfulRun default_limits ample native_lives_by_a_moved_reflector }
+    ensures value_lives_by_a_moved_key { IsLawfulRun default_limits ample value_lives_by_a_moved_key }
     ensures refusals_and_odd_lines { IsLawfulRun default_limits ample refusals_and_odd_lines }
     ensures collect_refused_at_a_node { IsLawfulRun default_limits (refused_at 3) collect_refused_at_a_node }
 {}

@@ -1,5 +1,5 @@
 use Rattle.std.specs.Prelude.{refl}
-use Rattle.cc_worked.specs.Right.{memory_may_be_refused, reflector_may_be_refused_again, refused_collections_abandon, gc_abandons_first, two_collections_end, garbage_stays_for_a_while, value_goes_with_its_key, proxy_may_be_refused_memory, proxy_key_goes_with_its_delegate, lines_that_ask_nothing, census_in_order}
+use Rattle.cc_worked.specs.Right.{memory_may_be_refused, reflector_may_be_refused_again, refused_collections_abandon, gc_abandons_first, two_collections_end, garbage_stays_for_a_while, value_goes_with_its_key, proxy_may_be_refused_memory, proxy_key_goes_with_its_delegate, lines_that_ask_nothing, move_frees_what_the_slot_held, version_two_behind_a_comment, census_in_order}
 use Rattle.cc_worked.proofs.Opened.{all_of_a_run}
 use Rattle.cc_worked.proofs.Judged.{right}
 use Rattle.cc_worked.proofs.right.right_transcripts_pass.Goals as goal
@@ -43,6 +43,14 @@ returns-clause-proxy_key_goes_with_its_delegate c = right proxy_key_goes_with_it
 pub returns-clause-lines_that_ask_nothing : goal.returns-clause-lines_that_ask_nothing
 unfolding all_of_a_run
 returns-clause-lines_that_ask_nothing c = right lines_that_ask_nothing refl
+
+pub returns-clause-move_frees_what_the_slot_held : goal.returns-clause-move_frees_what_the_slot_held
+unfolding all_of_a_run
+returns-clause-move_frees_what_the_slot_held c = right move_frees_what_the_slot_held refl
+
+pub returns-clause-version_two_behind_a_comment : goal.returns-clause-version_two_behind_a_comment
+unfolding all_of_a_run
+returns-clause-version_two_behind_a_comment c = right version_two_behind_a_comment refl
 
 pub returns-clause-census_in_order : goal.returns-clause-census_in_order
 unfolding all_of_a_run

@@ -1,4 +1,4 @@
-use Rattle.cc_worked.proofs.Examples.{cascade_of_two, self_cycle_outlives_its_register, self_cycle_is_collected, two_cycle_takes_four_units, touched_between_slices, read_between_slices, native_lives_by_an_exposed_reflector, cycle_through_a_reflector, gc_sweeps_three_rounds, entry_does_not_keep_its_key, cycle_through_an_entry, value_lives_by_its_mapping, refusals_and_odd_lines, collect_refused_at_a_node, proxy_key_lives_as_long_as_map_and_delegate, cycle_through_a_proxy_key, delegate_read_after_its_mapping_was_noted}
+use Rattle.cc_worked.proofs.Examples.{cascade_of_two, self_cycle_outlives_its_register, self_cycle_is_collected, two_cycle_takes_four_units, touched_between_slices, read_between_slices, native_lives_by_an_exposed_reflector, cycle_through_a_reflector, gc_sweeps_three_rounds, entry_does_not_keep_its_key, cycle_through_an_entry, value_lives_by_its_mapping, refusals_and_odd_lines, collect_refused_at_a_node, proxy_key_lives_as_long_as_map_and_delegate, cycle_through_a_proxy_key, delegate_read_after_its_mapping_was_noted, last_register_and_last_slot_move, moved_to_a_native_that_is_yet_to_be_traversed, moved_forth_and_back_between_slices, native_lives_by_a_moved_reflector, value_lives_by_a_moved_key}
 use Rattle.cc_worked.proofs.Working.{works-lawful}
 use Rattle.cc_worked.proofs.worked.examples_are_lawful.Goals as goal
 
@@ -52,3 +52,18 @@ returns-clause-refusals_and_odd_lines c = works-lawful refusals_and_odd_lines
 
 pub returns-clause-collect_refused_at_a_node : goal.returns-clause-collect_refused_at_a_node
 returns-clause-collect_refused_at_a_node c = works-lawful collect_refused_at_a_node
+
+pub returns-clause-last_register_and_last_slot_move : goal.returns-clause-last_register_and_last_slot_move
+returns-clause-last_register_and_last_slot_move c = works-lawful last_register_and_last_slot_move
+
+pub returns-clause-moved_to_a_native_that_is_yet_to_be_traversed : goal.returns-clause-moved_to_a_native_that_is_yet_to_be_traversed
+returns-clause-moved_to_a_native_that_is_yet_to_be_traversed c = works-lawful moved_to_a_native_that_is_yet_to_be_traversed
+
+pub returns-clause-moved_forth_and_back_between_slices : goal.returns-clause-moved_forth_and_back_between_slices
+returns-clause-moved_forth_and_back_between_slices c = works-lawful moved_forth_and_back_between_slices
+
+pub returns-clause-native_lives_by_a_moved_reflector : goal.returns-clause-native_lives_by_a_moved_reflector
+returns-clause-native_lives_by_a_moved_reflector c = works-lawful native_lives_by_a_moved_reflector
+
+pub returns-clause-value_lives_by_a_moved_key : goal.returns-clause-value_lives_by_a_moved_key
+returns-clause-value_lives_by_a_moved_key c = works-lawful value_lives_by_a_moved_key

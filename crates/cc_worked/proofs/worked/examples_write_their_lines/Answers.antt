@@ -1,4 +1,4 @@
-use Rattle.cc_worked.proofs.Examples.{self_cycle_is_collected, touched_between_slices, value_lives_by_its_mapping, cycle_through_a_proxy_key}
+use Rattle.cc_worked.proofs.Examples.{self_cycle_is_collected, touched_between_slices, value_lives_by_its_mapping, cycle_through_a_proxy_key, moved_to_a_native_that_is_yet_to_be_traversed}
 use Rattle.cc_worked.proofs.worked.examples_write_their_lines.Goals as goal
 
 pub returns-clause-self_cycle_is_collected : goal.returns-clause-self_cycle_is_collected
@@ -12,3 +12,6 @@ returns-clause-value_lives_by_its_mapping c = value_lives_by_its_mapping.writes
 
 pub returns-clause-cycle_through_a_proxy_key : goal.returns-clause-cycle_through_a_proxy_key
 returns-clause-cycle_through_a_proxy_key c = cycle_through_a_proxy_key.writes
+
+pub returns-clause-moved_to_a_native_that_is_yet_to_be_traversed : goal.returns-clause-moved_to_a_native_that_is_yet_to_be_traversed
+returns-clause-moved_to_a_native_that_is_yet_to_be_traversed c = moved_to_a_native_that_is_yet_to_be_traversed.writes

@@ -1,5 +1,5 @@
 use Rattle.std.specs.Prelude.{refl}
-use Rattle.cc_worked.specs.WrongReplies.{another_reply, number_used_again, number_left_out, number_taken_without_memory, slot_is_read_as_empty, refused_without_cause, done_in_place_of_a_refusal, refused_for_another_cause, taken_out_entry_is_read, entry_of_another_map_is_taken_out, entry_of_another_key_is_taken_out, slot_of_a_proxy_is_read, proxy_is_taken_for_a_map}
+use Rattle.cc_worked.specs.WrongReplies.{another_reply, number_used_again, number_left_out, number_taken_without_memory, slot_is_read_as_empty, refused_without_cause, done_in_place_of_a_refusal, refused_for_another_cause, taken_out_entry_is_read, entry_of_another_map_is_taken_out, entry_of_another_key_is_taken_out, slot_of_a_proxy_is_read, proxy_is_taken_for_a_map, moved_native_is_not_named, moved_native_is_read_where_it_was, native_moved_onto_itself_is_lost}
 use Rattle.cc_worked.proofs.Opened.{all_of_a_run}
 use Rattle.cc_worked.proofs.Judged.{unlawful-at_its_end}
 use Rattle.cc_worked.proofs.wrong.wrong_replies_are_refused.Goals as goal
@@ -55,3 +55,15 @@ returns-clause-slot_of_a_proxy_is_read c = unlawful-at_its_end slot_of_a_proxy_i
 pub returns-clause-proxy_is_taken_for_a_map : goal.returns-clause-proxy_is_taken_for_a_map
 unfolding all_of_a_run
 returns-clause-proxy_is_taken_for_a_map c = unlawful-at_its_end proxy_is_taken_for_a_map refl refl refl
+
+pub returns-clause-moved_native_is_not_named : goal.returns-clause-moved_native_is_not_named
+unfolding all_of_a_run
+returns-clause-moved_native_is_not_named c = unlawful-at_its_end moved_native_is_not_named refl refl refl
+
+pub returns-clause-moved_native_is_read_where_it_was : goal.returns-clause-moved_native_is_read_where_it_was
+unfolding all_of_a_run
+returns-clause-moved_native_is_read_where_it_was c = unlawful-at_its_end moved_native_is_read_where_it_was refl refl refl
+
+pub returns-clause-native_moved_onto_itself_is_lost : goal.returns-clause-native_moved_onto_itself_is_lost
+unfolding all_of_a_run
+returns-clause-native_moved_onto_itself_is_lost c = unlawful-at_its_end native_moved_onto_itself_is_lost refl refl refl
