@@ -1,6 +1,6 @@
 -- THE STEPS THAT LEAD TO AN OBJECT ARE A PATH: each follows from those before it, no name comes twice, and the object comes last;
 -- and what a path leads to is reached.
-use Rattle.std.proofs.Common.{◌≡◌, ◌≤◌, ℕ, Bool, true, false, ◌||◌, List, [], ◌∷◌, ◌++◌, refl, sym, ◌∙◌, ap, subst, inl, inr, ◌⊎◌, ⊎_elim, arith, count_by, append_assoc}
+use Rattle.std.proofs.Common.{◌≡◌, ◌≤◌, Bool, true, false, List, [], ◌∷◌, ◌++◌, refl, sym, ◌∙◌, ap, subst, inl, inr, ◌⊎◌, ⊎_elim, arith, count_by, append_assoc}
 use Rattle.std.proofs.lemmas.Bool.{true≢false}
 use Rattle.std.proofs.lemmas.List.{map_push, append-nil}
 use Rattle.cc_lists.specs.Members.{Among, has}
@@ -61,7 +61,7 @@ needed-follows l before (s ∷ ss) wanted kept f h =
     go n later true e h = (
       follows-kept l before kept s.0 s.1 f.0 (λ y a i. h y a (Among-left y (grounds s.1) n.wanted i)),
       later (kept ++ s ∷ []) (λ y a i. shown-longer kept s y
-      (⊎_elim (λ b. inl (h y b (Among-right y (grounds s.1) n.wanted i))) (λ is. inr is) (shown-push before s y a))),
+          (⊎_elim (λ b. inl (h y b (Among-right y (grounds s.1) n.wanted i))) (λ is. inr is) (shown-push before s y a))),
     )
     go n later false e h = later kept (λ y a i. ⊎_elim (λ b. h y b i)
         (λ is. absurd (true≢false (sym (has-there same_name same_name-exact n.wanted s.0 (subst (λ z. Among z n.wanted) (sym is) i)) ∙ e))) (shown-push before s y a))
