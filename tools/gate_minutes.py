@@ -1,7 +1,7 @@
 #!/usr/bin/env python3
 """Measures the gate: how long a run takes, and what of it.
 
-    tools/gate_minutes.py LOG -- COMMAND ..   runs the command (rt ci --anew) at the top of the repository, writes what it says
+    tools/gate_minutes.py LOG -- COMMAND ..   runs the command (rt ci) at the top of the repository, writes what it says
                                               to LOG with a clock, and prints the figures; ends with its status
     tools/gate_minutes.py LOG                 prints the figures of a log that was written so
 

@@ -119,10 +119,9 @@ impl Roots {
     /// The chain has one native more at its end, and so 255 roots more, which hold nothing.
     pub fn grow<N: Notices>(&mut self, out: &mut N) -> Result<Name, MakeStop> {
         let made = self.make(JOINING, MOST_SLOTS, out)?;
-        if self.natives == 0 {
-            self.begin(out);
-        } else {
-            self.store(self.natives - 1, NEXT, JOINING, out);
+        match self.natives.checked_sub(1) {
+            None => self.begin(out),
+            Some(last) => self.store(last, NEXT, JOINING, out),
         }
         self.let_go(JOINING, out);
         self.natives = self.natives.saturating_add(1);

@@ -17,19 +17,11 @@ use Rattle.cc_graph.proofs.Lists.{each-set, each-added, among-at}
 
 -- a place one further on, in a list one longer
 next-place : (n l : ℕ) → cond (nat_lt (1 + n) (suc l)) (Some (1 + n)) None ≡ option_map suc (cond (nat_lt n l) (Some n) None)
-next-place n l = let e : 1 + n ≡ suc n = omega arith in ⊎_elim
-    (λ t. let less : n < l = ltb-true n l t in rw (t, lt-ltb (1 + n) (suc l) (omega arith)) (ap Some e))
-    (λ f. let more : l ≤ n = ltb-false n l f in rw (f, le-ltb (1 + n) (suc l) (omega arith)) refl)
-    (cases_Bool (nat_lt n l))
+next-place n l = grind (arith, ltb-true, lt-ltb, ltb-false, le-ltb, cases_Bool)
 
 -- by the first element
 pub position-cons : {X : Type 0} (p : X → Bool) (x : X) (xs : List X) → position p (x ∷ xs) ≡ cond (p x) (Some 0) (option_map suc (position p xs))
-position-cons p x xs = go (p x)
-  where
-    go : (b : Bool) → cond (nat_lt (cond (not b) (1 + position_or_len p xs) 0) (suc (length xs))) (Some (cond (not b) (1 + position_or_len p xs) 0)) None ≡
-        cond b (Some 0) (option_map suc (position p xs))
-    go true = rw (lt-ltb 0 (suc (length xs)) (omega arith)) refl
-    go false = next-place (position_or_len p xs) (length xs)
+position-cons p x xs = grind (arith, lt-ltb, next-place)
 
 -- a place, or where there is none that of one that stands last, if it passes
 abbrev pub or_place : Option ℕ → Bool → ℕ → Option ℕ
@@ -37,75 +29,30 @@ or_place (Some k) passes n = Some k
 or_place None passes n = cond passes (Some n) None
 
 pub position-pushed : {X : Type 0} (p : X → Bool) (xs : List X) (y : X) → position p (xs ++ y ∷ []) ≡ or_place (position p xs) (p y) (length xs)
-position-pushed p [] y = position-cons p y [] ∙ go (p y)
-  where
-    go : (b : Bool) → cond {A = Option ℕ} b (Some 0) (option_map suc None) ≡ cond b (Some 0) None
-    go true = refl
-    go false = refl
-position-pushed p (x ∷ xs) y =
-    position-cons p x (xs ++ y ∷ [])
-    ∙ (ap (λ o. cond (p x) (Some 0) (option_map suc o)) (position-pushed p xs y)
-    ∙ (go (p x) (position p xs) (p y)
-    ∙ ap (λ o. or_place o (p y) (suc (length xs))) (sym (position-cons p x xs))))
-  where
-    go : (b : Bool) (o : Option ℕ) (c : Bool) → cond b (Some 0) (option_map suc (or_place o c (length xs))) ≡ or_place (cond b (Some 0) (option_map suc o)) c (suc (length xs))
-    go true o c = refl
-    go false (Some k) c = refl
-    go false None true = refl
-    go false None false = refl
+position-pushed p [] y = grind (arith, position-cons)
+position-pushed p (x ∷ xs) y = grind (arith, position-cons, position-pushed p xs y)
 
 -- where there is none, no element passes
 pub position-passed : {X : Type 0} (p : X → Bool) (xs : List X) (k : ℕ) (d : X) → position p xs ≡ None → k < length xs → p (get_or xs k d) ≡ false
 position-passed p [] k d e l = absurd (omega (arith, l))
-position-passed {X} p (x ∷ xs) k d e l = go (λ j q. position-passed p xs j d q) k l (p x) refl (position p xs) refl (sym (position-cons p x xs) ∙ e)
-  where
-    go : ((j : ℕ) → position p xs ≡ None → j < length xs → p (get_or xs j d) ≡ false) → (k : ℕ) → k < length (x ∷ xs) → (b : Bool) → p x ≡ b → (o : Option ℕ) → position p xs ≡ o → cond b (Some 0) (option_map suc o) ≡ None →
-        p (get_or (x ∷ xs) k d) ≡ false
-    go ih k l true f o q h = absurd (cc)
-    go ih k l false f (Some j) q h = absurd (cc)
-    go ih zero l false f None q h = f
-    go ih (suc k) l false f None q h = ih k q (omega (arith, l))
+position-passed {X} p (x ∷ xs) k d e l = grind (arith, position-cons, position-passed p xs)
 
 -- where there is one, its element passes
 pub position-passes : {X : Type 0} (p : X → Bool) (xs : List X) (k : ℕ) (d : X) → position p xs ≡ Some k → (k < length xs) × (p (get_or xs k d) ≡ true)
 position-passes p [] k d e = absurd (cc)
-position-passes {X} p (x ∷ xs) k d e = go (λ j. position-passes p xs j d) k (p x) refl (position p xs) refl (sym (position-cons p x xs) ∙ e)
-  where
-    go : ((j : ℕ) → position p xs ≡ Some j → (j < length xs) × (p (get_or xs j d) ≡ true)) → (k : ℕ) → (b : Bool) → p x ≡ b → (o : Option ℕ) → position p xs ≡ o → cond b (Some 0) (option_map suc o) ≡ Some k →
-        (k < length (x ∷ xs)) × (p (get_or (x ∷ xs) k d) ≡ true)
-    go ih k true f o q h =
-        let first : zero ≡ k = cc in
-        subst (λ z. (z < length (x ∷ xs)) × (p (get_or (x ∷ xs) z d) ≡ true)) first (omega arith, f)
-    go ih k false f None q h = absurd (cc)
-    go ih k false f (Some j) q h =
-        let next : suc j ≡ k = cc in
-        let rest = ih j q in
-        let inside : j < length xs = rest.0 in
-        subst (λ z. (z < length (x ∷ xs)) × (p (get_or (x ∷ xs) z d) ≡ true)) next (omega (arith, inside), rest.1)
+position-passes {X} p (x ∷ xs) k d e = grind (arith, position-cons, position-passes p xs)
 
 -- Places
 
 -- one more element
 pub place-pushed : {X : Type 0} (p : X → Bool) (xs : List X) (x : X) (start : ℕ) → start ≤ length xs →
     place_by p (xs ++ x ∷ []) start ≡ or_place (place_by p xs start) (p x) (length xs)
-place-pushed p xs x start l =
-    ap (λ ys. option_map (λ k. start + k) (position p ys)) (drop-append-le start xs (x ∷ []) l)
-    ∙ (ap (option_map (λ k. start + k)) (position-pushed p (drop start xs) x)
-    ∙ go (position p (drop start xs)) (p x))
-  where
-    go : (o : Option ℕ) (b : Bool) → option_map (λ k. start + k) (or_place o b (length (drop start xs))) ≡ or_place (option_map (λ k. start + k) o) b (length xs)
-    go (Some k) b = refl
-    go None true = let all : start + length (drop start xs) ≡ length xs = omega (arith, length-drop start xs, l) in ap Some all
-    go None false = refl
+place-pushed p xs x start l = grind (arith, drop-append-le, position-pushed, length-drop)
 
 -- past all there is none
 pub place-past : {X : Type 0} (p : X → Bool) (xs : List X) → place_by p xs (length xs) ≡ None
 place-past p [] = refl
-place-past p (x ∷ xs) = go (position p (drop (length xs) xs)) (place-past p xs)
-  where
-    go : (o : Option ℕ) → option_map (λ k. length xs + k) o ≡ None → option_map (λ k. suc (length xs) + k) o ≡ None
-    go None h = refl
-    go (Some k) h = absurd (cc)
+place-past p (x ∷ xs) = grind (arith, place-past p xs)
 
 -- where there is none from a place on, no element from there on passes
 pub place-passed : {X : Type 0} (p : X → Bool) (xs : List X) (start j : ℕ) (d : X) → place_by p xs start ≡ None → start ≤ j → j < length xs → p (get_or xs j d) ≡ false
@@ -120,22 +67,12 @@ place-passed p xs start j d none from inside = go (position p (drop start xs)) r
 
 -- nor is there one of none
 nowhere : {X : Type 0} (p : X → Bool) (start j : ℕ) → Some j ≡ place_by p [] start → ⊥
-nowhere p zero j e = absurd (cc)
-nowhere p (suc s) j e = absurd (cc)
+nowhere p start j e = grind (arith)
 
 -- where there is one, its element passes
 pub place-found : {X : Type 0} (p : X → Bool) (xs : List X) (start j : ℕ) (d : X) → start ≤ length xs → place_by p xs start ≡ Some j →
     (start ≤ j) × (j < length xs) × (p (get_or xs j d) ≡ true)
-place-found p xs start j d l found = go (position p (drop start xs)) refl found
-  where
-    go : (o : Option ℕ) → position p (drop start xs) ≡ o → option_map (λ k. start + k) o ≡ Some j → (start ≤ j) × (j < length xs) × (p (get_or xs j d) ≡ true)
-    go None q h = absurd (cc)
-    go (Some k) q h =
-        let at : start + k ≡ j = cc in
-        let found = position-passes p (drop start xs) k d q in
-        let inside : k < length (drop start xs) = found.0 in
-        let here : p (get_or xs (start + k) d) ≡ true = ap p (sym (get_or-drop start xs k d)) ∙ found.1 in
-        (omega (arith, at), omega (arith, at, inside, length-drop start xs, l), subst (λ z. p (get_or xs z d) ≡ true) at here)
+place-found p xs start j d l found = grind (arith, position-passes, get_or-drop, length-drop)
 
 -- the same, as readers see it
 pub place-within : {X : Type 0} (p : X → Bool) (xs : List X) (start : ℕ) (o : Option ℕ) → start ≤ length xs → o ≡ place_by p xs start → IfSome o (λ j. j < length xs)
@@ -151,17 +88,11 @@ place-passes p (x ∷ xs) start (Some j) l e =
     let found = place-found p (x ∷ xs) start j x l (sym e) in ap (option_map p) (slice_get-get_or (x ∷ xs) j x found.1) ∙ ap Some found.2
 
 pub place-behind : {X : Type 0} (p : X → Bool) (xs : List X) (j : ℕ) (o : Option ℕ) → j + 1 ≤ length xs → o ≡ place_by p xs (j + 1) → IfSome o (λ k. j < k)
-place-behind p xs j None l e = tt
-place-behind p [] j (Some k) l e = absurd (omega (arith, l))
-place-behind p (x ∷ xs) j (Some k) l e = let from : j + 1 ≤ k = (place-found p (x ∷ xs) (j + 1) k x l (sym e)).0 in omega (arith, from)
+place-behind p xs j o l e = grind (arith, place-found)
 
 -- an element that passes is one of those that there are
 pub passes-within : {X : Type 0} (p : X → Bool) (xs : List X) (j : ℕ) → option_map p (slice_get xs j) ≡ Some true → j < length xs
-passes-within p xs j e = go (slice_get xs j) refl e
-  where
-    go : (o : Option _) → slice_get xs j ≡ o → option_map p o ≡ Some true → j < length xs
-    go None q e = absurd (cc)
-    go (Some x) q e = slice_get_within xs j x q
+passes-within p xs j e = grind (arith, slice_get_within)
 
 -- where no element passes there is none
 pub place-none : {X : Type 0} (p : X → Bool) (xs : List X) → ((x : X) → Among x xs → p x ≡ false) → place_by p xs 0 ≡ None
@@ -178,8 +109,7 @@ place-none p xs others = ap (option_map (λ k. 0 + k)) (go xs others)
 
 -- it is one of those that there are,
 pub last-within : {X : Type 0} (p : X → Bool) (xs : List X) (o : Option ℕ) → IsLast p xs o → IfSome o (λ l. l < length xs)
-last-within p xs None h = tt
-last-within p xs (Some l) h = passes-within p xs l h.0
+last-within p xs o h = grind (arith, passes-within)
 
 -- and passes
 pub last-passes : {X : Type 0} (p : X → Bool) (xs : List X) (l : ℕ) (d : X) → IsLast p xs (Some l) → p (get_or xs l d) ≡ true
@@ -202,9 +132,8 @@ last-only p xs j d (Some l) h inside passes none =
 -- One more element
 
 slice-front : {X : Type 0} (xs : List X) (y : X) (k : ℕ) → k < length xs → slice_get (xs ++ y ∷ []) k ≡ slice_get xs k
-slice-front [] y k l = absurd (omega (arith, l))
-slice-front (x ∷ xs) y zero l = refl
 slice-front (x ∷ xs) y (suc k) l = slice-front xs y k (omega (arith, l))
+slice-front xs y k l = grind (arith)
 
 slice-last : {X : Type 0} (xs : List X) (y : X) → slice_get (xs ++ y ∷ []) (length xs) ≡ Some y
 slice-last [] y = refl
@@ -212,12 +141,7 @@ slice-last (x ∷ xs) y = slice-last xs y
 
 -- that does not pass changes nothing;
 place-other : {X : Type 0} (p : X → Bool) (xs : List X) (x : X) (start : ℕ) → start ≤ length xs → p x ≡ false → place_by p (xs ++ x ∷ []) start ≡ place_by p xs start
-place-other p xs x start l other =
-    place-pushed p xs x start l ∙ (ap (λ b. or_place (place_by p xs start) b (length xs)) other ∙ go (place_by p xs start))
-  where
-    go : (o : Option ℕ) → or_place o false (length xs) ≡ o
-    go None = refl
-    go (Some k) = refl
+place-other p xs x start l other = grind (arith, place-pushed)
 
 last-other : {X : Type 0} (p : X → Bool) (xs : List X) (x : X) (o : Option ℕ) → IsLast p xs o → p x ≡ false → IsLast p (xs ++ x ∷ []) o
 last-other p xs x None h other = place-other p xs x 0 (omega arith) other ∙ h
@@ -243,12 +167,7 @@ module _ {I : Type 0} (set_next : I → ℕ → I) where
   with_link-at is l n d inside = ap (λ o. elim o [ None ↦ is | Some r ↦ set is l (set_next r n) ]) (slice_get-get_or is l d inside)
 
   pub length-with_link : (is : List I) (o : Option ℕ) (n : ℕ) → length (with_link set_next is o n) ≡ length is
-  length-with_link is None n = refl
-  length-with_link is (Some l) n = go (slice_get is l)
-    where
-      go : (r : Option I) → length {A = I} (elim r [ None ↦ is | Some s ↦ set is l (set_next s n) ]) ≡ length is
-      go None = refl
-      go (Some s) = length-set is l (set_next s n)
+  length-with_link is o n = grind (arith, length-set)
 
   -- which makes no difference to what is shown
   pub shown-with_link : {X : Type 0} (shown : I → X) → ((r : I) (n : ℕ) → shown (set_next r n) ≡ shown r) → (is : List I) (o : Option ℕ) (n : ℕ) →

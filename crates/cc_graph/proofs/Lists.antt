@@ -15,20 +15,12 @@ use Rattle.cc_lists.proofs.Numbers.{number-exact}
 -- what holds of what is written, and of the other elements, holds of each
 pub each-set : {X : Type 0} (P : ℕ → X → Type 0) (xs : List X) (i : ℕ) (y : X) → i < length xs → P i y →
     ((j : ℕ) (d : X) → j < length xs → j ≢ i → P j (get_or xs j d)) → (j : ℕ) (d : X) → j < length (set xs i y) → P j (get_or (set xs i y) j d)
-each-set P xs i y inside here others j d within = ⊎_elim
-    (λ t. subst (λ k. P k (get_or (set xs i y) k d)) (sym t.1) (subst (P i) (sym (get_or-set_same xs i y d inside)) here))
-    (λ f. subst (P j) (sym (get_or-set_other xs i j y d f.1)) (others j d (omega (arith, within, length-set xs i y)) f.1))
-    (eqb_tells j i)
+each-set P xs i y inside here others j d within = grind (arith, get_or-set_same, get_or-set_other, length-set, eqb_tells)
 
 -- what holds of each and of one more holds of each once that stands last
 pub each-added : {X : Type 0} (P : ℕ → X → Type 0) (xs : List X) (y : X) → ((j : ℕ) (d : X) → j < length xs → P j (get_or xs j d)) → P (length xs) y →
     (j : ℕ) (d : X) → j < length (xs ++ y ∷ []) → P j (get_or (xs ++ y ∷ []) j d)
-each-added P xs y each last j d within = ⊎_elim
-    (λ t. subst (λ k. P k (get_or (xs ++ y ∷ []) k d)) (sym t.1) (subst (P (length xs)) (sym (get_or_push xs y d (length xs) refl)) last))
-    (λ f.
-    let before : j < length xs = omega (arith, within, length_push xs y, f.1) in
-    subst (P j) (sym (get_or_append_left xs (y ∷ []) d j before)) (each j d before))
-    (eqb_tells j (length xs))
+each-added P xs y each last j d within = grind (arith, get_or_push, length_push, get_or_append_left, eqb_tells)
 
 -- a number that is not there is told so
 pub has-none : (xs : List ℕ) (i : ℕ) → ((k : ℕ) → Among k xs → k ≢ i) → has ◌==◌ xs i ≡ false
@@ -41,18 +33,10 @@ has-other (x ∷ xs) i k h = rw (has-other xs i k h) refl
 
 -- where one element does not pass, fewer pass than there are
 pub count_by-fewer : {X : Type 0} (p : X → Bool) (xs : List X) (i : ℕ) (d : X) → i < length xs → p (get_or xs i d) ≡ false → count_by p xs < length xs
-count_by-fewer p [] i d within off = absurd (omega (arith, within))
-count_by-fewer p (x ∷ xs) zero d within off =
-    let here : count_by p (x ∷ xs) ≡ 0 + count_by p xs = rw (count_by-cons p x xs, off) refl in
-    omega (arith, here, count_by-le-length p xs)
-count_by-fewer p (x ∷ xs) (suc i) d within off = go (count_by-fewer p xs i d (omega (arith, within)) off) (p x) refl
-  where
-    go : count_by p xs < length xs → (b : Bool) → p x ≡ b → count_by p (x ∷ xs) < length (x ∷ xs)
-    go rest true e = let here : count_by p (x ∷ xs) ≡ 1 + count_by p xs = rw (count_by-cons p x xs, e) refl in omega (arith, here, rest)
-    go rest false e = let here : count_by p (x ∷ xs) ≡ 0 + count_by p xs = rw (count_by-cons p x xs, e) refl in omega (arith, here, rest)
+count_by-fewer p (x ∷ xs) (suc i) d within off = grind (arith, count_by, count_by-cons, count_by-fewer p xs i d (omega (arith, within)) off)
+count_by-fewer p xs i d within off = grind (arith, count_by, count_by-cons, count_by-le-length)
 
 -- what stands at a place is among the elements
 pub among-at : {X : Type 0} (xs : List X) (i : ℕ) (d : X) → i < length xs → Among (get_or xs i d) xs
-among-at [] i d within = absurd (omega (arith, within))
-among-at (y ∷ ys) zero d within = inl refl
 among-at (y ∷ ys) (suc i) d within = inr (among-at ys i d (omega (arith, within)))
+among-at xs i d within = grind (arith)

@@ -20,38 +20,18 @@ use Rattle.cc_graph.proofs.Chains.{chain-linked, chain-new, chain-none, chain-ot
 
 -- two nodes are the same, or they are not
 same_node-cases : (n m : Option ℕ) → (n ≡ m) ⊎ (n ≢ m)
-same_node-cases None None = inl refl
-same_node-cases None (Some k) = inr (λ e. absurd (cc))
-same_node-cases (Some i) None = inr (λ e. absurd (cc))
-same_node-cases (Some i) (Some k) = go (i == k) refl
-  where
-    go : (b : Bool) → (i == k) ≡ b → (Some i ≡ Some k) ⊎ (Some i ≢ Some k)
-    go true e = inl (ap Some (eqb-true i k e))
-    go false e = inr (λ s. true≢false (sym (eq-eqb i k (same_Some i k s)) ∙ e))
+same_node-cases n m = grind (arith, eqb-true, true≢false, eq-eqb, same_Some)
 
 same_node-true : (n m : Option ℕ) → same_node n m ≡ true → n ≡ m
-same_node-true None None e = refl
-same_node-true None (Some k) e = absurd (true≢false (sym e))
-same_node-true (Some i) None e = absurd (true≢false (sym e))
-same_node-true (Some i) (Some k) e = ap Some (eqb-true i k e)
+same_node-true n m e = grind (arith, true≢false, eqb-true)
 
 -- a member that is a node
 is_node-true : (o : Option ℕ) (i : ℕ) → is_node o i ≡ true → Some i ≡ o
-is_node-true None i e = absurd (true≢false (sym e))
-is_node-true (Some k) i e = ap Some (sym (eqb-true k i e))
+is_node-true o i e = grind (arith, true≢false, eqb-true)
 
 -- a node of a mapping that is not its map is its key
 is_with-key : (n : Option ℕ) (m : Hyperedge) → is_with n m ≡ true → same_node m.the_map n ≡ false → n ≡ m.key
-is_with-key None m w e = go m.the_map w e
-  where
-    go : (o : Option ℕ) → (is_none o && is_none m.key) ≡ true → same_node o None ≡ false → None ≡ m.key
-    go None w e = absurd (true≢false e)
-    go (Some k) w e = absurd (true≢false (sym w))
-is_with-key (Some i) m w e = go m.the_map w e
-  where
-    go : (o : Option ℕ) → (is_node o i || is_node m.key i) ≡ true → same_node o (Some i) ≡ false → Some i ≡ m.key
-    go None w e = is_node-true m.key i w
-    go (Some k) w e = is_node-true m.key i (subst (λ b. (b || is_node m.key i) ≡ true) e w)
+is_with-key n m w e = grind (arith, true≢false, is_node-true)
 
 -- Links
 
@@ -121,53 +101,21 @@ mappings-chained f g shown more ms node c m place h has gives kept all one other
 -- The nodes of a mapping
 
 pub first-with : (the_map key : Option ℕ) (value : ℕ) → is_with (first_member the_map key) (hyperedge the_map key value) ≡ true
-first-with None None value = refl
-first-with None (Some k) value = eq-eqb k k refl
-first-with (Some i) key value = ap (λ b. b || is_node key i) (eq-eqb i i refl)
+first-with the_map key value = grind (arith, eq-eqb)
 
 -- where there is no second, no other node is the map or the key
 pub one-with : (the_map key : Option ℕ) (value : ℕ) → is_one the_map key ≡ true → (n : Option ℕ) → n ≢ first_member the_map key →
     is_with n (hyperedge the_map key value) ≡ false
-one-with the_map key value one n apart = go (is_with n (hyperedge the_map key value)) refl
-  where
-    at : (the_map key n : Option ℕ) → is_one the_map key ≡ true → is_with n (hyperedge the_map key value) ≡ true → n ≡ first_member the_map key
-    at None None None one w = refl
-    at None None (Some i) one w = absurd (true≢false (sym w))
-    at None (Some k) None one w = absurd (true≢false (sym w))
-    at None (Some k) (Some i) one w = is_node-true (Some k) i w
-    at (Some j) key None one w = absurd (true≢false (sym w))
-    at (Some j) None (Some i) one w = ⊎_elim (λ l. is_node-true (Some j) i l) (λ r. absurd (true≢false (sym r))) (or_cases (j == i) false w)
-    at (Some j) (Some k) (Some i) one w = ⊎_elim
-        (λ l. is_node-true (Some j) i l)
-        (λ r. is_node-true (Some k) i r ∙ ap Some (sym (eqb-true j k one)))
-        (or_cases (j == i) (k == i) w)
-
-    go : (b : Bool) → is_with n (hyperedge the_map key value) ≡ b → b ≡ false
-    go false e = refl
-    go true e = absurd (apart (at the_map key n one e))
+one-with the_map key value one n apart = grind (arith, true≢false, is_node-true, or_cases, eqb-true)
 
 -- where there is, it is the key
 pub key-with : (the_map key : Option ℕ) (value : ℕ) → is_one the_map key ≡ false → (is_with key (hyperedge the_map key value) ≡ true) × (key ≢ first_member the_map key)
-key-with None key value two = absurd (true≢false two)
-key-with (Some i) None value two = absurd (true≢false two)
-key-with (Some i) (Some k) value two = (go (i == k), λ s. true≢false (sym (eq-eqb i k (sym (same_Some k i s))) ∙ two))
-  where
-    go : (b : Bool) → (b || (k == k)) ≡ true
-    go true = refl
-    go false = eq-eqb k k refl
+key-with the_map key value two = grind (arith, true≢false, eq-eqb, same_Some)
 
 -- and no other node is the map or the key
 pub two-with : (the_map key : Option ℕ) (value : ℕ) → is_one the_map key ≡ false → (n : Option ℕ) → n ≢ first_member the_map key → n ≢ key →
     is_with n (hyperedge the_map key value) ≡ false
-two-with None key value two n apart other = absurd (true≢false two)
-two-with (Some i) None value two n apart other = absurd (true≢false two)
-two-with (Some i) (Some k) value two None apart other = refl
-two-with (Some i) (Some k) value two (Some j) apart other = go (i == j) refl (k == j) refl
-  where
-    go : (b : Bool) → (i == j) ≡ b → (c : Bool) → (k == j) ≡ c → (b || c) ≡ false
-    go true e c f = absurd (apart (ap Some (sym (eqb-true i j e))))
-    go false e true f = absurd (other (ap Some (sym (eqb-true k j f))))
-    go false e false f = refl
+two-with the_map key value two n apart other = grind (arith, true≢false, eqb-true)
 
 -- What each chain is shown after it has the mapping
 
@@ -215,23 +163,15 @@ chain-here ks loose (Some i) c place e = go (slice_get ks i) refl e
 
 -- and another
 slice_get-set : {X : Type 0} (xs : List X) (i j : ℕ) (y : X) → j ≢ i → slice_get (set xs i y) j ≡ slice_get xs j
-slice_get-set [] i j y apart = refl
-slice_get-set (x ∷ xs) zero zero y apart = absurd (apart refl)
-slice_get-set (x ∷ xs) zero (suc j) y apart = refl
-slice_get-set (x ∷ xs) (suc i) zero y apart = refl
 slice_get-set (x ∷ xs) (suc i) (suc j) y apart = slice_get-set xs i j y (λ s. apart (ap suc s))
+slice_get-set xs i j y apart = grind (arith)
 
 pub chain-apart : (ks : List Node) (loose : Chain) (node : Option ℕ) (place : ℕ) (n : Option ℕ) → n ≢ node →
     chain_of (nodes_with ks node place) (loose_with loose node place) n ≡ chain_of ks loose n
 chain-apart ks loose None place None apart = absurd (apart refl)
 chain-apart ks loose None place (Some j) apart = refl
 chain-apart ks loose (Some i) place None apart = refl
-chain-apart ks loose (Some i) place (Some j) apart = go (slice_get ks i) refl
-  where
-    go : (o : Option Node) → slice_get ks i ≡ o →
-        option_map (λ k. k.mappings) (slice_get (elim o [ None ↦ ks | Some k ↦ set ks i (with_mapping k place) ]) j) ≡ option_map (λ k. k.mappings) (slice_get ks j)
-    go None q = refl
-    go (Some k) q = ap (option_map (λ k. k.mappings)) (slice_get-set ks i j (with_mapping k place) (λ s. apart (ap Some s)))
+chain-apart ks loose (Some i) place (Some j) apart = grind (arith, slice_get-set)
 
 -- the last one of a right chain is one of those that there are
 pub last-there : (f : Option ℕ → Option Chain) (shown : Option ℕ → List Hyperedge) (ms : List Mapping) (node : Option ℕ) → AreMappings f shown ms →
@@ -346,11 +286,7 @@ step-chained ks loose shown more ms node m place h inside all one others with co
 
 pub length-nodes_with : (ks : List Node) (node : Option ℕ) (place : ℕ) → length (nodes_with ks node place) ≡ length ks
 length-nodes_with ks None place = refl
-length-nodes_with ks (Some i) place = go (slice_get ks i)
-  where
-    go : (o : Option Node) → length {A = Node} (elim o [ None ↦ ks | Some k ↦ set ks i (with_mapping k place) ]) ≡ length ks
-    go None = refl
-    go (Some k) = length-set ks i (with_mapping k place)
+length-nodes_with ks (Some i) place = grind (arith, length-set)
 
 -- what is kept of nodes but for their mappings stays
 pub but-nodes_with : (ks : List Node) (node : Option ℕ) (place : ℕ) → but_mappings (nodes_with ks node place) ≡ but_mappings ks
@@ -393,11 +329,7 @@ module _ (ks : List Node) (loose : Chain) (ms : List Mapping) (the_map key : Opt
   shown₁ = shown_to first (λ n. hyperedges ms) (hyperedges ms ++ it ∷ [])
 
   inside₁ : IfSome first (λ i. i < length ks)
-  inside₁ = go the_map map_inside
-    where
-      go : (o : Option ℕ) → IfSome o (λ i. i < length ks) → IfSome (first_member o key) (λ i. i < length ks)
-      go None l = key_inside
-      go (Some i) l = l
+  inside₁ = grind (arith)
 
   -- in that of the first,
   chained₁ : AreMappings (chain_of nodes₁ loose₁) shown₁ mappings₁

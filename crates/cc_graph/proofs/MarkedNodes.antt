@@ -37,30 +37,12 @@ numbers-passing p start (v ∷ vs) i m = go (numbers-passing p (suc start) vs i)
 -- what passes is numbered
 pub passing-numbers : (p : ℕ → Vertex → Bool) (start : ℕ) (vs : List Vertex) (place : ℕ) (v : Vertex) (i : ℕ) → slice_get vs place ≡ Some v →
     start + place ≡ i → p i v ≡ true → Among i (numbers_where p start vs)
-passing-numbers p start [] place v i there e passes = absurd (cc)
-passing-numbers p start (w ∷ vs) zero v i there e passes =
-    let same : w ≡ v = cc in
-    let number : start ≡ i = omega (arith, e) in
-    let here : p start w ≡ true = ap (p start) same ∙ (ap (λ z. p z v) number ∙ passes) in
-    go (p start w) here number
-  where
-    go : (b : Bool) → b ≡ true → start ≡ i → Among i (elim b [ true ↦ start ∷ numbers_where p (suc start) vs | false ↦ numbers_where p (suc start) vs ])
-    go true h number = inl number
-    go false h number = absurd (true≢false (sym h))
-passing-numbers p start (w ∷ vs) (suc place) v i there e passes =
-    go (passing-numbers p (suc start) vs place v i there (omega (arith, e)) passes) (p start w)
-  where
-    go : Among i (numbers_where p (suc start) vs) → (b : Bool) →
-        Among i (elim b [ true ↦ start ∷ numbers_where p (suc start) vs | false ↦ numbers_where p (suc start) vs ])
-    go m true = inr m
-    go m false = m
+passing-numbers p start (w ∷ vs) (suc place) v i there e passes = grind (arith, passing-numbers p (suc start) vs place v i there (omega (arith, e)) passes)
+passing-numbers p start vs place v i there e passes = grind (arith, true≢false)
 
 -- a node that passes has a place in the list
 numbers-within : (p : ℕ → Vertex → Bool) (vs : List Vertex) (i : ℕ) → Among i (numbers_where p 0 vs) → i < length vs
-numbers-within p vs i m =
-    let k = numbers-passing p 0 vs i m in
-    let within : k.place < length vs = slice_get_within vs k.place k.node k.there in
-    omega (arith, k.number)
+numbers-within p vs i m = grind (arith, numbers-passing, slice_get_within)
 
 -- the nodes below i that pass are black, beside what was black before
 pub record AreMarked (p : ℕ → Vertex → Bool) (g₀ g : Shown) (i : ℕ) : Type 0 where
@@ -76,19 +58,11 @@ blackened g i = record g { blacks = with_black g.blacks i }
 
 -- the test of a numbered node
 numbered-test : (p : ℕ → Vertex → Bool) (g : Shown) (i : ℕ) → Among i (numbers_where p 0 g.nodes) → test_at p g i ≡ Some true
-numbered-test p g i m =
-    let k = numbers-passing p 0 g.nodes i m in
-    let place : k.place ≡ i = omega (arith, k.number) in
-    let there : slice_get g.nodes i ≡ Some k.node = subst (λ z. slice_get g.nodes z ≡ Some k.node) place k.there in
-    ap (option_map (λ v. p i v)) there ∙ ap Some k.passes
+numbered-test p g i m = grind (arith, numbers-passing)
 
 -- and a node is numbered where its test passes
 test-numbered : (p : ℕ → Vertex → Bool) (g : Shown) (i : ℕ) → test_at p g i ≡ Some true → Among i (numbers_where p 0 g.nodes)
-test-numbered p g i e = go (slice_get g.nodes i) refl e
-  where
-    go : (o : Option Vertex) → slice_get g.nodes i ≡ o → option_map (λ v. p i v) o ≡ Some true → Among i (numbers_where p 0 g.nodes)
-    go None f h = absurd (cc)
-    go (Some v) f h = let passes : p i v ≡ true = cc in passing-numbers p 0 g.nodes i v i f (omega arith) passes
+test-numbered p g i e = grind (arith, passing-numbers)
 
 -- after a node that passes
 pub marked-black : (p : ℕ → Vertex → Bool) (g₀ g new : Shown) (i : ℕ) → AreMarked p g₀ g i → test_at p g₀ i ≡ Some true → new ≡ blackened g i →
@@ -121,26 +95,9 @@ marked-black p g₀ g new i h e change = subst (λ z. AreMarked p g₀ z (i + 1)
 -- after another
 pub marked-other : (p : ℕ → Vertex → Bool) (g₀ g new : Shown) (i : ℕ) → AreMarked p g₀ g i → test_at p g₀ i ≡ Some false → new ≡ g →
     AreMarked p g₀ new (i + 1)
-marked-other p g₀ g new i h e change = subst (λ z. AreMarked p g₀ z (i + 1)) (sym change) (record {
-  rest = h.rest;
-  marked = λ j. (
-    λ b. ⊎_elim (λ o. inl o) (λ t. let below : j < i = t.0 in inr (omega arith, t.1)) ((h.marked j).0 b),
-    λ s. (h.marked j).1 (⊎_elim (λ o. inl o) (λ t. inr (lower j t.0 t.1, t.1)) s),
-  );
-})
-  where
-    lower : (j : ℕ) → j < i + 1 → Among j (numbers_where p 0 g₀.nodes) → j < i
-    lower j l m =
-        let other : ¬ (j ≡ i) = λ same. true≢false (one (sym (subst (λ z. test_at p g₀ z ≡ Some true) same (numbered-test p g₀ j m)) ∙ e)) in
-        omega arith
-      where
-        one : Some true ≡ Some false → true ≡ false
-        one f = cc
+marked-other p g₀ g new i h e change = grind (arith, true≢false, numbered-test)
 
 -- at the end
 pub marked-all : (p : ℕ → Vertex → Bool) (g₀ g : Shown) (i : ℕ) → AreMarked p g₀ g i → length g₀.nodes ≤ i →
     (j : ℕ) → IsTrue (is_black g j) ↔ (IsTrue (is_black g₀ j) ⊎ Among j (numbers_where p 0 g₀.nodes))
-marked-all p g₀ g i h past j = (
-  λ b. ⊎_elim (λ o. inl o) (λ t. inr t.1) ((h.marked j).0 b),
-  λ s. (h.marked j).1 (⊎_elim (λ o. inl o) (λ m. let within : j < length g₀.nodes = numbers-within p g₀.nodes j m in inr (omega arith, m)) s),
-)
+marked-all p g₀ g i h past j = grind (arith, numbers-within)

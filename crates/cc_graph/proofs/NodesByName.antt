@@ -26,22 +26,8 @@ or_last (Some k) same n = Some k
 or_last None same n = cond same (Some n) None
 
 pub number-pushed : (i : ℕ) (vs : List Vertex) (v : Vertex) (x : Name) → number_from i (vs ++ v ∷ []) x ≡ or_last (number_from i vs x) (same_name v.name x) (i + length vs)
-number-pushed i [] v x = go (same_name v.name x) refl
-  where
-    go : (b : Bool) → same_name v.name x ≡ b → number_from i (v ∷ []) x ≡ cond b (Some (i + 0)) None
-    go true e = number-here i v [] x e ∙ ap Some (omega arith)
-    go false e = number-later i v [] x e
-number-pushed i (w ∷ ws) v x = go (number-pushed (suc i) ws v x) (same_name w.name x) refl
-  where
-    go : number_from (suc i) (ws ++ v ∷ []) x ≡ or_last (number_from (suc i) ws x) (same_name v.name x) (suc i + length ws) →
-        (b : Bool) → same_name w.name x ≡ b →
-        number_from i ((w ∷ ws) ++ v ∷ []) x ≡ or_last (number_from i (w ∷ ws) x) (same_name v.name x) (i + length (w ∷ ws))
-    go ih true e = number-here i w (ws ++ v ∷ []) x e ∙ ap (λ o. or_last o (same_name v.name x) (i + length (w ∷ ws))) (sym (number-here i w ws x e))
-    go ih false e =
-        number-later i w (ws ++ v ∷ []) x e
-        ∙ (ih
-        ∙ (ap (λ o. or_last o (same_name v.name x) (suc i + length ws)) (sym (number-later i w ws x e))
-        ∙ ap (or_last (number_from i (w ∷ ws) x) (same_name v.name x)) (omega arith)))
+number-pushed i [] v x = grind (arith, number-here, number-later)
+number-pushed i (w ∷ ws) v x = grind (arith, number-here, number-later, number-pushed (suc i) ws v x)
 
 -- The tables of numbers
 
@@ -55,52 +41,29 @@ native-changed ns ps k o given (Native n) = given n.0
 native-changed ns ps k o given (Script n) = refl
 native-changed ns ps k o given (Reflector n) = refl
 
-pub script-changed : (ns : Numbers) (ps : Pages) (k : ScriptNo) (o : Option ℕ) → ((n : ℕ) → value_at ps n ≡ (if k.0 == n then o else value_at ns.scripts n)) →
-    IsChangedAt ns (record ns { scripts = ps }) o (Script k)
-script-changed ns ps k o given (Native n) = refl
-script-changed ns ps k o given (Script n) = given n.0
-script-changed ns ps k o given (Reflector n) = refl
-
 -- where none has a value, no name has a number
 pub numbers-none : (ns : Numbers) → ((n : ℕ) → value_at ns.natives n ≡ None) → ((n : ℕ) → value_at ns.scripts n ≡ None) → ((n : ℕ) → value_at ns.reflectors n ≡ None) →
     (x : Name) → number_at ns x ≡ None
-numbers-none ns natives scripts reflectors (Native n) = natives n.0
-numbers-none ns natives scripts reflectors (Script n) = scripts n.0
-numbers-none ns natives scripts reflectors (Reflector n) = reflectors n.0
-
--- a name that has a number may be given it
-pub numbers-found : (ns : Numbers) (name : Name) (n : ℕ) → number_at ns name ≡ Some n → IsChangedAt ns ns (Some n) name
-numbers-found ns name n has x = go (same_name name x) refl
-  where
-    go : (b : Bool) → same_name name x ≡ b → number_at ns x ≡ (if b then Some n else number_at ns x)
-    go true e = ap (number_at ns) (sym (same_name-true name x e)) ∙ has
-    go false e = refl
+numbers-none ns natives scripts reflectors x = grind (arith)
 
 -- The natives by rising number
 
 -- the next one is next by what says the same
 next-alike : (f g : Name → Option ℕ) → ((x : Name) → f x ≡ g x) → (after : Option NativeNo) (k n : ℕ) → IsNext f after k n → IsNext g after k n
-next-alike f g same after k n h = record {
-  from = h.from;
-  there = sym (same (native k)) ∙ h.there;
-  before = λ j from until. sym (same (native j)) ∙ h.before j from until;
-}
+next-alike f g same after k n h = grind (arith)
 
 last-alike : (f g : Name → Option ℕ) → ((x : Name) → f x ≡ g x) → (after : Option NativeNo) → IsLast f after → IsLast g after
 last-alike f g same after h j from = sym (same (native j)) ∙ h j from
 
 pub next-some : (f g : Name → Option ℕ) → ((x : Name) → f x ≡ g x) → (after : Option NativeNo) (next : Option (NativeNo × ℕ)) →
     IfSome next (λ r. IsNext f after r.0.0 r.1) → IfSome next (λ r. IsNext g after r.0.0 r.1)
-next-some f g same after None h = tt
-next-some f g same after (Some r) h = next-alike f g same after r.0.0 r.1 h
+next-some f g same after next h = grind (arith, next-alike)
 
 pub last-none : (f g : Name → Option ℕ) → ((x : Name) → f x ≡ g x) → (after : Option NativeNo) (next : Option (NativeNo × ℕ)) →
     IfNone next (IsLast f after) → IfNone next (IsLast g after)
-last-none f g same after None h = last-alike f g same after h
-last-none f g same after (Some r) h = tt
+last-none f g same after next h = grind (arith, last-alike)
 
 -- its node is one
 pub next-within : (vs : List Vertex) (after : Option NativeNo) (next : Option (NativeNo × ℕ)) → ((x : Name) → IfSome (number_of vs x) (λ i. i < length vs)) →
     IfSome next (λ r. IsNext (number_of vs) after r.0.0 r.1) → IfSome next (λ r. r.1 < length vs)
-next-within vs after None within h = tt
-next-within vs after (Some r) within h = subst (λ o. IfSome o (λ i. i < length vs)) h.there (within (native r.0.0))
+next-within vs after next within h = grind (arith)

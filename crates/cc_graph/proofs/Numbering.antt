@@ -32,12 +32,7 @@ vertices-pushed ks k = map_push vertex_of ks k
 -- a number is one of a node
 number-below : (i : ℕ) (vs : List Vertex) (x : Name) → IfSome (number_from i vs x) (λ k. k < i + length vs)
 number-below i [] x = tt
-number-below i (v ∷ vs) x = go (number_from (suc i) vs x) (number-below (suc i) vs x) (same_name v.name x)
-  where
-    go : (o : Option ℕ) → IfSome o (λ k. k < suc i + length vs) → (b : Bool) → IfSome (elim b [ true ↦ Some i | false ↦ o ]) (λ k. k < i + length (v ∷ vs))
-    go o h true = omega arith
-    go None h false = tt
-    go (Some k) h false = omega (arith, h)
+number-below i (v ∷ vs) x = grind (arith, number-below (suc i) vs x)
 
 pub number-inside : (vs : List Vertex) (x : Name) → IfSome (number_of vs x) (λ k. k < length vs)
 number-inside vs x = go (number_of vs x) (number-below 0 vs x)
@@ -56,21 +51,12 @@ number-within ks x = go (number_of (vertices ks) x) (number-below 0 (vertices ks
 -- a node that keeps its name changes no number
 number-renamed : (ks : List Node) (j i : ℕ) (d y : Node) (x : Name) → i < length ks → y.name ≡ (get_or ks i d).name →
     number_from j (vertices (set ks i y)) x ≡ number_from j (vertices ks) x
-number-renamed [] j i d y x l e = absurd (omega (arith, l))
-number-renamed (k ∷ ks) j zero d y x l e = ap (λ z. elim (same_name z x) [ true ↦ Some j | false ↦ number_from (suc j) (vertices ks) x ]) e
-number-renamed (k ∷ ks) j (suc i) d y x l e =
-    ap (λ o. elim (same_name k.name x) [ true ↦ Some j | false ↦ o ]) (number-renamed ks (suc j) i d y x (omega (arith, l)) e)
+number-renamed (k ∷ ks) j (suc i) d y x l e = grind (arith, number-renamed ks (suc j) i d y x (omega (arith, l)) e)
+number-renamed ks j i d y x l e = grind (arith)
 
 -- more room, and the same names
 pub numbered-more : (ks : List Node) (bs : List ℕ) (room more : ℕ) (es fs : Numbers) → IsNumbered ks bs room es → room ≤ more → ((x : Name) → number_at fs x ≡ number_at es x) → IsNumbered ks bs more fs
-numbered-more ks bs room more es fs w le same = record {
-  few = w.few;
-  numbered = λ x. same x ∙ w.numbered x;
-  black = w.black;
-  members = w.members;
-  counted = w.counted;
-  enough = omega (arith, w.enough, le);
-}
+numbered-more ks bs room more es fs w le same = grind (arith)
 
 -- a node of another name is added
 pub numbered-added : (ks : List Node) (bs : List ℕ) (room more : ℕ) (es fs : Numbers) (name : Name) (held : Held) → IsNumbered ks bs room es →
@@ -149,8 +135,7 @@ numbered-same ks ls bs cs r s u v a b c d = rw (a, b, c, d) refl
 
 -- a node that is read, made black and written is the one that becomes black
 pub black_node-at : (ks : List Node) (i : ℕ) (k y : Node) → i < length ks → k ≡ get_or ks i k → y ≡ record k { black = true } → with_black_node ks i ≡ set ks i y
-black_node-at ks i k y inside read made =
-    ap (λ o. elim o [ None ↦ ks | Some x ↦ set ks i (record x { black = true }) ]) (slice_get-get_or ks i k inside ∙ ap Some (sym read)) ∙ ap (set ks i) (sym made)
+black_node-at ks i k y inside read made = grind (arith, slice_get-get_or)
 
 -- some node is not black where fewer are black than there are
 some-white : (ks : List Node) → count_by (λ k. k.black) ks < length ks → (i : ℕ) × (i < length ks) × ((d : Node) → (get_or ks i d).black ≡ false)
@@ -195,11 +180,7 @@ number-new ks bs room es x n count w found all same = go (number_of (vertices ks
 -- and one that is given another has the node with that number
 pub number-old : (ks : List Node) (bs : List ℕ) (room : ℕ) (es : Numbers) (x : Name) (n count : ℕ) → IsNumbered ks bs room es →
     n ≡ unwrap_or (number_at es x) count → (n ≡ count → ⊥) → number_of (vertices ks) x ≡ Some n
-number-old ks bs room es x n count w found other = go (number_of (vertices ks) x) (found ∙ ap (λ o. unwrap_or o count) (w.numbered x))
-  where
-    go : (o : Option ℕ) → n ≡ unwrap_or o count → o ≡ Some n
-    go None f = absurd (other f)
-    go (Some k) f = ap Some (sym f)
+number-old ks bs room es x n count w found other = grind (arith, unwrap_or)
 
 pub with_node-new : (ks : List Node) (x : Name) (held : Held) → number_of (vertices ks) x ≡ None → with_node ks x held ≡ ks ++ added x held ∷ []
 with_node-new ks x held none = ap (λ o. elim o [ Some i ↦ ks | None ↦ ks ++ added x held ∷ [] ]) none
@@ -210,18 +191,10 @@ with_node-there ks x held i there = ap (λ o. elim o [ Some j ↦ ks | None ↦ 
 -- the numbers are the same where the one that a name has is given to it
 pub numbers-given : (ns ms : Numbers) (name : Name) (n : ℕ) → number_at ns name ≡ Some n →
     ((x : Name) → number_at ms x ≡ (if same_name name x then Some n else number_at ns x)) → (x : Name) → number_at ms x ≡ number_at ns x
-numbers-given ns ms name n had given x = given x ∙ go (same_name name x) refl
-  where
-    go : (b : Bool) → same_name name x ≡ b → (if b then Some n else number_at ns x) ≡ number_at ns x
-    go true e = sym had ∙ ap (number_at ns) (same_name-true name x e)
-    go false e = refl
+numbers-given ns ms name n had given x = grind (arith, same_name-true)
 
 -- and where one is taken away that was given to a name without
 pub numbers-taken : (ns ms ls : Numbers) (name : Name) (n : ℕ) → number_at ns name ≡ None →
     ((x : Name) → number_at ms x ≡ (if same_name name x then Some n else number_at ns x)) →
     ((x : Name) → number_at ls x ≡ (if same_name name x then None else number_at ms x)) → (x : Name) → number_at ls x ≡ number_at ns x
-numbers-taken ns ms ls name n none given taken x = taken x ∙ go (same_name name x) refl
-  where
-    go : (b : Bool) → same_name name x ≡ b → (if b then None else number_at ms x) ≡ number_at ns x
-    go true e = sym none ∙ ap (number_at ns) (same_name-true name x e)
-    go false e = given x ∙ ap (λ b. if b then Some n else number_at ns x) e
+numbers-taken ns ms ls name n none given taken x = grind (arith, same_name-true)

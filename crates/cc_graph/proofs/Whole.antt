@@ -35,9 +35,8 @@ each-read P xs i d each inside = each (get_or xs i d) (among-at xs i d inside)
 
 -- or of what is there at a place
 pub each-got : {X : Type 0} (P : X → Type 0) (xs : List X) (i : ℕ) → ((x : X) → Among x xs → P x) → IfSome (slice_get xs i) P
-each-got P [] i each = tt
-each-got P (x ∷ xs) zero each = each x (inl refl)
 each-got P (x ∷ xs) (suc i) each = each-got P xs i (λ y m. each y (inr m))
+each-got P xs i each = grind (arith)
 
 -- Nodes and references as they are shown
 
@@ -82,12 +81,7 @@ black-last bs i off = ap (λ b. elim b [ true ↦ bs | false ↦ bs ++ i ∷ [] 
 
 -- a node of a new name has the number that there were
 pub number-added : (ks : List Node) (x : Name) (h : Held) → number_of (vertices ks) x ≡ None → number_of (vertices (ks ++ added x h ∷ [])) x ≡ Some (length ks)
-number-added ks x h none =
-    ap (λ vs. number_of vs x) (vertices-pushed ks (added x h))
-    ∙ (number-pushed 0 (vertices ks) _ x
-    ∙ (ap (λ o. or_last o (same_name x x) (0 + length (vertices ks))) none
-    ∙ (ap (λ b. cond b (Some (0 + length (vertices ks))) None) (same_name-refl x)
-    ∙ ap Some (omega (arith, length-vertices ks)))))
+number-added ks x h none = grind (arith, vertices-pushed, number-pushed, same_name-refl, length-vertices)
 
 change-at : (vs : List Vertex) (i : ℕ) (f : Vertex → Vertex) (v : Vertex) → slice_get vs i ≡ Some v → change_vertex vs i f ≡ set vs i (f v)
 change-at vs i f v h = ap (λ o. elim o [ None ↦ vs | Some w ↦ set vs i (f w) ]) h
@@ -122,24 +116,14 @@ vertices-black ks i = go (slice_get ks i) refl
 
 -- more nodes
 within-more : (n m : ℕ) (es : List Edge) (bs : List ℕ) → IsWithin n es bs → n ≤ m → IsWithin m es bs
-within-more n m es bs w le = record {
-  sources = λ e a. let h = w.sources e a in omega (arith, h, le);
-  targets = λ e a. let h = w.targets e a in omega (arith, h, le);
-  members = λ i a. let h = w.members i a in omega (arith, h, le);
-  once = w.once;
-}
+within-more n m es bs w le = grind (arith)
 
 -- a member of a mapping, where there is more room for it
 member-more : (n m : ℕ) (o : Option ℕ) → IfSome o (λ i. i < n) → n ≤ m → IfSome o (λ i. i < m)
-member-more n m None h le = h
-member-more n m (Some i) h le = omega (arith, h, le)
+member-more n m o h le = grind (arith)
 
 hyperedges-more : (n m : ℕ) (ms : List Hyperedge) → AreHyperedgesWithin n ms → n ≤ m → AreHyperedgesWithin m ms
-hyperedges-more n m ms w le x a = record {
-  the_map = member-more n m x.the_map (w x a).the_map le;
-  key = member-more n m x.key (w x a).key le;
-  value = let h = (w x a).value in omega (arith, h, le);
-}
+hyperedges-more n m ms w le x a = grind (arith, member-more)
 
 -- a node is added
 pub whole-added : (ks : List Node) (rs : List Reference) (ms : List Mapping) (loose : Chain) (bs : List ℕ) (x : Name) (h : Held) → IsWhole ks rs ms loose bs →
@@ -167,11 +151,7 @@ whole-with ks rs ms loose bs x h w few = go (number_of (vertices ks) x)
 
 -- which has its number,
 pub number-with : (ks : List Node) (x : Name) (h : Held) → number_of (vertices (with_node ks x h)) x ≡ Some (unwrap_or (number_of (vertices ks) x) (length ks))
-number-with ks x h = go (number_of (vertices ks) x) refl
-  where
-    go : (o : Option ℕ) → number_of (vertices ks) x ≡ o → number_of (vertices (elim o [ Some i ↦ ks | None ↦ ks ++ added x h ∷ [] ])) x ≡ Some (unwrap_or o (length ks))
-    go (Some i) e = e
-    go None e = number-added ks x h e
+number-with ks x h = grind (arith, unwrap_or, number-added)
 
 -- a node changes, but for what is kept of references and mappings
 pub whole-put : (ks : List Node) (rs : List Reference) (ms : List Mapping) (loose : Chain) (bs : List ℕ) (i : ℕ) (d y : Node) → IsWhole ks rs ms loose bs → i < length ks →
@@ -253,8 +233,7 @@ whole-mapped ks ls rs ms ns loose free bs m y w within same shown chains is no_m
 
 -- the references with one more, as they are shown
 pub edges-noted : (rs : List Reference) (o : Option ℕ) (n : ℕ) (r : Reference) → edges (with_next rs o n ++ r ∷ []) ≡ edges rs ++ edge_of r ∷ []
-edges-noted rs o n r =
-    map_push edge_of (with_next rs o n) r ∙ ap (λ es. es ++ edge_of r ∷ []) (shown-with_link (λ r n. record r { next = Some n }) edge_of (λ r n. refl) rs o n)
+edges-noted rs o n r = grind (arith, map_push, shown-with_link)
 
 pub length-with_next : (rs : List Reference) (o : Option ℕ) (n : ℕ) → length (with_next rs o n) ≡ length rs
 length-with_next rs o n = length-with_link (λ r n. record r { next = Some n }) rs o n
@@ -362,8 +341,7 @@ whole-noted ks rs ms loose bs from to n d t s w here there count noted reference
 -- the nodes are shown as they were
 pub vertices-noted : (ks : List Node) (from to n : ℕ) (d t s : Node) → from < length ks → to < length ks → vertex_of t ≡ vertex_of (get_or ks to d) →
     s ≡ get_or (set ks to t) from s → vertices (set (set ks to t) from (with_reference s n)) ≡ vertices ks
-vertices-noted ks from to n d t s here there shown read =
-    vertices-kept (set ks to t) from s (with_reference s n) (omega (arith, here, length-set ks to t)) (ap vertex_of read) ∙ vertices-kept ks to d t there shown
+vertices-noted ks from to n d t s here there shown read = grind (arith, vertices-kept, length-set)
 
 -- a whole graph is shown within its nodes
 pub whole-closed : (ks : List Node) (rs : List Reference) (ms : List Mapping) (loose : Chain) (bs : List ℕ) {spare : ℕ} {room : Rooms} → IsWhole ks rs ms loose bs →

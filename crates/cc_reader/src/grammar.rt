@@ -8,7 +8,10 @@ ghost use Rattle.cc_model.specs.Ranges.{in_range};
 ghost use Rattle.cc_model.specs.Asks.{command_in, command_of};
 ghost use Rattle.cc_reader.specs.Words.{first_read, heap_forms, own_forms, reflector_forms, register_forms, slot_forms};
 
-use crate::tokens::{four_tokens, native, next_token, number, object_name, one_token, register_of, script, slots_number, three_tokens, two_tokens, units_number};
+use crate::tokens::{
+    four_tokens, native, next_token, number, object_name, one_token, register_of, script,
+    slots_number, three_tokens, two_tokens, units_number,
+};
 use cc_model::{Command, Dialect};
 
 /// A line without the carriage return at its end.

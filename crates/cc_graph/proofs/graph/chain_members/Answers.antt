@@ -1,4 +1,4 @@
-use Rattle.std.proofs.Common.{◌∙◌, ap, sym}
+use Rattle.std.proofs.Common.{◌∙◌, ap, sym, arith}
 use Rattle.cc_graph.specs.Kept.{but_mappings, hyperedges}
 use Rattle.cc_graph.proofs.Mappings.{but-nodes_with, hyperedges-linked, members-one, members-two, second-there}
 use Rattle.cc_graph.proofs.graph.chain_members.Goals as goal
@@ -28,11 +28,7 @@ returns-clause-chained c value =
     c.len-place.ensures.count (sym c.is_one.ensures ∙ c.if-is_one.false))
 
 pub returns-clause-nodes : goal.returns-clause-nodes
-returns-clause-nodes c =
-    ap (λ n. but_mappings n.nodes) c.chain-2.ensures.nodes
-    ∙ (but-nodes_with c.chain.new.nodes.nodes _ _ ∙ (ap (λ n. but_mappings n.nodes) c.chain.ensures.nodes ∙ but-nodes_with c.args.nodes.now.nodes _ _))
+returns-clause-nodes c = grind (arith, but-nodes_with)
 
 pub returns-clause-shown : goal.returns-clause-shown
-returns-clause-shown c =
-    ap (λ p. hyperedges p.items) c.chain-2.ensures.mappings
-    ∙ (hyperedges-linked c.chain.new.mappings.items _ _ _ ∙ (ap (λ p. hyperedges p.items) c.chain.ensures.mappings ∙ hyperedges-linked c.args.mappings.now.items _ _ _))
+returns-clause-shown c = grind (arith, hyperedges-linked)

@@ -1,4 +1,4 @@
-use Rattle.std.proofs.Common.{◌+◌, ◌*◌, ◌<◌, ◌≤◌}
+use Rattle.std.proofs.Common.{◌+◌, ◌*◌, ◌≤◌}
 use Rattle.cc_pages.specs.Values.{at_number}
 use Rattle.cc_pages.proofs.Walking.{AreNone}
 use Rattle.cc_pages.proofs.group.first_in_group.Given as goal

@@ -13,9 +13,7 @@ invariant_of-self-2 c =
     rw (c.in_ok-number.ensures.nodes, c.add.ensures.blacks) (whole-with _ _ _ _ _ c.args.name c.args.held c.self.invariant few)
 
 pub returns-clause-number : goal.returns-clause-number
-returns-clause-number c =
-    ap (λ ks. number_of (vertices ks) c.args.name) c.in_ok-number.ensures.nodes
-    ∙ (number-with c.self.inside.nodes.nodes c.args.name c.args.held ∙ ap Some (sym c.in_ok-number.ensures.number))
+returns-clause-number c = grind (arith, number-with)
 
 pub returns-clause-within : goal.returns-clause-within
 returns-clause-within c =

@@ -14,9 +14,4 @@ invariant_of-self c =
     rw c.blacken.ensures (whole-black_node _ _ _ _ _ c.args.node (whole-blackened _ _ _ _ _ c.args.node c.self.invariant inside off))
 
 pub returns : goal.returns
-returns c =
-    let off : has ◌==◌ c.self.inside.nodes.blacks c.args.node ≡ false = ap (λ v. is_black v c.args.node) c.self.view_is ∙ (sym c.is_black.ensures ∙ c.if-is_black.false) in
-    shown-same _ _ _ _ _ _ _ _ _ _ _ (ap (λ n. vertices n.nodes) c.blacken.ensures ∙ vertices-black c.self.inside.nodes.nodes c.args.node) refl
-    (ap (λ n. n.blacks) c.blacken.ensures ∙ black-last c.self.inside.nodes.blacks c.args.node off) refl
-    (rooms-same _ _ _ _ _ (ap (λ n. n.node_room) c.blacken.ensures) (ap (λ n. n.black_room) c.blacken.ensures))
-    ∙ ap {A = Shown} {B = Shown} (λ v. record v { blacks = with_black v.blacks c.args.node }) c.self.view_is
+returns c = grind (arith, shown-same, vertices-black, black-last, rooms-same)

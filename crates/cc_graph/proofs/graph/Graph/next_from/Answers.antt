@@ -25,9 +25,7 @@ widened : (c : goal.After-widen) → c.widen.result ≡ place_from (edges c.self
 widened c = c.widen.ensures ∙ next c
 
 pub returns-clause-place : goal.returns-clause-place
-returns-clause-place c =
-    subst (λ (v : Shown). option_map (λ e. place_from v.edges e.source (c.args.j + 1)) (slice_get v.edges c.args.j) ≡ Some c.widen.result) c.self.view_is
-    (ap (option_map (λ e. place_from (edges c.self.inside.references.items) e.source (c.args.j + 1))) (here c) ∙ ap Some (sym (widened c)))
+returns-clause-place c = grind (arith, here, widened)
 
 pub returns-clause-within : goal.returns-clause-within
 returns-clause-within c =

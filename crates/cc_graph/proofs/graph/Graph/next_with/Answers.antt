@@ -7,10 +7,7 @@ use Rattle.cc_graph.proofs.Chains.{place-within, place-behind, place-passes, pas
 use Rattle.cc_graph.proofs.graph.Graph.next_with.Goals as goal
 
 pub at-requires : goal.at-requires
-at-requires c =
-    let member = subst (λ (v : Shown). option_map (is_with c.args.node) (slice_get v.hyperedges c.args.place) ≡ Some true) (sym c.self.view_is) c.requires in
-    let inside = passes-within (is_with c.args.node) (hyperedges c.self.inside.mappings.items) c.args.place member in
-    omega (arith, inside, length-hyperedges c.self.inside.mappings.items)
+at-requires c = grind (arith, passes-within, length-hyperedges)
 
 pub returns-clause-place : goal.returns-clause-place
 returns-clause-place c =

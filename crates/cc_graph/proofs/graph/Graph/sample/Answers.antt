@@ -15,11 +15,4 @@ invariant_of-self c =
     (ap (λ k. k.mappings) c.sample.ensures ∙ ap (λ k. k.mappings) c.at-sampled.ensures.value))
 
 pub returns-clause-sampled : goal.returns-clause-sampled
-returns-clause-sampled c =
-    let count = ap (λ v. length v.nodes) c.self.view_is in
-    let inside : c.args.node < length c.self.inside.nodes.nodes = omega (arith, count, length-vertices c.self.inside.nodes.nodes, c.requires) in
-    let changed = vertices-changed c.self.inside.nodes.nodes c.args.node c.at-sampled.result c.sample.new.self (with_sample c.args.count) inside
-    (ap vertex_of c.sample.ensures ∙ ap (λ k. with_sample c.args.count (vertex_of k)) c.at-sampled.ensures.value) in
-    shown-same _ _ _ _ _ _ _ _ _ _ _ (ap (λ n. vertices n.nodes) c.put.ensures ∙ changed) refl (ap (λ n. n.blacks) c.put.ensures) refl
-    (rooms-same _ _ _ _ _ (ap (λ n. n.node_room) c.put.ensures) (ap (λ n. n.black_room) c.put.ensures))
-    ∙ ap {A = Shown} {B = Shown} (λ v. record v { nodes = change_vertex v.nodes c.args.node (with_sample c.args.count) }) c.self.view_is
+returns-clause-sampled c = grind (arith, length-vertices, vertices-changed, shown-same, rooms-same)

@@ -14,9 +14,7 @@ invariant_of-self-then-number-count c =
     (numbers-given c.self.inside.numbers c.get_or_add.new.self c.args.name c.in_ok-number.number (c.self.invariant.numbered c.args.name ∙ (number-old _ _ _ _ c.args.name c.in_ok-number.number c.len-count.result c.self.invariant c.in_ok-number.ensures.found c.if-number-count.true)) c.in_ok-number.ensures.added)
 
 pub returns-then-number-count-clause-nodes : goal.returns-then-number-count-clause-nodes
-returns-then-number-count-clause-nodes c =
-    let nodes = ap (λ v. v.nodes) c.self.view_is in
-    nodes ∙ sym (ap (λ ks. with_node ks c.args.name c.args.held) (sym nodes) ∙ with_node-there c.self.inside.nodes.items c.args.name c.args.held c.in_ok-number.number (number-old _ _ _ _ c.args.name c.in_ok-number.number c.len-count.result c.self.invariant c.in_ok-number.ensures.found c.if-number-count.true) ∙ nodes)
+returns-then-number-count-clause-nodes c = grind (arith, with_node-there, number-old)
 
 pub invariant_of-self-then-is_err : goal.invariant_of-self-then-is_err
 invariant_of-self-then-is_err c =

@@ -20,8 +20,4 @@ invariant_of-self c =
     (ap (λ k. k.name) c.blacken.ensures ∙ ap (λ k. k.name) c.at.ensures) (ap (λ k. k.black) c.blacken.ensures))
 
 pub returns : goal.returns
-returns c =
-    let inside : c.args.i < length c.self.inside.nodes.items = omega (arith, ap (λ v. length v.nodes) c.self.view_is, c.requires.within) in
-    numbered-same _ _ _ _ _ _ _ _ (ap (λ p. p.items) c.set.ensures ∙ sym (black_node-at c.self.inside.nodes.items c.args.i c.at.result.now c.blacken.new.self inside c.at.ensures c.blacken.ensures))
-    (ap (λ p. p.items) c.push.ensures) (ap (λ p. p.capacity) c.set.ensures) (ap (λ p. p.capacity) c.push.ensures)
-    ∙ ap {A = Numbered} {B = Numbered} (λ v. record v { nodes = with_black_node v.nodes c.args.i; blacks = v.blacks ++ c.args.i ∷ [] }) c.self.view_is
+returns c = grind (arith, numbered-same, black_node-at)
