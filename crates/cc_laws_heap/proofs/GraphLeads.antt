@@ -1,5 +1,5 @@
 -- IN A GRAPH THAT IS WELL MADE objects lead to objects that were made, and there are steps enough to find them.
-use Rattle.std.proofs.Common.{arith, ◌≡◌, true, false, ◌++◌, [], ◌∷◌, Option, Some, None, is_some, length, refl, sym, ◌∙◌, ap, subst, inl, inr, ⊎_elim}
+use Rattle.std.proofs.Common.{arith, ◌≡◌, Option, Some, None, refl, sym, ◌∙◌, ap, subst, inl, inr, ⊎_elim}
 use Rattle.std.specs.Prelude.{IsTrue}
 use Rattle.std.specs.Option.{option_to_list}
 use Rattle.std.proofs.lemmas.Bool.{and_parts}
@@ -9,7 +9,7 @@ use Rattle.cc_names.specs.declared.name.Name.{Name}
 use Rattle.cc_names.specs.declared.name.Name.TheVariants as name
 use Rattle.cc_names.specs.Names.{native, reflector, is_native, is_script}
 use Rattle.cc_model.specs.Slots.{contents}
-use Rattle.cc_model.specs.Entries.{Entry, Joint, joints}
+use Rattle.cc_model.specs.Entries.{Entry, Joint}
 use Rattle.cc_model.specs.Checks.{slots_or_none}
 use Rattle.cc_model.specs.Graph.{Graph, native_in, script_in}
 use Rattle.cc_model.specs.Reached.{edges_of, names_of}

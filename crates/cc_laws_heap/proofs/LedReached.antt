@@ -1,13 +1,13 @@
 -- WHAT IS LED TO IS WHAT IS REACHED, in a graph that is well made and in heaps that are well formed.
-use Rattle.std.proofs.Common.{arith, ◌≡◌, true, false, Option, Some, None, refl, sym, subst, inl, inr, ⊎_elim}
+use Rattle.std.proofs.Common.{arith, ◌≡◌, true, Option, Some, None, refl, sym, subst, inl, inr}
 use Rattle.cc_lists.specs.Members.{Among}
 use Rattle.cc_lists.proofs.Members.{Among-left, Among-right, Among-append}
 use Rattle.cc_lists.proofs.Least.{derive-root, derive-along}
 use Rattle.cc_names.specs.declared.name.Name.{Name}
 use Rattle.cc_names.specs.declared.register.Reg.{Reg}
 use Rattle.cc_names.specs.declared.register.Reg.TheVariants.{N, S}
-use Rattle.cc_model.specs.Slots.{Slots, contents}
-use Rattle.cc_model.specs.Entries.{Joint, joint, joints, rules_of}
+use Rattle.cc_model.specs.Slots.{contents}
+use Rattle.cc_model.specs.Entries.{joint, joints, rules_of}
 use Rattle.cc_model.specs.Checks.{slots_or_none}
 use Rattle.cc_model.specs.Graph.{Graph}
 use Rattle.cc_model.specs.Reached.{Reached, held, edge, value, key, names_of}

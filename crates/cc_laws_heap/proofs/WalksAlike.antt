@@ -1,34 +1,29 @@
 -- THE HEAPS DERIVE WHAT THE GRAPH DERIVES: from what is reached the walks go on alike, since it has the same places in both, and
 -- an entry of the graph that the heaps lack has a member that is not reached.
-use Rattle.std.proofs.Common.{arith, ◌≡◌, ℕ, zero, suc, ◌+◌, ◌≤◌, Bool, true, false, ◌&&◌, cond, List, [], ◌∷◌, ◌++◌, Option, Some, None, option_map, refl, sym, ◌∙◌, ap, subst, inl, inr, ◌⊎◌, ⊎_elim, count_by, append_assoc}
+use Rattle.std.proofs.Common.{arith, ◌≡◌, ℕ, zero, suc, ◌+◌, ◌≤◌, Bool, true, false, ◌&&◌, cond, List, [], ◌∷◌, ◌++◌, Option, Some, None, refl, sym, ◌∙◌, ap, subst, inl, inr, ⊎_elim, count_by, append_assoc}
 use Rattle.std.proofs.lemmas.Bool.{and_parts}
 use Rattle.cc_lists.specs.Members.{Among, has}
-use Rattle.cc_lists.proofs.Members.{Among-append, Among-flat_map, has-there, has-among}
+use Rattle.cc_lists.proofs.Members.{Among-flat_map, has-among}
 use Rattle.cc_lists.proofs.Counting.{count_by-cons, count_by-some}
 use Rattle.cc_names.specs.declared.name.Name.{Name}
 use Rattle.cc_names.specs.declared.register.Reg.TheVariants.{N, S}
-use Rattle.cc_names.specs.declared.kind.Kind.{Kind}
-use Rattle.cc_names.specs.Names.{native, same_name}
+use Rattle.cc_names.specs.Names.{same_name}
 use Rattle.cc_names.proofs.NameTests.{same_name-exact}
 use Rattle.cc_model.specs.declared.item.Reason.{Reason}
-use Rattle.cc_model.specs.declared.item.Reason.TheVariants.{Root, Edge, Pair}
+use Rattle.cc_model.specs.declared.item.Reason.TheVariants.{Pair}
 use Rattle.cc_model.specs.Answers.{Step, explaining}
 use Rattle.cc_model.specs.Slots.{Slots, contents}
-use Rattle.cc_model.specs.Entries.{Entry, Joint, joint, key_joint, joints_of, joints, is_entry_of}
-use Rattle.cc_model.specs.Checks.{slots_or_none, native_of}
-use Rattle.cc_model.specs.Graph.{Graph, register}
-use Rattle.cc_model.specs.Reached.{Reached, held, edge, key, names_of}
+use Rattle.cc_model.specs.Entries.{Entry, Joint, joint, key_joint, joints_of, is_entry_of}
+use Rattle.cc_model.specs.Graph.{Graph}
+use Rattle.cc_model.specs.Reached.{Reached, key, names_of}
 use Rattle.cc_model.specs.WellMade.{IsWellMade}
-use Rattle.cc_model.specs.Heap.{Heap, HeapNative, HeapScript, slots_of_kind}
-use Rattle.cc_model.specs.Places.{places_in, places_of_native, places_of_script}
+use Rattle.cc_model.specs.Heap.{Heap}
 use Rattle.cc_model.specs.WellFormed.{IsWellFormed, names_there}
-use Rattle.cc_model.specs.StandsFor.{Shape, shape_at, shape_of_held_native, shape_of_held_script, script_shape, ArePart, StandsFor}
+use Rattle.cc_model.specs.StandsFor.{ArePart, StandsFor}
 use Rattle.cc_model.specs.Derivations.{Leads, Walk, leads_made, leads_in, named, steps_of, is_found, with_step, with_bank, nothing_found, rooted, with_edges, with_joint, with_joints, is_member, with_entries, with_object, walked_first, walk, derivation, needed_for, done_or_nothing, why_of}
-use Rattle.cc_model.proofs.Joints.{Gives, its_value, its_key}
-use Rattle.cc_model.proofs.Reaching.{joint-reached}
 use Rattle.cc_model.proofs.Derivations.{Follows, first-found, with_joints-keeps, with_edges-keeps, steps-step, steps-rooted, walk-goes_on, walk-rests}
 use Rattle.cc_model.proofs.PathsFollow.{AllReached, all_reached-grows}
-use Rattle.cc_model.proofs.Leading.{IsEnd, derivation-ends, heap-within}
+use Rattle.cc_model.proofs.Leading.{derivation-ends, heap-within}
 use Rattle.cc_laws_heap.proofs.EntryLists.{is_entry_of-own}
 use Rattle.cc_laws_heap.proofs.ReachedAlike.{ArePart-among, ArePart-none, edges_of-made, here, same_delegate}
 use Rattle.cc_laws_heap.proofs.HeapShapes.{places_in-shape}

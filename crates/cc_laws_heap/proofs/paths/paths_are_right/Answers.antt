@@ -1,4 +1,3 @@
-use Rattle.std.proofs.Common.{true, false, refl, ap}
 use Rattle.std.proofs.lemmas.Bool.{cases_Bool}
 use Rattle.std.proofs.Common.{⊎_elim}
 use Rattle.cc_model.specs.Derivations.{leads_made, is_led_to}
