@@ -50,7 +50,7 @@ module _ (cells : List (Option Placed)) (h : Holders) (k : AreKnown cells h) whe
       let g : Known (scripts_of c) p ≡ Known (scripts_of d) q = sym (k.known p c e) ∙ (ap (entry_at h) same ∙ k.known q d f) in cc
 
   -- there is room for one more
-  pub known-room : (key : ℕ) (c : Placed) → cell_at cells key ≡ Some c → count_of (entry_at h c.number) < 255
+  pub known-room : (key : ℕ) (c : Placed) → cell_at cells key ≡ Some c → count_of (entry_at h c.number) < 65535
   known-room key c at = let few = scripts-few c (k.few key c at) in rw (k.known key c at) (omega (arith, few))
 
   -- a table that says the same
@@ -260,9 +260,9 @@ module _ (s t : Stored) (h : Holders) (k : AreKnown s.lists.cells h) (key : ℕ)
   pub live-then : is_some (cell_at t.lists.cells key) ≡ true
   live-then = ap (λ (o : Option Placed). is_some o) there-then
 
-  pub room-then : (d : Placed) → cell_at t.lists.cells key ≡ Some d → count_of (entry_at h d.number) < 255
+  pub room-then : (d : Placed) → cell_at t.lists.cells key ≡ Some d → count_of (entry_at h d.number) < 65535
   room-then d g = let is : Some (f c) ≡ Some d = sym there-then ∙ g in let one : f c ≡ d = cc in
-      subst (λ m. count_of (entry_at h m) < 255) (sym same ∙ ap (λ (x : Placed). x.number) one) (known-room s.lists.cells h k key c at)
+      subst (λ m. count_of (entry_at h m) < 65535) (sym same ∙ ap (λ (x : Placed). x.number) one) (known-room s.lists.cells h k key c at)
 
   pub counted-then : length (f c).slots ≤ most_slots → scripts_of (f c) ≡ scripts_of c → AreKnown t.lists.cells h
   counted-then few alike = subst (λ cs. AreKnown cs h) (sym cells-then) (known-counted s.lists.cells h k key c (f c) at same few alike)

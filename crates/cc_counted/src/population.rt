@@ -312,7 +312,7 @@ fn has_preserved_reflector(natives: &Natives, key: NKey) -> bool
 /// Counts the script objects that the native at a key refers to, where one place of it referred to one before, or does after.
 fn recount(natives: &Natives, holders: &mut Holders, key: NKey, before: bool, after: bool)
     requires live { IsSome (cell_at natives.now.lists.cells key.0) }
-    requires room { (c : Placed) → cell_at natives.now.lists.cells key.0 ≡ Some c → count_of (entry_at holders.old c.number) < 255 }
+    requires room { (c : Placed) → cell_at natives.now.lists.cells key.0 ≡ Some c → count_of (entry_at holders.old c.number) < 65535 }
     ensures { (c : Placed) → cell_at natives.now.lists.cells key.0 ≡ Some c →
         (n : ℕ) → entry_at holders.new n ≡ (if c.number == n then recounted before after (entry_at holders.old c.number) else entry_at holders.old n) }
 {

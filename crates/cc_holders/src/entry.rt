@@ -8,7 +8,7 @@ pub enum Entry {
     /// Nothing.
     Unknown,
     /// Its count and its key.
-    Known(u8, u32),
+    Known(u16, u32),
 }
 
 impl Entry {
@@ -54,7 +54,7 @@ impl Entry {
 
     /// The same with a count greater by one.
     pub(crate) fn raised(self) -> Entry
-        requires { count_of self < 255 }
+        requires { count_of self < 65535 }
         ensures { result ≡ one_more self }
     {
         match self {

@@ -61,7 +61,7 @@ impl Holders {
 
     /// Raises the count of the number, where it is known, by one. Takes no memory.
     pub fn raise(&mut self, number: u32)
-        requires { count_of (entry_at self.old number) < 255 }
+        requires { count_of (entry_at self.old number) < 65535 }
         ensures entries { (n : ℕ) → entry_at self.new n ≡ (if number == n then one_more (entry_at self.old number) else entry_at self.old n) }
         ensures memory { vec_capacity self.new.groups ≡ vec_capacity self.old.groups }
     {

@@ -15,11 +15,11 @@ fn fill(holders: &mut Holders) -> Result<(), NoMemory> {
     holders.add(100_000, 6)
 }
 
-/// Raises the count of a number, which is below 255.
+/// Raises the count of a number, which is below 65535.
 fn raise(rt: &impl Abort, holders: &mut Holders, number: u32) {
     match holders.get(number) {
         Entry::Known(count, _) => {
-            assert!(rt; count < 255);
+            assert!(rt; count < 65535);
             holders.raise(number);
         }
         Entry::Unknown => holders.raise(number),
