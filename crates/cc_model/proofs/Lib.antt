@@ -7,4 +7,5 @@ pub mod Rounds
 pub mod UnitsEnd
 pub mod Replies
 pub mod Opened
+pub mod Derivations
 pub mod MemberNodes
