@@ -1,5 +1,5 @@
--- DERIVATIONS: what each step keeps, all steps keep; so names are distinct, each step follows from those before it, the steps
--- are closed, the walk ends, and what is found later is not needed for what was found before.
+-- DERIVATIONS: what each step keeps, all steps keep; so names are distinct, each step follows from those before it, the walk
+-- goes on until none waits, and what is found later is not needed for what was found before.
 use Rattle.std.specs.Prelude.{slice_index_or}
 use Rattle.std.proofs.Common.{◌≡◌, ℕ, zero, suc, ◌+◌, ◌<◌, ◌≤◌, Bool, true, false, ◌&&◌, ◌||◌, cond, List, [], ◌∷◌, ◌++◌, map, length, Option, Some, None, refl, sym, ◌∙◌, ap, subst, inl, inr, ◌⊎◌, ⊎_elim, arith, count_by, append_assoc, length-append}
 use Rattle.std.proofs.lemmas.Bool.{true≢false, and_parts, or_left, or_right}
@@ -19,6 +19,7 @@ use Rattle.cc_model.specs.declared.item.Reason.TheVariants.{Root, Edge, Pair}
 use Rattle.cc_model.specs.Answers.{Step}
 use Rattle.cc_model.specs.Slots.{Slots, contents}
 use Rattle.cc_model.specs.Entries.{Entry, Joint, joints_of, joints}
+use Rattle.cc_model.proofs.Reaching.{content-at}
 use Rattle.cc_model.specs.Derivations.{Leads, Walk, named, steps_of, is_found, with_step, with_bank, nothing_found, rooted, with_edges, with_joint, with_joints, is_member, with_entries, with_object, walked_first, walk, derivation, grounds, Needed, with_needed, needed_for, path_to, is_led_to}
 
 -- what holds a name in a register
@@ -43,7 +44,7 @@ same_name-sym x y = go (same_name x y) refl (same_name y x) refl
 
 -- WHAT IS FOUND STAYS FOUND
 
-has-more : (ss ts : List Step) (x : Name) → has same_name (named ss) x ≡ true → has same_name (named (ss ++ ts)) x ≡ true
+pub has-more : (ss ts : List Step) (x : Name) → has same_name (named ss) x ≡ true → has same_name (named (ss ++ ts)) x ≡ true
 has-more [] ts x e = absurd (true≢false (sym e))
 has-more (s ∷ ss) ts x e = go (λ k. has-more ss ts x k) (same_name s.0 x) e
   where
@@ -52,12 +53,15 @@ has-more (s ∷ ss) ts x e = go (λ k. has-more ss ts x k) (same_name s.0 x) e
     go more true k = refl
     go more false k = more k
 
+pub found-grows : (w : Walk) (y : Name) (r : Reason) (x : Name) → is_found w x ≡ true → is_found (record w { waiting = w.waiting ++ (y, r) ∷ [] }) x ≡ true
+found-grows w y r x e = subst (λ ss. has same_name (named ss) x ≡ true) (append_assoc w.walked w.waiting ((y, r) ∷ [])) (has-more (steps_of w) ((y, r) ∷ []) x e)
+
 pub with_step-found : (w : Walk) (y : Name) (r : Reason) (x : Name) → is_found w x ≡ true → is_found (with_step w y r) x ≡ true
 with_step-found w y r x e = go (is_found w y)
   where
     go : (b : Bool) → is_found (elim b [ true ↦ w | false ↦ record w { waiting = w.waiting ++ (y, r) ∷ [] } ]) x ≡ true
     go true = e
-    go false = subst (λ ss. has same_name (named ss) x ≡ true) (append_assoc w.walked w.waiting ((y, r) ∷ [])) (has-more (steps_of w) ((y, r) ∷ []) x e)
+    go false = found-grows w y r x e
 
 -- WHAT EACH STEP KEEPS, of a walk
 module _ (l : Leads) (P : Walk → Type 0)
@@ -237,21 +241,13 @@ pub record AreWithin (l : Leads) (names : List Name) : Type 0 where
   pub joined : (j : Joint) → Among j (joints l.entries) → Among j.value names
   pub enough : length names ≤ l.objects
 
--- a root is what its bank holds
-held-contents : (slots : Slots) (i : ℕ) (x : Name) → slice_index_or slots i None ≡ Some x → Among x (contents slots)
-held-contents [] i x e = absurd (cc)
-held-contents (None ∷ slots) zero x e = absurd (cc)
-held-contents (Some y ∷ slots) zero x e = inl (cc)
-held-contents (None ∷ slots) (suc i) x e = held-contents slots i x e
-held-contents (Some y ∷ slots) (suc i) x e = inr (held-contents slots i x e)
-
 -- each name is one of them
 abbrev pub HasNamesOf : List Name → List Step → Type 0
 HasNamesOf names ss = (x : Name) → Among x (named ss) → Among x names
 
 pub named-within : (l : Leads) (names : List Name) → AreWithin l names → (ss : List Step) (x : Name) (r : Reason) → Follows l ss x r → Among x names
-named-within l names within ss x (Root (N k)) f = within.natives x (held-contents l.native_registers k x f)
-named-within l names within ss x (Root (S k)) f = within.scripts x (held-contents l.script_registers k x f)
+named-within l names within ss x (Root (N k)) f = within.natives x (content-at x l.native_registers k f)
+named-within l names within ss x (Root (S k)) f = within.scripts x (content-at x l.script_registers k f)
 named-within l names within ss x (Edge y) f = within.places y x f.1
 named-within l names within ss x (Pair m k) f = within.joined (record { the_map = m; key = k; value = x }) f.2
 
@@ -312,9 +308,13 @@ on_the_way-starts l names within = record {
   some = steps-rooted l (AreSome l names) (some-grows l names within) (record { distinct = λ y. omega arith; within = λ x m. absurd m });
 }
 
-walk-goes_on : (n : ℕ) (l : Leads) (w : Walk) (s : Step) (ss : List Step) → w.waiting ≡ s ∷ ss → walk (suc n) l w ≡ walk n l (walked_first l s ss w)
+pub walk-goes_on : (n : ℕ) (l : Leads) (w : Walk) (s : Step) (ss : List Step) → w.waiting ≡ s ∷ ss → walk (suc n) l w ≡ walk n l (walked_first l s ss w)
 unfolding walk
 walk-goes_on n l w s ss e = ap (λ (q : List Step). elim q [ [] ↦ w | t ∷ ts ↦ walk n l (walked_first l t ts w) ]) e
+
+pub one_less-left : (l : Leads) (s : Step) (ss : List Step) (w : Walk) (n : ℕ) → length w.walked + suc n ≡ l.objects → length (walked_first l s ss w).walked + n ≡ l.objects
+one_less-left l s ss w n enough =
+    ap (λ (ts : List Step). length ts + n) (walked_first-walked l s ss w) ∙ (ap (λ k. k + n) (length-append w.walked (s ∷ [])) ∙ (omega (arith, enough)))
 
 pub on_the_way-goes_on : (l : Leads) (names : List Name) → AreWithin l names → (w : Walk) (s : Step) (ss : List Step) → w.waiting ≡ s ∷ ss → IsOnTheWay l names w →
     IsOnTheWay l names (walked_first l s ss w)
@@ -331,12 +331,12 @@ on_the_way-goes_on l names within w s ss e way = go way.left way.whole way.enoug
     go (suc n) whole enough = record {
       left = n;
       whole = whole ∙ walk-goes_on n l w s ss e;
-      enough = ap (λ (ts : List Step). length ts + n) (walked_first-walked l s ss w) ∙ (ap (λ k. k + n) (length-append w.walked (s ∷ [])) ∙ (omega (arith, enough)));
+      enough = one_less-left l s ss w n enough;
       some = steps-step l (AreSome l names) (some-grows l names within) w s ss e way.some;
     }
 
 -- where none waits, all is found
-walk-rests : (n : ℕ) (l : Leads) (w : Walk) → w.waiting ≡ [] → walk n l w ≡ w
+pub walk-rests : (n : ℕ) (l : Leads) (w : Walk) → w.waiting ≡ [] → walk n l w ≡ w
 unfolding walk
 walk-rests zero l w e = refl
 walk-rests (suc n) l w e = ap (λ (q : List Step). elim q [ [] ↦ w | t ∷ ts ↦ walk n l (walked_first l t ts w) ]) e

@@ -8,4 +8,5 @@ pub mod UnitsEnd
 pub mod Replies
 pub mod Opened
 pub mod Derivations
+pub mod Leading
 pub mod MemberNodes
