@@ -1,21 +1,30 @@
 -- WHAT IS LED TO is the least set that has what registers hold, what the places of its members hold, and what entries give
 -- whose members it has; and in heaps that are well formed there are steps enough to find it.
-use Rattle.std.proofs.Common.{◌≡◌, ℕ, zero, suc, ◌+◌, ◌≤◌, Bool, true, false, ◌&&◌, ◌||◌, List, [], ◌∷◌, ◌++◌, map, length, Option, Some, None, refl, sym, ◌∙◌, ap, subst, inl, inr, ◌⊎◌, ⊎_elim, arith, append_assoc, length-append}
+use Rattle.std.proofs.Common.{◌≡◌, ℕ, zero, suc, ◌+◌, ◌≤◌, Bool, true, false, ◌&&◌, ◌||◌, List, [], ◌∷◌, ◌++◌, map, length, Option, Some, None, ◌==◌, option_map, refl, sym, ◌∙◌, ap, subst, inl, inr, ◌⊎◌, ⊎_elim, arith, append_assoc, length-append}
+use Rattle.std.specs.Option.{option_to_list}
 use Rattle.std.proofs.lemmas.Bool.{false≢true}
 use Rattle.std.proofs.lemmas.List.{append-nil, map_push, nil_from_length, length-map}
 use Rattle.cc_lists.specs.Members.{Among, has}
-use Rattle.cc_lists.proofs.Members.{Among-left, Among-right, Among-append, Among-flat_map_cases, has-there, has-among}
+use Rattle.cc_lists.proofs.Filtering.{find-among}
+use Rattle.cc_lists.proofs.Members.{Among-map, Among-left, Among-right, Among-append, Among-flat_map_cases, has-there, has-among}
 use Rattle.cc_names.specs.declared.name.Name.{Name}
+use Rattle.cc_names.specs.declared.name.Name.TheVariants as name
 use Rattle.cc_names.specs.declared.register.Reg.{Reg}
 use Rattle.cc_names.specs.declared.register.Reg.TheVariants.{N, S}
-use Rattle.cc_names.specs.Names.{same_name}
+use Rattle.cc_names.specs.Names.{native, object, reflector, same_name}
+use Rattle.cc_names.specs.Places.{where_set}
 use Rattle.cc_names.proofs.NameTests.{same_name-refl, same_name-exact}
 use Rattle.cc_model.specs.declared.item.Reason.{Reason}
 use Rattle.cc_model.specs.declared.item.Reason.TheVariants.{Root, Edge, Pair}
 use Rattle.cc_model.specs.Answers.{Step}
 use Rattle.cc_model.specs.Slots.{Slots, contents}
 use Rattle.cc_model.specs.Entries.{Entry, Joint, joint, key_joint, joints_of, joints}
-use Rattle.cc_model.specs.Derivations.{Leads, Walk, named, steps_of, is_found, with_step, with_bank, nothing_found, rooted, with_edges, with_joint, with_joints, is_delegate, is_member, with_entries, with_object, walked_first, walk, derivation, is_led_to}
+use Rattle.cc_model.specs.Derivations.{Leads, Walk, named, steps_of, is_found, with_step, with_bank, nothing_found, rooted, with_edges, with_joint, with_joints, is_delegate, is_member, with_entries, with_object, walked_first, walk, derivation, is_led_to, leads_in}
+use Rattle.cc_model.specs.Checks.{native_of, slots_or_none}
+use Rattle.cc_model.specs.Heap.{Heap, HeapNative, HeapScript, native_at, script_at}
+use Rattle.cc_model.specs.Places.{places_of_native, places_of_script, script_places_of, places_in}
+use Rattle.cc_model.specs.WellFormed.{IsWellFormed, native_names, script_names, names_there}
+use Rattle.cc_model.proofs.Places.{contents-last, script_place-cases}
 use Rattle.cc_model.proofs.Joints.{Gives, its_value, its_key, joint-cases}
 use Rattle.cc_model.proofs.Derivations.{AreSome, AreWithin, Follows, HasNamesOf, IsHeldBy, IsOnTheWay, first-found, found-grows, found-led, has-more, one_less-left, on_the_way-goes_on, on_the_way-starts, rooted-walked, some-few, some-grows, steps-all, steps-step, walk-goes_on, walk-rests, walked_first-walked, with_bank-keeps, with_edges-keeps, with_entries-keeps, with_joints-keeps, with_object-keeps, with_step-found}
 
@@ -249,3 +258,67 @@ place-led l names within y x led a = (derivation-ends l names within).closed.pla
 
 pub joint-led : (l : Leads) (names : List Name) → AreWithin l names → (j : Joint) → Among j (joints l.entries) → is_led_to l j.the_map ≡ true → is_led_to l j.key ≡ true → is_led_to l j.value ≡ true
 joint-led l names within j a m k = (derivation-ends l names within).closed.joined j a (led-walked l names within j.the_map m) (led-walked l names within j.key k)
+
+-- IN HEAPS THAT ARE WELL FORMED objects lead to objects that are there
+
+native_places-there : (h : Heap) → IsWellFormed h → (n : HeapNative) → Among n h.natives → (x : Name) → Among x (contents (places_of_native n)) → Among x (names_there h)
+native_places-there h well n m x a = ⊎_elim
+    (λ s. well.native_contents n x m s)
+    (λ r. by_flag n.preserved refl r)
+    (Among-append x (contents n.slots) (option_to_list (where_set n.preserved (Some (reflector n.number))))
+    (subst (Among x) (contents-last n.slots (where_set n.preserved (Some (reflector n.number)))) a))
+  where
+    by_flag : (b : Bool) → n.preserved ≡ b → Among x (option_to_list (where_set b (Some (reflector n.number)))) → Among x (names_there h)
+    by_flag true e (inl is) = Among-right x (native_names h) (script_names h) (subst (λ z. Among z (script_names h)) is (well.preserved n m e))
+    by_flag true e (inr never) = absurd never
+    by_flag false e never = absurd never
+
+script_places-there : (h : Heap) → IsWellFormed h → (o : HeapScript) → Among o h.scripts → (x : Name) → Among x (contents (places_of_script o)) → Among x (names_there h)
+script_places-there h well o m x a = ⊎_elim
+    (λ s. Among-right x (native_names h) (script_names h)
+      (⊎_elim (λ c. well.script_contents o x m c) (λ d. well.delegate_there o x m d) (script_place-cases o x s)))
+    (λ r. by_name o.name refl r)
+    (Among-append x (contents (script_places_of o)) (option_to_list (native_of (Some o.name)))
+    (subst (Among x) (contents-last (script_places_of o) (native_of (Some o.name))) a))
+  where
+    by_name : (y : Name) → o.name ≡ y → Among x (option_to_list (native_of (Some y))) → Among x (names_there h)
+    by_name (name.Native k) e never = absurd never
+    by_name (name.Script k) e never = absurd never
+    by_name (name.Reflector k) e (inl is) = Among-left x (native_names h) (script_names h)
+        (subst (λ z. Among z (native_names h)) is (well.reflected k.0 (subst (λ z. Among z (script_names h)) e (Among-map (λ (p : HeapScript). p.name) o h.scripts m))))
+    by_name (name.Reflector k) e (inr never) = absurd never
+
+places-there : (h : Heap) → IsWellFormed h → (y x : Name) → Among x (contents (slots_or_none (places_in h y))) → Among x (names_there h)
+places-there h well (name.Native k) x a = go (native_at h k.0) refl a
+  where
+    go : (o : Option HeapNative) → native_at h k.0 ≡ o → Among x (contents (slots_or_none (option_map places_of_native o))) → Among x (names_there h)
+    go None e never = absurd never
+    go (Some n) e b = native_places-there h well n (find-among (λ (q : HeapNative). q.number == k.0) h.natives n e) x b
+places-there h well (name.Script k) x a = go (script_at h (object k.0)) refl a
+  where
+    go : (o : Option HeapScript) → script_at h (object k.0) ≡ o → Among x (contents (slots_or_none (option_map places_of_script o))) → Among x (names_there h)
+    go None e never = absurd never
+    go (Some p) e b = script_places-there h well p (find-among (λ (q : HeapScript). same_name q.name (object k.0)) h.scripts p e) x b
+places-there h well (name.Reflector k) x a = go (script_at h (reflector k.0)) refl a
+  where
+    go : (o : Option HeapScript) → script_at h (reflector k.0) ≡ o → Among x (contents (slots_or_none (option_map places_of_script o))) → Among x (names_there h)
+    go None e never = absurd never
+    go (Some p) e b = script_places-there h well p (find-among (λ (q : HeapScript). same_name q.name (reflector k.0)) h.scripts p e) x b
+
+pub heap-within : (h : Heap) → IsWellFormed h → AreWithin (leads_in h) (names_there h)
+heap-within h well = record {
+    natives = λ x m. Among-left x (native_names h) (script_names h) (well.native_registers x m);
+    scripts = λ x m. Among-right x (native_names h) (script_names h) (well.script_registers x m);
+    places = places-there h well;
+    joined = λ j m. let e = joint-cases h.entries j m in Among-right j.value (native_names h) (script_names h) (given e.0 e.1 j e.2);
+    enough = omega (
+      arith,
+      length-append (native_names h) (script_names h),
+      length-map h.natives (λ (n : HeapNative). native n.number),
+      length-map h.scripts (λ (o : HeapScript). o.name),
+    );
+  }
+  where
+    given : (e : Entry) → Among e h.entries → (j : Joint) → Gives e j → Among j.value (script_names h)
+    given e m _ its_value = (well.entries e m).value
+    given e m _ (its_key d is) = (well.entries e m).key
