@@ -1,11 +1,11 @@
 -- DERIVATIONS: what each step keeps, all steps keep; so names are distinct, each step follows from those before it, the walk
 -- goes on until none waits, and what is found later is not needed for what was found before.
 use Rattle.std.specs.Prelude.{slice_index_or}
-use Rattle.std.proofs.Common.{◌≡◌, ℕ, zero, suc, ◌+◌, ◌<◌, ◌≤◌, Bool, true, false, ◌&&◌, ◌||◌, cond, List, [], ◌∷◌, ◌++◌, map, length, Option, Some, None, refl, sym, ◌∙◌, ap, subst, inl, inr, ◌⊎◌, ⊎_elim, arith, count_by, append_assoc, length-append}
+use Rattle.std.proofs.Common.{◌≡◌, ℕ, zero, suc, ◌+◌, ◌<◌, ◌≤◌, Bool, true, false, ◌&&◌, ◌||◌, List, [], ◌∷◌, ◌++◌, length, Some, None, refl, sym, ◌∙◌, ap, subst, inl, inr, ◌⊎◌, ⊎_elim, arith, count_by, append_assoc, length-append}
 use Rattle.std.proofs.lemmas.Bool.{true≢false, and_parts, or_left, or_right}
-use Rattle.std.proofs.lemmas.List.{map-append, map_push, append-nil, length-map, nil_from_length}
+use Rattle.std.proofs.lemmas.List.{map_push, append-nil, length-map}
 use Rattle.cc_lists.specs.Members.{Among, has, with_last}
-use Rattle.cc_lists.proofs.Members.{Among-left, Among-right, Among-append, Among-map, Among-flat_map, has-there, has-among}
+use Rattle.cc_lists.proofs.Members.{Among-right, Among-append, Among-map, Among-flat_map, has-there, has-among}
 use Rattle.cc_lists.proofs.OnceEach.{with_all_last-once}
 use Rattle.cc_lists.proofs.Counting.{count_by-below, count_by-some, counted_is, count_by-all}
 use Rattle.cc_lists.proofs.CountsOf.{false-left, count_by-agree}
@@ -20,7 +20,7 @@ use Rattle.cc_model.specs.Answers.{Step}
 use Rattle.cc_model.specs.Slots.{Slots, contents}
 use Rattle.cc_model.specs.Entries.{Entry, Joint, joints_of, joints}
 use Rattle.cc_model.proofs.Reaching.{content-at}
-use Rattle.cc_model.specs.Derivations.{Leads, Walk, named, steps_of, is_found, with_step, with_bank, nothing_found, rooted, with_edges, with_joint, with_joints, is_member, with_entries, with_object, walked_first, walk, derivation, grounds, Needed, with_needed, needed_for, path_to, is_led_to}
+use Rattle.cc_model.specs.Derivations.{Leads, Walk, named, steps_of, is_found, with_step, with_bank, nothing_found, rooted, with_edges, with_joint, with_joints, is_member, with_entries, with_object, walked_first, walk, derivation, grounds, with_needed, needed_for, path_to, is_led_to}
 
 -- what holds a name in a register
 abbrev pub IsHeldBy : Leads → Reg → Name → Type 0
@@ -66,7 +66,6 @@ with_step-found w y r x e = go (is_found w y)
 -- WHAT EACH STEP KEEPS, of a walk
 module _ (l : Leads) (P : Walk → Type 0)
     (grow : (w : Walk) (x : Name) (r : Reason) → is_found w x ≡ false → Follows l (steps_of w) x r → P w → P (record w { waiting = w.waiting ++ (x, r) ∷ [] })) where
-
   pub with_step-keeps : (w : Walk) (x : Name) (r : Reason) → Follows l (steps_of w) x r → P w → P (with_step w x r)
   with_step-keeps w x r f p = go (is_found w x) refl
     where
@@ -126,7 +125,6 @@ first-found walked s ss =
 module _ (l : Leads) (P : Walk → Type 0)
     (grow : (w : Walk) (x : Name) (r : Reason) → is_found w x ≡ false → Follows l (steps_of w) x r → P w → P (record w { waiting = w.waiting ++ (x, r) ∷ [] }))
     (move : (walked : List Step) (s : Step) (ss : List Step) → P (record { walked = walked; waiting = s ∷ ss }) → P (record { walked = walked ++ s ∷ []; waiting = ss })) where
-
   pub walked_first-keeps : (w : Walk) (s : Step) (ss : List Step) → w.waiting ≡ s ∷ ss → P w → P (walked_first l s ss w)
   walked_first-keeps w s ss e p =
       with_object-keeps l P grow s.0 (record { walked = w.walked ++ s ∷ []; waiting = ss }) (first-found w.walked s ss)
@@ -144,7 +142,6 @@ module _ (l : Leads) (P : Walk → Type 0)
 -- OF THE STEPS ALONE
 module _ (l : Leads) (P : List Step → Type 0)
     (grow : (ss : List Step) (x : Name) (r : Reason) → has same_name (named ss) x ≡ false → Follows l ss x r → P ss → P (ss ++ (x, r) ∷ [])) where
-
   grown : (w : Walk) (x : Name) (r : Reason) → is_found w x ≡ false → Follows l (steps_of w) x r → P (steps_of w) → P (steps_of (record w { waiting = w.waiting ++ (x, r) ∷ [] }))
   grown w x r e f p = subst P (append_assoc w.walked w.waiting ((x, r) ∷ [])) (grow (steps_of w) x r e f p)
 
@@ -203,11 +200,11 @@ begins-itself ss = record { more = []; whole = sym (append-nil ss); later = λ y
 
 begins-grows : (l : Leads) (front ss : List Step) (x : Name) (r : Reason) → has same_name (named ss) x ≡ false → Follows l ss x r → Begins front ss → Begins front (ss ++ (x, r) ∷ [])
 begins-grows l front ss x r e f b = record {
-    more = b.more ++ (x, r) ∷ [];
-    whole = ap (λ ts. ts ++ (x, r) ∷ []) b.whole ∙ append_assoc front b.more ((x, r) ∷ []);
-    later = λ y h. false-left (has same_name (named (b.more ++ (x, r) ∷ [])) y) (λ t. none y h
-    (Among-append y (named b.more) (x ∷ []) (subst (Among y) (map_push (λ (s : Step). s.0) b.more (x, r)) (has-among same_name same_name-exact (named (b.more ++ (x, r) ∷ [])) y t))));
-  }
+  more = b.more ++ (x, r) ∷ [];
+  whole = ap (λ ts. ts ++ (x, r) ∷ []) b.whole ∙ append_assoc front b.more ((x, r) ∷ []);
+  later = λ y h. false-left (has same_name (named (b.more ++ (x, r) ∷ [])) y) (λ t. none y h
+      (Among-append y (named b.more) (x ∷ []) (subst (Among y) (map_push (λ (s : Step). s.0) b.more (x, r)) (has-among same_name same_name-exact (named (b.more ++ (x, r) ∷ [])) y t))));
+}
   where
     none : (y : Name) → has same_name (named front) y ≡ true → Among y (named b.more) ⊎ Among y (x ∷ []) → ⊥
     none y h (inl m) = true≢false (sym (has-there same_name same_name-exact (named b.more) y m) ∙ b.later y h)
@@ -261,7 +258,7 @@ pub some-grows : (l : Leads) (names : List Name) → AreWithin l names → (ss :
 some-grows l names within ss x r e f some = record {
   distinct = distinct-grows l ss x r e f some.distinct;
   within = λ y m. ⊎_elim (λ a. some.within y a) (λ b. ⊎_elim (λ is. subst (λ z. Among z names) is (named-within l names within ss x r f)) (λ never. absurd never) b)
-    (Among-append y (named ss) (x ∷ []) (subst (Among y) (map_push (λ (s : Step). s.0) ss (x, r)) m));
+      (Among-append y (named ss) (x ∷ []) (subst (Among y) (map_push (λ (s : Step). s.0) ss (x, r)) m));
 }
 
 -- so they are few

@@ -1,19 +1,19 @@
 -- WHAT IS LED TO is the least set that has what registers hold, what the places of its members hold, and what entries give
 -- whose members it has; and in heaps that are well formed there are steps enough to find it.
-use Rattle.std.proofs.Common.{◌≡◌, ℕ, zero, suc, ◌+◌, ◌≤◌, Bool, true, false, ◌&&◌, ◌||◌, List, [], ◌∷◌, ◌++◌, map, length, Option, Some, None, ◌==◌, option_map, refl, sym, ◌∙◌, ap, subst, inl, inr, ◌⊎◌, ⊎_elim, arith, append_assoc, length-append}
+use Rattle.std.proofs.Common.{◌≡◌, ℕ, zero, suc, ◌+◌, Bool, true, false, ◌&&◌, ◌||◌, List, [], ◌∷◌, ◌++◌, length, Option, Some, None, ◌==◌, option_map, refl, sym, ◌∙◌, ap, subst, inl, inr, ◌⊎◌, ⊎_elim, arith, append_assoc, length-append}
 use Rattle.std.specs.Option.{option_to_list}
 use Rattle.std.proofs.lemmas.Bool.{false≢true}
 use Rattle.std.proofs.lemmas.List.{append-nil, map_push, nil_from_length, length-map}
 use Rattle.cc_lists.specs.Members.{Among, has}
 use Rattle.cc_lists.proofs.Filtering.{find-among}
-use Rattle.cc_lists.proofs.Members.{Among-map, Among-left, Among-right, Among-append, Among-flat_map_cases, has-there, has-among}
+use Rattle.cc_lists.proofs.Members.{Among-map, Among-left, Among-right, Among-append, has-there, has-among}
 use Rattle.cc_names.specs.declared.name.Name.{Name}
 use Rattle.cc_names.specs.declared.name.Name.TheVariants as name
 use Rattle.cc_names.specs.declared.register.Reg.{Reg}
 use Rattle.cc_names.specs.declared.register.Reg.TheVariants.{N, S}
 use Rattle.cc_names.specs.Names.{native, object, reflector, same_name}
 use Rattle.cc_names.specs.Places.{where_set}
-use Rattle.cc_names.proofs.NameTests.{same_name-refl, same_name-exact}
+use Rattle.cc_names.proofs.NameTests.{same_name-exact}
 use Rattle.cc_model.specs.declared.item.Reason.{Reason}
 use Rattle.cc_model.specs.declared.item.Reason.TheVariants.{Root, Edge, Pair}
 use Rattle.cc_model.specs.Answers.{Step}
@@ -26,7 +26,7 @@ use Rattle.cc_model.specs.Places.{places_of_native, places_of_script, script_pla
 use Rattle.cc_model.specs.WellFormed.{IsWellFormed, native_names, script_names, names_there}
 use Rattle.cc_model.proofs.Places.{contents-last, script_place-cases}
 use Rattle.cc_model.proofs.Joints.{Gives, its_value, its_key, joint-cases}
-use Rattle.cc_model.proofs.Derivations.{AreSome, AreWithin, Follows, HasNamesOf, IsHeldBy, IsOnTheWay, first-found, found-grows, found-led, has-more, one_less-left, on_the_way-goes_on, on_the_way-starts, rooted-walked, some-few, some-grows, steps-all, steps-step, walk-goes_on, walk-rests, walked_first-walked, with_bank-keeps, with_edges-keeps, with_entries-keeps, with_joints-keeps, with_object-keeps, with_step-found}
+use Rattle.cc_model.proofs.Derivations.{AreSome, AreWithin, Follows, IsHeldBy, found-led, has-more, one_less-left, on_the_way-starts, rooted-walked, some-few, some-grows, steps-all, steps-step, walk-goes_on, walk-rests, walked_first-walked, with_step-found}
 
 -- NOTHING ELSE is led to: what holds of what registers hold, and of what places and entries of its members give
 
@@ -162,10 +162,10 @@ gives-member x e _ (its_key d at) which = one_of_three (same_name e.the_map x) (
 closed-object : (l : Leads) (walked : List Step) (s : Step) (ss : List Step) → IsClosed l (record { walked = walked; waiting = s ∷ ss }) →
     IsClosed l (walked_first l s ss (record { walked = walked; waiting = s ∷ ss }))
 closed-object l walked s ss closed = record {
-    places = λ y x m a. places y x (cases y (subst (λ ts. Among y (named ts)) (walked_first-walked l s ss before) m)) a;
-    joined = λ j a m k. joined j a (subst (λ ts. Among j.the_map (named ts)) (walked_first-walked l s ss before) m)
+  places = λ y x m a. places y x (cases y (subst (λ ts. Among y (named ts)) (walked_first-walked l s ss before) m)) a;
+  joined = λ j a m k. joined j a (subst (λ ts. Among j.the_map (named ts)) (walked_first-walked l s ss before) m)
       (subst (λ ts. Among j.key (named ts)) (walked_first-walked l s ss before) k);
-  }
+}
   where
     before : Walk
     before = record { walked = walked; waiting = s ∷ ss }
@@ -207,9 +207,9 @@ closed-object l walked s ss closed = record {
         is_found (with_object l s.0 first) j.value ≡ true
     joined j a m k = ⊎_elim
         (λ old. ⊎_elim
-          (λ too. at_last j.value (at_second j.value (at_first j.value (closed.joined j a old too))))
-          (λ is. of_one j a (walks j.the_map m) (walks j.key k) (inr (sym is)))
-          (cases j.key k))
+        (λ too. at_last j.value (at_second j.value (at_first j.value (closed.joined j a old too))))
+        (λ is. of_one j a (walks j.the_map m) (walks j.key k) (inr (sym is)))
+        (cases j.key k))
         (λ is. of_one j a (walks j.the_map m) (walks j.key k) (inl (sym is)))
         (cases j.the_map m)
 
@@ -276,7 +276,7 @@ native_places-there h well n m x a = ⊎_elim
 script_places-there : (h : Heap) → IsWellFormed h → (o : HeapScript) → Among o h.scripts → (x : Name) → Among x (contents (places_of_script o)) → Among x (names_there h)
 script_places-there h well o m x a = ⊎_elim
     (λ s. Among-right x (native_names h) (script_names h)
-      (⊎_elim (λ c. well.script_contents o x m c) (λ d. well.delegate_there o x m d) (script_place-cases o x s)))
+    (⊎_elim (λ c. well.script_contents o x m c) (λ d. well.delegate_there o x m d) (script_place-cases o x s)))
     (λ r. by_name o.name refl r)
     (Among-append x (contents (script_places_of o)) (option_to_list (native_of (Some o.name)))
     (subst (Among x) (contents-last (script_places_of o) (native_of (Some o.name))) a))
@@ -307,17 +307,17 @@ places-there h well (name.Reflector k) x a = go (script_at h (reflector k.0)) re
 
 pub heap-within : (h : Heap) → IsWellFormed h → AreWithin (leads_in h) (names_there h)
 heap-within h well = record {
-    natives = λ x m. Among-left x (native_names h) (script_names h) (well.native_registers x m);
-    scripts = λ x m. Among-right x (native_names h) (script_names h) (well.script_registers x m);
-    places = places-there h well;
-    joined = λ j m. let e = joint-cases h.entries j m in Among-right j.value (native_names h) (script_names h) (given e.0 e.1 j e.2);
-    enough = omega (
-      arith,
-      length-append (native_names h) (script_names h),
-      length-map h.natives (λ (n : HeapNative). native n.number),
-      length-map h.scripts (λ (o : HeapScript). o.name),
-    );
-  }
+  natives = λ x m. Among-left x (native_names h) (script_names h) (well.native_registers x m);
+  scripts = λ x m. Among-right x (native_names h) (script_names h) (well.script_registers x m);
+  places = places-there h well;
+  joined = λ j m. let e = joint-cases h.entries j m in Among-right j.value (native_names h) (script_names h) (given e.0 e.1 j e.2);
+  enough = omega (
+    arith,
+    length-append (native_names h) (script_names h),
+    length-map h.natives (λ (n : HeapNative). native n.number),
+    length-map h.scripts (λ (o : HeapScript). o.name),
+  );
+}
   where
     given : (e : Entry) → Among e h.entries → (j : Joint) → Gives e j → Among j.value (script_names h)
     given e m _ its_value = (well.entries e m).value

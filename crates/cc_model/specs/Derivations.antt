@@ -1,10 +1,10 @@
 -- HOW THE REGISTERS REACH AN OBJECT: steps, each of which follows from a register or from steps before it.
-use Rattle.std.specs.Prelude.{ℕ, zero, suc, ◌+◌, Bool, true, false, not, ◌&&◌, ◌||◌, List, [], ◌∷◌, ◌++◌, map, length, Option, Some, None}
+use Rattle.std.specs.Prelude.{ℕ, zero, suc, ◌+◌, Bool, true, false, ◌&&◌, ◌||◌, List, [], ◌∷◌, ◌++◌, map, length, Option, Some, None}
 use Rattle.cc_lists.specs.Members.{has}
 use Rattle.cc_names.specs.declared.name.Name.{Name}
 use Rattle.cc_names.specs.declared.register.Reg.{Reg}
 use Rattle.cc_names.specs.declared.register.Reg.TheVariants.{N, S}
-use Rattle.cc_names.specs.Names.{same_name, native}
+use Rattle.cc_names.specs.Names.{same_name}
 use Rattle.cc_model.specs.declared.item.Reason.{Reason}
 use Rattle.cc_model.specs.declared.item.Reason.TheVariants.{Root, Edge, Pair}
 use Rattle.cc_model.specs.Answers.{Step, Answer, explaining}
