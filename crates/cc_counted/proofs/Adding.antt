@@ -1,7 +1,8 @@
--- ONE MORE REFERENCE, and a native that is suspected.
-use Rattle.std.proofs.Common.{◌≡◌, ℕ, ◌+◌, List, map, Option, Some, Bool, true, false, refl, sym, ◌∙◌, ap, subst}
+-- ONE MORE REFERENCE, and a native that is marked.
+use Rattle.std.proofs.Common.{◌≡◌, ℕ, ◌+◌, List, map, Option, Some, Bool, false, refl, sym, ◌∙◌, ap, subst}
 use Rattle.std.proofs.Math.ListN.{set}
-use Rattle.cc_model.specs.Heap.{HeapNative, Buffered, suspect}
+use Rattle.cc_model.specs.Heap as heap
+use Rattle.cc_model.specs.Heap.{HeapNative, Buffered}
 use Rattle.cc_model.specs.Cascade.{add_ref}
 use Rattle.cc_purple.specs.Marks.{with_mark}
 use Rattle.cc_counted.specs.Counts.{Counts, the_number, heap_of, with_heap}
@@ -46,8 +47,9 @@ module _ (l : Lists) (p : IsPlaced l) (key : ℕ) (c : Placed) (at : cell_at l.c
       (λ m n. with_mark-there l p key c at false l.marks p.marked m n))
 
   -- a mark alone
-  pub counts-suspected : counts_of (record l { marks = with_mark true key l.marks }) ≡ with_heap (counts_of l) (suspect (heap_of (counts_of l)) (the_number (counts_of l) key))
-  counts-suspected = search (counts-same, buffer-with_mark, same_number)
+  pub counts-marked : (purple : Bool) → counts_of (record l { marks = with_mark purple key l.marks })
+      ≡ record (counts_of l) { buffer = heap.with_mark purple (the_number (counts_of l) key) (counts_of l).buffer }
+  counts-marked purple = search (counts-same, buffer-with_mark, same_number)
 
   pub placed-marked : (purple : Bool) → IsPlaced (record l { marks = with_mark purple key l.marks })
   placed-marked purple = record {

@@ -14,7 +14,7 @@ use Rattle.cc_names.specs.declared.number.NKey.{NKey}
 use Rattle.cc_names.specs.Names.{native, same_name, number_of}
 use Rattle.cc_names.proofs.NameTests.{same_name-true}
 use Rattle.cc_model.specs.Slots.{contents, empty_slots}
-use Rattle.cc_model.specs.Heap.{Heap, HeapNative, Buffered, native_at, set_preserved, suspect, with_mark}
+use Rattle.cc_model.specs.Heap.{Heap, HeapNative, Buffered, native_at, set_preserved, with_mark}
 use Rattle.cc_model.specs.Cascade.{add_ref, at_rest}
 use Rattle.cc_model.specs.WellFormed.{native_names}
 use Rattle.cc_model.specs.Counts.{slots_of_natives, times}
@@ -63,18 +63,18 @@ module _ (owned : List ℕ) (h : Heap) (k : ℕ) (n : HeapNative) (found : nativ
       few = omega (arith, b.buffer k, living-one (native_at h k))
 
   -- a mark changes no count
-  balanced-suspect : IsBalanced owned (at_rest (suspect h k))
-  balanced-suspect = record {
+  balanced-marked : (purple : Bool) → IsBalanced owned (at_rest (record h { buffer = with_mark purple k h.buffer }))
+  balanced-marked purple = record {
     distinct = b.distinct;
     counts = b.counts;
     queue = b.queue;
-    buffer = λ j. at-each (λ i. places i (with_mark true k h.buffer) ≤ living (native_at h i)) k
+    buffer = λ j. at-each (λ i. places i (with_mark purple k h.buffer) ≤ living (native_at h i)) k
         (omega (
           arith,
           ap living found ∙ one_above_zero-above n.count above,
-          places-with_mark_same true k h.buffer (omega (arith, b.buffer k, living-one (native_at h k))),
+          places-with_mark_same purple k h.buffer (omega (arith, b.buffer k, living-one (native_at h k))),
         ))
-        (λ i o. omega (arith, b.buffer i, places-with_mark_other true k i h.buffer o)) j;
+        (λ i o. omega (arith, b.buffer i, places-with_mark_other purple k i h.buffer o)) j;
   }
 
 -- The calls
@@ -95,9 +95,9 @@ module _ (l : Lists) (p : IsPlaced l) (key : ℕ) (f : (c : Placed) × (cell_at 
       (balanced-add_ref others h number (shown (keyed l.cells) (Some f.0)) found (balanced-owned (counts_of l) (natives-distinct l p) others o))
 
   -- A mark changes nothing of what is owned.
-  pub owned-suspect : Transfers [] [] (counts_of l) (with_heap (counts_of l) (suspect (heap_of (counts_of l)) (the_number (counts_of l) key)))
-  owned-suspect others o = owned-balanced (with_heap (counts_of l) (suspect h number)) others
-      (balanced-suspect others h number (shown (keyed l.cells) (Some f.0)) found (balanced-owned (counts_of l) (natives-distinct l p) others o))
+  pub owned-marked : (purple : Bool) → Transfers [] [] (counts_of l) (record (counts_of l) { buffer = with_mark purple (the_number (counts_of l) key) (counts_of l).buffer })
+  owned-marked purple others o = owned-balanced (record (counts_of l) { buffer = with_mark purple number h.buffer }) others
+      (balanced-marked others h number (shown (keyed l.cells) (Some f.0)) found (balanced-owned (counts_of l) (natives-distinct l p) others o) purple)
 
 -- What is put into a slot is the slot's, and what was there is the caller's.
 pub owned-written : (l : Lists) (p : IsPlaced l) → l.queue ≡ [] → (key : ℕ) (c : Placed) (at : cell_at l.cells key ≡ Some c) (i : ℕ) → i < length c.slots →

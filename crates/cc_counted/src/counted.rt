@@ -4,7 +4,7 @@ ghost use Rattle.cc_names.specs.Names.{native};
 ghost use Rattle.cc_names.specs.Sizes.{most_slots};
 ghost use Rattle.cc_model.specs.Telling.{TellsEvents};
 ghost use Rattle.cc_model.specs.Slots.{empty_slots};
-ghost use Rattle.cc_model.specs.Heap.{HeapNative, set_preserved, set_slot, suspect, with_mark};
+ghost use Rattle.cc_model.specs.Heap.{HeapNative, set_preserved, set_slot, suspect, touch, with_mark};
 ghost use Rattle.cc_model.specs.Cascade.{add_ref};
 ghost use Rattle.cc_model.specs.End.{unlink};
 ghost use Rattle.cc_counted.specs.Counts.{no_counts, number_at, reflector_at, the_number, name_of, is_live, numbers_held, heap_of, with_heap, with_reflector, left_with, released, slots_of, count_of, preserved_of, references_of, first_number, number_after};
@@ -59,7 +59,7 @@ impl Counted {
         }
     }
 
-    /// Makes a native with `slots` empty slots (0 to 64) and the number `no`, which is above that of every native so far.
+    /// Makes a native with `slots` empty slots (0 to 256) and the number `no`, which is above that of every native so far.
     ///
     /// Its count is 1: the caller owns that reference. It stands in the buffer without the purple mark.
     /// `NoMemory` changes nothing. No other call takes memory, at any depth of what it deletes.
@@ -91,6 +91,18 @@ impl Counted {
         ensures owned { Transfers [] (the_number self.old key.0 ∷ []) self.old self.new }
     {
         self.natives.add_ref(key);
+    }
+
+    /// The native stands in the buffer without the purple mark: it keeps its place there, or goes last.
+    ///
+    /// A reference that moves from one slot to another changes no count. A collection that runs sees by this that the native
+    /// was in use meanwhile. To be touched is no suspicion: no reference was given up.
+    pub fn touch(&mut self, key: NKey)
+        requires live { IsSome (number_at self.old key.0) }
+        ensures heap { self.new ≡ with_heap self.old (touch (heap_of self.old) (the_number self.old key.0)) }
+        ensures owned { Transfers [] [] self.old self.new }
+    {
+        self.natives.touch(key);
     }
 
     /// Gives up one reference that the caller owns, and deletes what then has none, cascade and all.
@@ -131,7 +143,7 @@ impl Counted {
         self.natives.set_slot(key, i, item)
     }
 
-    /// How many slots a native has: 0 to 64.
+    /// How many slots a native has: 0 to 256.
     pub fn slots(&self, key: NKey) -> SlotNo
         requires live { IsSome (number_at self.now key.0) }
         ensures { result ≡ length (slots_of self.now key.0) }

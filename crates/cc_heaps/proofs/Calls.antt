@@ -1,6 +1,6 @@
 -- WHAT THE CALLS OF THE COUNTED HEAP COME TO, with the rest of the parts beside it.
-use Rattle.cc_laws_heap.proofs.Face.{count-bound, is_some-found, native_at-number, native_at-there}
-use Rattle.std.proofs.Common.{◌≡◌, ℕ, ◌+◌, ◌≤◌, true, List, ◌∷◌, map, Option, Some, None, option_map, refl, sym, ◌∙◌, ap, subst, arith}
+use Rattle.cc_laws_heap.proofs.Face.{count-bound, is_some-found, with_buffer, native_at-number, native_at-there}
+use Rattle.std.proofs.Common.{◌≡◌, ℕ, ◌+◌, ◌≤◌, Bool, true, List, ◌∷◌, map, Option, Some, None, option_map, refl, sym, ◌∙◌, ap, subst, arith}
 use Rattle.std.specs.Option.{is_some}
 use Rattle.std.proofs.lemmas.Simd.{map-map}
 use Rattle.cc_lists.specs.Members.{Among}
@@ -9,7 +9,7 @@ use Rattle.cc_names.specs.Names.{native}
 use Rattle.cc_names.specs.Sizes.{most_references}
 use Rattle.cc_model.specs.Telling.{Telling, TellsEvents}
 use Rattle.cc_model.specs.Slots.{contents}
-use Rattle.cc_model.specs.Heap.{Heap, HeapNative, Outcome, native_at, set_preserved, suspect}
+use Rattle.cc_model.specs.Heap.{Heap, HeapNative, Outcome, native_at, set_preserved, with_mark}
 use Rattle.cc_model.specs.Cascade.{add_ref, cascade}
 use Rattle.cc_model.specs.End.{unlink}
 use Rattle.cc_model.specs.WellFormed.{native_names}
@@ -69,10 +69,11 @@ module _ {p : Inside} {next : Counts} {alone whole : Heap} (l : Changes p next a
   pub changed-linked : IsLinked (with_counted p next)
   changed-linked = subst (λ d. IsLinked (with_counted p d)) (sym l.is) (IsLinked-counted p (with_heap p.counted alone) l.linked.native_registers l.held l.linked.reflectors l.linked)
 
--- a native given back, one more reference to it taken, and its reflector preserved
+-- a native given back or touched, one more reference to it taken, and its reflector preserved
 module _ (p : Inside) (l : IsLinked p) (k : ℕ) where
-  pub give_back-changes : {next : Counts} → next ≡ with_heap p.counted (suspect (counts.heap_of p.counted) k) → Changes p next (suspect (counts.heap_of p.counted) k) (suspect (heap_of p) k)
-  give_back-changes is = record { linked = l; is = is; beside = refl; held = l.held }
+  pub mark-changes : (purple : Bool) {next : Counts} → next ≡ with_heap p.counted (with_buffer (counts.heap_of p.counted) (with_mark purple k p.counted.buffer)) →
+      Changes p next (with_buffer (counts.heap_of p.counted) (with_mark purple k p.counted.buffer)) (with_buffer (heap_of p) (with_mark purple k p.counted.buffer))
+  mark-changes purple is = record { linked = l; is = is; beside = refl; held = l.held }
 
   pub root-changes : {next : Counts} → next ≡ with_heap p.counted (add_ref (counts.heap_of p.counted) k) → Changes p next (add_ref (counts.heap_of p.counted) k) (add_ref (heap_of p) k)
   root-changes is = record {

@@ -3,7 +3,7 @@
 use Rattle.cc_heaps.proofs.ObjectsKept.{there-named}
 use Rattle.cc_lists.proofs.Held.{held-is, of-one}
 use Rattle.cc_heaps.proofs.Keys.{name-in, script_name-in}
-use Rattle.std.proofs.Common.{◌≡◌, ℕ, ◌+◌, ◌<◌, ◌≤◌, true, List, ◌++◌, length, get_or, Option, Some, None, option_map, refl, sym, ◌∙◌, ap, subst, inl, inr, ⊎_elim, arith}
+use Rattle.std.proofs.Common.{◌≡◌, ℕ, ◌+◌, ◌<◌, ◌≤◌, true, List, ◌++◌, map, length, get_or, Option, Some, None, option_map, option_and_then, refl, sym, ◌∙◌, ap, subst, inl, inr, ⊎_elim, arith}
 use Rattle.std.specs.Prelude.{IsTrue, IfSome}
 use Rattle.std.specs.Option.{option_to_list}
 use Rattle.std.proofs.lemmas.Bool.{lt-ltb, le-leb, lt-leb}
@@ -39,7 +39,7 @@ use Rattle.cc_counted.specs.Counts.{slots_of}
 use Rattle.cc_counted.specs.Counts as counts
 use Rattle.cc_counted.specs.declared.held.Held.{Held}
 use Rattle.cc_script.specs.Objects.{Object, colour_at, is_there, name_at, object_at}
-use Rattle.cc_heaps.specs.Keyed.{Keyed, IsInOrder, counts_of, left_with, named_object, the_number}
+use Rattle.cc_heaps.specs.Keyed.{Keyed, IsInOrder, counts_of, keyed_name, left_with, named_object, the_number}
 use Rattle.cc_heaps.specs.Making.{MayBeMade, delegate_name, kind_to_make, slots_to_make}
 use Rattle.cc_heaps.specs.declared.heaps.to_make.ToMake.{ToMake}
 use Rattle.cc_heaps.specs.declared.heaps.to_make.ToMake.TheVariants.{Plain, Map, Proxy}
@@ -67,11 +67,11 @@ pub record Keeps (h g : Heap) : Type 0 where
   pub suspected : Remembers h g
 
 -- a gentle change that keeps the colours
-Follows-from : (h g : Heap) → IsWellFormed h → IsWellFormed g → AreGentle h g → (IsColoured h → IsColoured g) → Follows h g
+pub Follows-from : (h g : Heap) → IsWellFormed h → IsWellFormed g → AreGentle h g → (IsColoured h → IsColoured g) → Follows h g
 Follows-from h g early late gentle coloured = grind (arith, HasColourInvariant-from, AreColoured-from_view, fresh-coloured)
 
 -- a loyal change
-Remembers-from : (h g : Heap) → IsWellFormed h → IsWellFormed g → IsLoyal (view h) (view g) → Remembers h g
+pub Remembers-from : (h g : Heap) → IsWellFormed h → IsWellFormed g → IsLoyal (view h) (view g) → Remembers h g
 Remembers-from h g early late loyal candidates = loyal-suspected h g candidates early late loyal
 
 -- Script objects
@@ -211,17 +211,17 @@ module _ (owned : List ℕ) (t : Heap) (k i : ℕ) (x : Option Name) (n : HeapNa
   owed : IsSound (numbers_of old ++ owned) written
   owed = native_slot-sound owned t k i n x found within there s
 
-  put-sound : IsSound owned (let_go written old).heap
+  pub put-sound : IsSound owned (let_go written old).heap
   put-sound = let_go-sound owned written old owed
 
-  put-gentle : IsHeldBlack t.scripts x → AreGentle t (let_go written old).heap
+  pub put-gentle : IsHeldBlack t.scripts x → AreGentle t (let_go written old).heap
   put-gentle black = IsGentleBut-then (option_to_list old) t.natives_made t.natives_made (let_go written old).heap.natives_made
       (view t) (view written) (view (let_go written old).heap)
       (native_slot-gentle t k i n x s.well_formed found within taken (not_gray-held t x black))
       (let_go-gentle owned written old owed)
       (let_go-caught owned written old owed)
 
-  put-scripts : SameScripts t (let_go written old).heap
+  pub put-scripts : SameScripts t (let_go written old).heap
   put-scripts = grind (arith, let_go-scripts)
 
 -- A slot of a native is written: the colour invariant stays.
@@ -368,9 +368,13 @@ held-remembers {owned} v w o k i x within reached after e =
     subst (Remembers v.heap) (sym same)
     (stored_in-remembers v.heap k i (held_name v x) within (held-in owned v x o) reached o.sound (subst (IsSound owned) same after))
 
+-- the slots of a native, as the counted heap shows them
+pub slots-keyed : (v : Keyed) (k : ℕ) → counts.slots_at (native_at (counts.heap_of (counts_of v)) k) ≡ map (λ x. option_and_then (keyed_name v.scripts) x) (slots_now (native_at v.heap k))
+slots-keyed v k = grind (arith, find-map)
+
 -- there is room in a slot, by the counted natives and by the definitions
 slots-counted : (v : Keyed) (k : ℕ) → length (counts.slots_at (native_at (counts.heap_of (counts_of v)) k)) ≡ length (slots_now (native_at v.heap k))
-slots-counted v k = grind (arith, find-map, length-map)
+slots-counted v k = grind (arith, slots-keyed, length-map)
 
 pub within-named : (v : Keyed) (key i : ℕ) → i < length (slots_of (counts_of v) key) → i < length (slots_now (native_at v.heap (the_number v key)))
 within-named v key i within = omega (arith, within, slots-counted v (the_number v key))

@@ -54,3 +54,4 @@ pub mod ReflectingMade
 pub mod ReflectingPreserved
 pub mod ReflectingWritten
 pub mod Leaving
+pub mod Moving

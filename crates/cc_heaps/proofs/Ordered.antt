@@ -1,13 +1,13 @@
 -- HEAPS WITH KEYS STAY IN ORDER as references are taken and given up, slots of natives and native registers are written, and
 -- the buffer changes: script objects stay as they are.
-use Rattle.std.proofs.Common.{◌≡◌, ℕ, ◌+◌, ◌<◌, ◌≤◌, ◌==◌, true, List, [], ◌∷◌, ◌++◌, map, length, get_or, Option, Some, None, refl, sym, ◌∙◌, subst, ⊎_elim, inl, inr, arith, count_by}
+use Rattle.std.proofs.Common.{◌≡◌, ℕ, ◌+◌, ◌<◌, ◌≤◌, ◌==◌, Bool, true, List, [], ◌∷◌, ◌++◌, map, length, get_or, Option, Some, None, refl, sym, ◌∙◌, subst, ⊎_elim, inl, inr, arith, count_by}
 use Rattle.cc_lists.specs.Members.{Among}
 use Rattle.cc_lists.proofs.Counting.{count_by-cons}
 use Rattle.cc_names.specs.declared.name.Name.{Name}
 use Rattle.cc_names.specs.declared.register.Reg.TheVariants.{N}
 use Rattle.cc_names.specs.Names.{native, reflector}
 use Rattle.cc_names.specs.Sizes.{bank_length, most_slots}
-use Rattle.cc_model.specs.Heap.{Heap, HeapNative, Buffered, native_at, register, set_register, set_preserved, set_slot, change_native, with_native_slot, with_mark, suspect}
+use Rattle.cc_model.specs.Heap.{Heap, HeapNative, Buffered, native_at, register, set_register, set_preserved, set_slot, change_native, with_native_slot, with_mark}
 use Rattle.cc_model.specs.Cascade.{add_ref, cascade}
 use Rattle.cc_model.specs.Effects.{with_native}
 use Rattle.cc_model.specs.End.{unlink}
@@ -90,15 +90,15 @@ IsInOrder-unlink owned v k o =
 IsInOrder-buffer : (owned : List ℕ) (v : Keyed) (bs : List Buffered) → IsBuffer v.heap bs → IsInOrder owned v → IsInOrder owned (changed_to v (with_buffer v.heap bs))
 IsInOrder-buffer owned v bs b o = grind (arith, IsInOrder-with, IsWellFormed-buffer)
 
--- a native that is suspected
-pub IsInOrder-suspect : (owned : List ℕ) (v : Keyed) (k : ℕ) → Among (native k) (native_names v.heap) → IsInOrder owned v →
-    IsInOrder owned (changed_to v (suspect v.heap k))
-IsInOrder-suspect owned v k there o =
+-- a native that is suspected, or touched
+pub IsInOrder-marked : (owned : List ℕ) (v : Keyed) (purple : Bool) (k : ℕ) → Among (native k) (native_names v.heap) → IsInOrder owned v →
+    IsInOrder owned (changed_to v (with_buffer v.heap (with_mark purple k v.heap.buffer)))
+IsInOrder-marked owned v purple k there o =
     let w : IsWellFormed v.heap = o.sound.well_formed in
-    IsInOrder-buffer owned v (with_mark true k v.heap.buffer)
+    IsInOrder-buffer owned v (with_mark purple k v.heap.buffer)
     (record {
-      there = λ b i. ⊎_elim (λ e. subst (λ j. Among (native j) (native_names v.heap)) (sym e) there) (λ t. w.buffered b t) (with_mark-cases true k v.heap.buffer b i);
-      once = places-with_mark true k v.heap.buffer w.buffered_once;
+      there = λ b i. ⊎_elim (λ e. subst (λ j. Among (native j) (native_names v.heap)) (sym e) there) (λ t. w.buffered b t) (with_mark-cases purple k v.heap.buffer b i);
+      once = places-with_mark purple k v.heap.buffer w.buffered_once;
     })
     o
 

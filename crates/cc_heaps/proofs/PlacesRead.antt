@@ -49,7 +49,7 @@ use Rattle.cc_heaps.specs.Places.{places_at}
 use Rattle.cc_heaps.proofs.Content.{held-named}
 use Rattle.cc_heaps.proofs.Naming.{name_in}
 
--- a script object has at most 64 slots: a reflector has four
+-- a script object has at most 256 slots: a reflector has four
 pub fits-few : (x : Name) (kind : Kind) (slots : Slots) → FitsName x kind slots → length slots ≤ most_slots
 fits-few x kind slots f = grind arith
 

@@ -28,7 +28,7 @@ use Rattle.cc_heaps.proofs.Naming.{name_in, named_slots, native_at-shown, set_sl
 use Rattle.cc_heaps.proofs.Ordered.{IsInOrder-slot}
 
 -- a native that has a slot is there
-has-slot : (o : Option HeapNative) (i : ℕ) → i < length (slots_now o) → (n : HeapNative) × (o ≡ Some n)
+pub has-slot : (o : Option HeapNative) (i : ℕ) → i < length (slots_now o) → (n : HeapNative) × (o ≡ Some n)
 has-slot o i within = grind arith
 
 -- what slots hold is read alike once a reference is taken

@@ -46,7 +46,7 @@ use Rattle.cc_heaps.proofs.ReflectingWritten.{held_script-stands, slot_written-s
 
 module _ (h : Heap) (g : Graph) (w : IsWellFormed h) (m : IsWellMade g) (s : StandsFor h g) where
   -- what is handed in was made
-  handed-made : (x : Option Name) → IsReached h x → OfSome (Made g) x
+  pub handed-made : (x : Option Name) → IsReached h x → OfSome (Made g) x
   handed-made x r = OfSome-then (Reached g) (Made g) (λ y d. let k = s.reached y d in shape-made g y k.shape k.made) x (handed-reached h g x w m s r)
 
   -- a native, where it is that of one that is there
@@ -62,7 +62,7 @@ module _ (h : Heap) (g : Graph) (w : IsWellFormed h) (m : IsWellMade g) (s : Sta
 -- Changes of the heaps
 
 -- WELL FORMED HEAPS THAT FOLLOW what a change makes of each graph stand for it.
-StandsAfter-from : (h k : Heap) (change : Graph → Graph) → IsWellFormed h → IsWellFormed k →
+pub StandsAfter-from : (h k : Heap) (change : Graph → Graph) → IsWellFormed h → IsWellFormed k →
     ((g : Graph) → IsWellMade g → StandsFor h g → IsWellMade (change g)) →
     ((g : Graph) → IsWellMade g → StandsFor h g → Follows (Reached g) h g → Follows (Reached g) k (change g)) → StandsAfter h k change
 StandsAfter-from h k change early late well follows g m s =

@@ -9,6 +9,7 @@ use Rattle.cc_names.specs.Names.{native}
 use Rattle.cc_model.specs.Heap.{Heap, Outcome, native_at, set_slot}
 use Rattle.cc_model.specs.WellFormed.{native_names, script_names}
 use Rattle.cc_model.specs.Cascade.{take_up, let_go}
+use Rattle.cc_model.specs.Effects.{taken_out}
 use Rattle.cc_model.specs.End.{slots_now}
 use Rattle.cc_counted.specs.declared.held.Held.{Held}
 use Rattle.cc_counted.specs.declared.held.Held.TheVariants as held
@@ -57,6 +58,18 @@ written_in h k i x = let_go (set_slot h (Some (native k)) i x) (slice_index_or (
 
 abbrev pub stored_in : Heap → ℕ → ℕ → Option Name → Outcome
 stored_in h k i x = written_in (take_up h x) k i x
+
+-- what slot j of native m holds
+abbrev pub slot_held : Heap → ℕ → ℕ → Option Name
+slot_held h m j = slice_index_or (slots_now (native_at h m)) j None
+
+-- it is touched or exposed, and leaves the slot: its reference, where it is a native, is in hand
+abbrev pub taken_from : Heap → ℕ → ℕ → Heap
+taken_from h m j = taken_out h (Some (native m)) j (slot_held h m j)
+
+-- and goes into slot i of native k, which gives up what it held then
+abbrev pub moved_in : Heap → ℕ → ℕ → ℕ → ℕ → Outcome
+moved_in h k i m j = written_in (taken_from h m j) k i (slot_held h m j)
 
 -- AN OBJECT THAT IS THERE BEFORE AND AFTER has the same key
 pub record KeepsKeys (old new : Keyed) : Type 0 where

@@ -125,20 +125,20 @@ impl Heaps {
         &self.weak
     }
 
-    /// What a native register holds; none exactly where it is empty.
+    /// What a native register holds; none exactly where it is empty, or where there is no such register.
     pub fn native_reg(&self, r: RegNo) -> Option<NKey>
         ensures name { native_name self.now result ≡ register self.now.heap (n_register r) }
         ensures there { IsNativeThere self.now result }
     {
-        self.native_registers[r as usize]
+        *self.native_registers.get(r as usize)?
     }
 
-    /// What a script register holds; none exactly where it is empty.
+    /// What a script register holds; none exactly where it is empty, or where there is no such register.
     pub fn script_reg(&self, r: RegNo) -> Option<SKey>
         ensures name { script_name self.now result ≡ register self.now.heap (s_register r) }
         ensures there { IsScriptThere self.now result }
     {
-        self.script_registers[r as usize]
+        *self.script_registers.get(r as usize)?
     }
 
     /// One more reference to a native, which the caller owns; it owns none so far.

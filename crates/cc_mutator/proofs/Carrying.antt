@@ -8,7 +8,7 @@ use Rattle.cc_names.specs.declared.register.Reg.{Reg}
 use Rattle.cc_names.specs.declared.register.Reg.TheVariants.{N, S}
 use Rattle.cc_names.specs.Names.{native, object, reflector}
 use Rattle.cc_model.specs.declared.command.Command.{Command}
-use Rattle.cc_model.specs.declared.command.Command.TheVariants.{Native, Script, WeakMap, Proxy, CopyNative, CopyScript, Drop, Set, Get, Put, Take, Wrap, Unwrap, Preserve, SetEntry, GetEntry, Expose}
+use Rattle.cc_model.specs.declared.command.Command.TheVariants.{Native, Script, WeakMap, Proxy, CopyNative, CopyScript, Drop, Set, Get, Move, Put, Take, Wrap, Unwrap, Preserve, SetEntry, GetEntry, Expose}
 use Rattle.cc_model.specs.declared.item.Refusal.{Refusal}
 use Rattle.cc_model.specs.declared.item.Refusal.TheVariants.{Empty, Full, NoMemory}
 use Rattle.cc_model.specs.declared.item.Reply.{Reply}
@@ -16,7 +16,7 @@ use Rattle.cc_model.specs.declared.item.Reply.TheVariants.{Named, Done, Refused}
 use Rattle.cc_model.specs.Telling.{Telling, TellsEvents}
 use Rattle.cc_model.specs.Checks.{Objects, is_map_in, slots_at, slot_at, value_at, native_of, reflector_of, named_or_nothing, refusal_of, reply_if_taken}
 use Rattle.cc_model.specs.Heap.{Heap, Outcome, register, source, objects_of, set_register, preserve}
-use Rattle.cc_model.specs.Effects.{effects, hold_native, hold_script, make_native, make_object, make_proxy, put_in_script, set_entry, store_native, takes_memory, wrapped}
+use Rattle.cc_model.specs.Effects.{effects, hold_native, hold_script, make_native, make_object, make_proxy, move_slot, put_in_script, set_entry, store_native, takes_memory, wrapped}
 use Rattle.cc_model.specs.Exposure.{exposed}
 use Rattle.cc_model.proofs.Tellings.{Tells-nil}
 use Rattle.cc_laws_heap.proofs.Face.{IsTaken-from}
@@ -97,6 +97,11 @@ module _ (old new : Heap) (reply : Reply) (before after : Telling) where
       new ≡ (hold_native old d x).heap → Told (hold_native old d x) → IsCarriedOut (Get (N d) s i) old new reply before after
   unfolding effects reply_if_taken
   carried-get_native d s i x e r h t = grind arith
+
+  pub carried-move : (d i s j : ℕ) → reply ≡ named_or_nothing (slot_at (objects_of old) (N s) j) → new ≡ (move_slot old d i s j).heap →
+      Told (move_slot old d i s j) → IsCarriedOut (Move d i s j) old new reply before after
+  unfolding effects reply_if_taken
+  carried-move d i s j r h t = record { reply_is = r; heap = h; told = t }
 
   pub carried-unwrap : (d s : ℕ) (x : Option Name) → x ≡ native_of (register old (S s)) → reply ≡ named_or_nothing x →
       new ≡ (hold_native old d x).heap → Told (hold_native old d x) → IsCarriedOut (Unwrap d s) old new reply before after
@@ -216,6 +221,12 @@ module _ (h : Heap) where
 
   pub slot-get : (r : Reg) (s i : ℕ) → refusal_of (objects_of h) (Get r s i) ≡ None → i < length (slots_at (objects_of h) (N s))
   slot-get r s i e = leb-false (length (slots_at (objects_of h) (N s))) i (IsTaken-from (objects_of h) (Get r s i) e).slot
+
+  pub slots-move : (d i s j : ℕ) → refusal_of (objects_of h) (Move d i s j) ≡ None →
+      (i < length (slots_at (objects_of h) (N d))) × (j < length (slots_at (objects_of h) (N s)))
+  slots-move d i s j e =
+      let both = or_parts _ _ (IsTaken-from (objects_of h) (Move d i s j) e).slot in
+      (leb-false (length (slots_at (objects_of h) (N d))) i both.0, leb-false (length (slots_at (objects_of h) (N s))) j both.1)
 
   pub slot-expose : (s i : ℕ) → refusal_of (objects_of h) (Expose s i) ≡ None → i < length (slots_at (objects_of h) (N s))
   slot-expose s i e = leb-false (length (slots_at (objects_of h) (N s))) i (IsTaken-from (objects_of h) (Expose s i) e).slot

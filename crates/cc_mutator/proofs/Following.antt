@@ -11,7 +11,7 @@ use Rattle.cc_names.specs.declared.register.Reg.TheVariants.{S}
 use Rattle.cc_names.specs.Names.{native, reflector, same_name, is_native, is_script}
 use Rattle.cc_names.proofs.NameTests.{same_name-exact}
 use Rattle.cc_model.specs.declared.command.Command.{Command}
-use Rattle.cc_model.specs.declared.command.Command.TheVariants.{Native, Script, WeakMap, Proxy, CopyNative, CopyScript, Drop, Set, Get, Put, Take, Wrap, Unwrap, Preserve, SetEntry, GetEntry, Expose}
+use Rattle.cc_model.specs.declared.command.Command.TheVariants.{Native, Script, WeakMap, Proxy, CopyNative, CopyScript, Drop, Set, Get, Move, Put, Take, Wrap, Unwrap, Preserve, SetEntry, GetEntry, Expose}
 use Rattle.cc_model.specs.declared.item.Refusal.{Refusal}
 use Rattle.cc_model.specs.declared.item.Refusal.TheVariants.{NoMemory}
 use Rattle.cc_model.specs.declared.item.Reply.{Reply}
@@ -76,6 +76,7 @@ takes-may_want h s (CopyScript d r) stands listed applied takes = absurd (false�
 takes-may_want h s (Drop r) stands listed applied takes = absurd (false≢true takes)
 takes-may_want h s (Set d i r) stands listed applied takes = absurd (false≢true takes)
 takes-may_want h s (Get r n i) stands listed applied takes = absurd (false≢true takes)
+takes-may_want h s (Move d i r j) stands listed applied takes = absurd (false≢true takes)
 takes-may_want h s (Put d i r) stands listed applied takes = absurd (false≢true takes)
 takes-may_want h s (Take d r i) stands listed applied takes = absurd (false≢true takes)
 takes-may_want h s (Wrap d n) stands listed applied takes = grind (arith, objects-stand, false≢true, reflector-unlisted, not-true)

@@ -7,7 +7,7 @@ use Rattle.cc_names.specs.declared.register.Reg.{Reg}
 use Rattle.cc_names.specs.declared.register.Reg.TheVariants.{N, S}
 use Rattle.cc_names.specs.Names.{is_reflector}
 use Rattle.cc_model.specs.declared.command.Command.{Command}
-use Rattle.cc_model.specs.declared.command.Command.TheVariants.{CopyNative, CopyScript, Drop, Set, Get, Put, Take, Wrap, Unwrap, Preserve, SetEntry, GetEntry, Expose}
+use Rattle.cc_model.specs.declared.command.Command.TheVariants.{CopyNative, CopyScript, Drop, Set, Get, Move, Put, Take, Wrap, Unwrap, Preserve, SetEntry, GetEntry, Expose}
 use Rattle.cc_model.specs.declared.item.Refusal.{Refusal}
 use Rattle.cc_model.specs.declared.item.Refusal.TheVariants.{Empty, Kind, Slot, Full}
 use Rattle.cc_model.specs.Checks.{Objects, slot_at, slots_at, lacks_object, has_wrong_object, has_no_slot, has_wrong_content, is_map_in, is_reflector_there, native_of, is_native_there, is_script_there, is_full, first_refusal, refusal_of}
@@ -67,6 +67,19 @@ slot-content : (lacks slot content : Bool) → refusal_by (lacks || false) false
 slot-content true slot content = refl
 slot-content false true content = refl
 slot-content false false content = refl
+
+-- with the tests of another slot behind
+abbrev pub or_slot : Option Refusal → Option Refusal → Option Refusal
+or_slot (Some r) q = Some r
+or_slot None q = q
+
+slot-slot : (lacks other slot place : Bool) → refusal_by (lacks || (other || false)) false (slot || place) false false ≡ or_source other (or_slot (refusal_by_slot lacks slot) (refusal_by_slot other place))
+slot-slot true true slot place = refl
+slot-slot true false slot place = refl
+slot-slot false true slot place = refl
+slot-slot false false true place = refl
+slot-slot false false false true = refl
+slot-slot false false false false = refl
 
 -- where they refuse nothing there is the slot
 pub slot-there : (lacks slot : Bool) → refusal_by_slot lacks slot ≡ None → slot ≡ false
@@ -134,6 +147,11 @@ module _ (o : Objects) where
   pub refusal-expose : (s i : ℕ) (content : Bool) (q : Option Refusal) → of_slot (N s) i ≡ q → is_native_there (slot_at o (N s) i) ≡ content →
       refusal_of o (Expose s i) ≡ or_content content q
   refusal-expose s i content q e f = grind (arith, refusal-by, slot-content)
+
+  -- what a slot of a native holds moved into another
+  pub refusal-move : (d i s j : ℕ) (b : Bool) (q : Option Refusal) → is_none (o.register (N s)) ≡ b → of_slot (N d) i ≡ q →
+      refusal_of o (Move d i s j) ≡ or_source b (or_slot q (of_slot (N s) j))
+  refusal-move d i s j b q e f = grind (arith, refusal-by, slot-slot, o.register)
 
   -- read into a script register it is refused as it is where it is touched
   pub refusal-get_script : (d s i : ℕ) → refusal_of o (Expose s i) ≡ refusal_of o (Get (S d) s i)

@@ -2,20 +2,20 @@
 ghost use Rattle.std.specs.Prelude.{◌≡◌, ◌≢◌, ◌<◌, ◌≤◌, IsTrue, IsSome, IfSome, OnErr, OnOk, is_none, false, true, ℕ, List, length, Some, None};
 ghost use Rattle.cc_names.specs.declared.kind.Colour.TheVariants.{Black};
 ghost use Rattle.cc_names.specs.declared.register.Reg.TheVariants.{N as n_register, S as s_register};
-ghost use Rattle.cc_names.specs.Sizes.{most_slots};
-ghost use Rattle.cc_model.specs.declared.command.Command.TheVariants.{Native, Script, WeakMap, Proxy, CopyNative, CopyScript, Drop, Set, Get, Put, Take, Wrap, Unwrap, Preserve, SetEntry, GetEntry, Expose};
+ghost use Rattle.cc_names.specs.Sizes.{bank_length, most_slots};
+ghost use Rattle.cc_model.specs.declared.command.Command.TheVariants.{Native, Script, WeakMap, Proxy, CopyNative, CopyScript, Drop, Set, Get, Move, Put, Take, Wrap, Unwrap, Preserve, SetEntry, GetEntry, Expose};
 ghost use Rattle.cc_model.specs.declared.item.Refusal.{Refusal};
 ghost use Rattle.cc_model.specs.declared.item.Refusal.TheVariants.{NoMemory as no_memory};
 ghost use Rattle.cc_model.specs.declared.item.Reply.TheVariants.{Refused as refused};
 ghost use Rattle.cc_model.specs.Telling.{Telling, TellsEvents};
 ghost use Rattle.cc_model.specs.Checks.{is_map_in, refusal_of, slots_at, value_at};
 ghost use Rattle.cc_model.specs.Colours.{HasColourInvariant};
-ghost use Rattle.cc_model.specs.Effects.{put_in_script, set_entry as entry_set, store_native, takes_memory};
+ghost use Rattle.cc_model.specs.Effects.{move_slot as slot_moved, put_in_script, set_entry as entry_set, store_native, takes_memory};
 ghost use Rattle.cc_model.specs.Exposure.{exposed};
 ghost use Rattle.cc_model.specs.Heap.{objects_of, register};
 ghost use Rattle.cc_model.specs.Lawful.{State, RepliesWith, graph_after};
 ghost use Rattle.cc_model.specs.Mutating.{is_applied};
-ghost use Rattle.cc_model.specs.Ranges.{in_range};
+ghost use Rattle.cc_model.specs.Ranges.{in_range, is_reg};
 ghost use Rattle.cc_model.specs.StandsFor.{StandsFor};
 ghost use Rattle.cc_model.specs.View.{view};
 ghost use Rattle.cc_script.specs.Objects.{colour_at};
@@ -30,10 +30,10 @@ ghost use Rattle.cc_mutator.specs.Listing.{AreListedFor};
 
 use crate::checks::{
     refusal_of_expose, refusal_of_get_entry, refusal_of_get_native, refusal_of_get_script,
-    refusal_of_put, refusal_of_set, refusal_of_set_entry, refusal_of_take,
+    refusal_of_move, refusal_of_put, refusal_of_set, refusal_of_set_entry, refusal_of_take,
 };
 use crate::reads::{
-    as_native, as_script, entry_value, naming_native, naming_script, native_content,
+    as_native, as_script, entry_value, naming, naming_native, naming_script, native_content,
     script_content, script_source, source_content,
 };
 use cc_counted::Held;
@@ -43,6 +43,7 @@ use cc_names::{NoMemory, Reg, RegNo, SKey, SlotNo};
 
 /// Makes a native.
 fn make_native<N: Notices>(heaps: &mut Heaps, d: RegNo, slots: SlotNo, out: &mut N) -> Reply
+    requires within { d < bank_length }
     requires order { (owned : List ℕ) × IsInOrder owned heaps.old }
     requires slots { slots ≤ most_slots }
     ensures { IsApplied (Native d slots) heaps.old heaps.new result (N.telling out.old) (N.telling out.new) }
@@ -56,6 +57,7 @@ fn make_native<N: Notices>(heaps: &mut Heaps, d: RegNo, slots: SlotNo, out: &mut
 
 /// Makes a plain script object.
 fn make_plain(heaps: &mut Heaps, d: RegNo, slots: SlotNo) -> Reply
+    requires within { d < bank_length }
     requires order { (owned : List ℕ) × IsInOrder owned heaps.old }
     requires slots { slots ≤ most_slots }
     ensures { (t : Telling) → IsApplied (Script d slots) heaps.old heaps.new result t t }
@@ -69,6 +71,7 @@ fn make_plain(heaps: &mut Heaps, d: RegNo, slots: SlotNo) -> Reply
 
 /// Makes a weak map.
 fn make_map(heaps: &mut Heaps, d: RegNo) -> Reply
+    requires within { d < bank_length }
     requires order { (owned : List ℕ) × IsInOrder owned heaps.old }
     ensures { (t : Telling) → IsApplied (WeakMap d) heaps.old heaps.new result t t }
 {
@@ -81,6 +84,7 @@ fn make_map(heaps: &mut Heaps, d: RegNo) -> Reply
 
 /// Makes a proxy of the script object in a register.
 fn make_proxy(heaps: &mut Heaps, d: RegNo, s: RegNo) -> Reply
+    requires within { d < bank_length }
     requires order { (owned : List ℕ) × IsInOrder owned heaps.old }
     requires colours { HasColourInvariant (view heaps.old.heap) }
     ensures { (t : Telling) → IsApplied (Proxy d s) heaps.old heaps.new result t t }
@@ -97,6 +101,7 @@ fn make_proxy(heaps: &mut Heaps, d: RegNo, s: RegNo) -> Reply
 
 /// Copies a native register.
 fn copy_native<N: Notices>(heaps: &mut Heaps, d: RegNo, s: RegNo, out: &mut N) -> Reply
+    requires within { d < bank_length }
     requires order { (owned : List ℕ) × IsInOrder owned heaps.old × AreOwnedOnce owned }
     ensures { IsApplied (CopyNative d s) heaps.old heaps.new result (N.telling out.old) (N.telling out.new) }
 {
@@ -108,6 +113,7 @@ fn copy_native<N: Notices>(heaps: &mut Heaps, d: RegNo, s: RegNo, out: &mut N) -
 
 /// Copies a script register.
 fn copy_script(heaps: &mut Heaps, d: RegNo, s: RegNo) -> Reply
+    requires within { d < bank_length }
     requires order { (owned : List ℕ) × IsInOrder owned heaps.old }
     requires colours { HasColourInvariant (view heaps.old.heap) }
     ensures { (t : Telling) → IsApplied (CopyScript d s) heaps.old heaps.new result t t }
@@ -120,6 +126,7 @@ fn copy_script(heaps: &mut Heaps, d: RegNo, s: RegNo) -> Reply
 
 /// Empties a native register.
 fn drop_native<N: Notices>(heaps: &mut Heaps, r: RegNo, out: &mut N) -> Reply
+    requires within { r < bank_length }
     requires order { (owned : List ℕ) × IsInOrder owned heaps.old × AreOwnedOnce owned }
     ensures { IsApplied (Drop (n_register r)) heaps.old heaps.new result (N.telling out.old) (N.telling out.new) }
 {
@@ -129,6 +136,7 @@ fn drop_native<N: Notices>(heaps: &mut Heaps, r: RegNo, out: &mut N) -> Reply
 
 /// Empties a script register.
 fn drop_script(heaps: &mut Heaps, r: RegNo) -> Reply
+    requires within { r < bank_length }
     requires order { (owned : List ℕ) × IsInOrder owned heaps.old }
     ensures { (t : Telling) → IsApplied (Drop (s_register r)) heaps.old heaps.new result t t }
 {
@@ -138,6 +146,7 @@ fn drop_script(heaps: &mut Heaps, r: RegNo) -> Reply
 
 /// Empties a register.
 fn empty<N: Notices>(heaps: &mut Heaps, r: Reg, out: &mut N) -> Reply
+    requires within { IsTrue (is_reg r) }
     requires order { (owned : List ℕ) × IsInOrder owned heaps.old × AreOwnedOnce owned }
     ensures { IsApplied (Drop r) heaps.old heaps.new result (N.telling out.old) (N.telling out.new) }
 {
@@ -177,6 +186,7 @@ fn set<N: Notices>(heaps: &mut Heaps, d: RegNo, i: u32, from: Option<Reg>, out: 
 
 /// Reads slot `i` of the native in a register into a native register.
 fn get_native<N: Notices>(heaps: &mut Heaps, d: RegNo, s: RegNo, i: u32, out: &mut N) -> Reply
+    requires within { d < bank_length }
     requires order { (owned : List ℕ) × IsInOrder owned heaps.old × AreOwnedOnce owned }
     ensures { IsApplied (Get (n_register d) s i) heaps.old heaps.new result (N.telling out.old) (N.telling out.new) }
 {
@@ -191,6 +201,7 @@ fn get_native<N: Notices>(heaps: &mut Heaps, d: RegNo, s: RegNo, i: u32, out: &m
 
 /// Reads slot `i` of the native in a register into a script register.
 fn get_script(heaps: &mut Heaps, d: RegNo, s: RegNo, i: u32) -> Reply
+    requires within { d < bank_length }
     requires order { (owned : List ℕ) × IsInOrder owned heaps.old }
     ensures { (t : Telling) → IsApplied (Get (s_register d) s i) heaps.old heaps.new result t t }
 {
@@ -205,6 +216,7 @@ fn get_script(heaps: &mut Heaps, d: RegNo, s: RegNo, i: u32) -> Reply
 
 /// Reads slot `i` of the native in a register into a register of either kind.
 fn get<N: Notices>(heaps: &mut Heaps, d: Reg, s: RegNo, i: u32, out: &mut N) -> Reply
+    requires within { IsTrue (is_reg d) }
     requires order { (owned : List ℕ) × IsInOrder owned heaps.old × AreOwnedOnce owned }
     ensures { IsApplied (Get d s i) heaps.old heaps.new result (N.telling out.old) (N.telling out.new) }
 {
@@ -212,6 +224,46 @@ fn get<N: Notices>(heaps: &mut Heaps, d: Reg, s: RegNo, i: u32, out: &mut N) -> 
         Reg::N(k) => get_native(heaps, k, s, i, out),
         Reg::S(k) => get_script(heaps, k, s, i),
     }
+}
+
+/// What slot `j` of the native in register `s` holds goes into slot `i` of the native in register `d`.
+fn hand_over<N: Notices>(heaps: &mut Heaps, d: RegNo, i: u32, s: RegNo, j: u32, out: &mut N)
+    requires order { (owned : List ℕ) × IsInOrder owned heaps.old }
+    requires to_slot { i < length (slots_at (objects_of heaps.old.heap) (n_register d)) }
+    requires from_slot { j < length (slots_at (objects_of heaps.old.heap) (n_register s)) }
+    ensures heap { heaps.new.heap ≡ (slot_moved heaps.old.heap d i s j).heap }
+    ensures told { TellsEvents (N.telling out.old) (N.telling out.new) (slot_moved heaps.old.heap d i s j).events }
+    ensures keys { KeepsKeys heaps.old heaps.new }
+    ensures order { (owned : List ℕ) → IsInOrder owned heaps.old → IsInOrder owned heaps.new }
+{
+    let Some(to) = heaps.native_reg(d) else {
+        unreachable!();
+    };
+    let Some(from) = heaps.native_reg(s) else {
+        unreachable!();
+    };
+    heaps.move_slot(to, i as SlotNo, from, j as SlotNo, out);
+}
+
+/// Moves what slot `j` of the native in register `s` holds into slot `i` of the native in register `d`.
+fn move_slot<N: Notices>(
+    heaps: &mut Heaps,
+    d: RegNo,
+    i: u32,
+    s: RegNo,
+    j: u32,
+    out: &mut N,
+) -> Reply
+    requires order { (owned : List ℕ) × IsInOrder owned heaps.old }
+    ensures { IsApplied (Move d i s j) heaps.old heaps.new result (N.telling out.old) (N.telling out.new) }
+{
+    if let Some(refusal) = refusal_of_move(heaps, d, i, s, j) {
+        return Reply::Refused(refusal);
+    }
+    let content = native_content(heaps, s, j);
+    let reply = naming(heaps, content);
+    hand_over(heaps, d, i, s, j, out);
+    reply
 }
 
 /// Writes slot `i` of the script object in a register; a reflector is preserved before, also where its slot is emptied.
@@ -249,6 +301,7 @@ fn put(heaps: &mut Heaps, d: RegNo, i: u32, from: Option<RegNo>) -> Reply
 
 /// Reads slot `i` of the script object in a register into a script register.
 fn take(heaps: &mut Heaps, d: RegNo, s: RegNo, i: u32) -> Reply
+    requires within { d < bank_length }
     requires order { (owned : List ℕ) × IsInOrder owned heaps.old }
     ensures { (t : Telling) → IsApplied (Take d s i) heaps.old heaps.new result t t }
 {
@@ -263,6 +316,7 @@ fn take(heaps: &mut Heaps, d: RegNo, s: RegNo, i: u32) -> Reply
 
 /// Puts the reflector of the native in a register into a script register; it is made where there is none.
 fn wrap(heaps: &mut Heaps, d: RegNo, s: RegNo) -> Reply
+    requires within { d < bank_length }
     requires order { (owned : List ℕ) × IsInOrder owned heaps.old × AreOwnedOnce owned }
     requires colours { HasColourInvariant (view heaps.old.heap) }
     ensures { (t : Telling) → IsApplied (Wrap d s) heaps.old heaps.new result t t }
@@ -282,6 +336,7 @@ fn wrap(heaps: &mut Heaps, d: RegNo, s: RegNo) -> Reply
 
 /// Puts the native of the reflector in a script register into a native register.
 fn unwrap<N: Notices>(heaps: &mut Heaps, d: RegNo, s: RegNo, out: &mut N) -> Reply
+    requires within { d < bank_length }
     requires order { (owned : List ℕ) × IsInOrder owned heaps.old × AreOwnedOnce owned }
     ensures { IsApplied (Unwrap d s) heaps.old heaps.new result (N.telling out.old) (N.telling out.new) }
 {
@@ -359,6 +414,7 @@ fn set_entry(heaps: &mut Heaps, m: RegNo, k: RegNo, from: Option<RegNo>) -> Repl
 
 /// Reads the value of the key in a register in the weak map in another into a script register.
 fn get_entry(heaps: &mut Heaps, d: RegNo, m: RegNo, k: RegNo) -> Reply
+    requires within { d < bank_length }
     requires order { (owned : List ℕ) × IsInOrder owned heaps.old }
     ensures { (t : Telling) → IsApplied (GetEntry d m k) heaps.old heaps.new result t t }
 {
@@ -416,6 +472,7 @@ fn answer<N: Notices>(heaps: &mut Heaps, command: &Command, out: &mut N) -> Repl
         Command::Drop(r) => empty(heaps, r, out),
         Command::Set(d, i, from) => set(heaps, d, i, from, out),
         Command::Get(d, s, i) => get(heaps, d, s, i, out),
+        Command::Move(d, i, s, j) => move_slot(heaps, d, i, s, j, out),
         Command::Put(d, i, from) => put(heaps, d, i, from),
         Command::Take(d, s, i) => take(heaps, d, s, i),
         Command::Wrap(d, s) => wrap(heaps, d, s),

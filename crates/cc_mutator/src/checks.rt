@@ -2,7 +2,7 @@
 ghost use Rattle.std.specs.Prelude.{◌≡◌, ◌<◌, ◌||◌, ℕ, List, [], ◌∷◌, length, map, nat_le, not, is_none, option_to_list};
 ghost use Rattle.std.specs.List.{list_any};
 ghost use Rattle.cc_names.specs.declared.register.Reg.TheVariants.{N as n_register, S as s_register};
-ghost use Rattle.cc_model.specs.declared.command.Command.TheVariants.{Set, Get, Put, Take, SetEntry, GetEntry, Expose};
+ghost use Rattle.cc_model.specs.declared.command.Command.TheVariants.{Set, Get, Move, Put, Take, SetEntry, GetEntry, Expose};
 ghost use Rattle.cc_model.specs.declared.item.Refusal.TheVariants.{Empty as empty, Kind as wrong_kind, Slot as no_slot};
 ghost use Rattle.cc_model.specs.Checks.{first_refusal, is_map_in, is_native_there, is_script_there, refusal_of, slot_at, slots_at};
 ghost use Rattle.cc_model.specs.Heap.{objects_of, register};
@@ -176,6 +176,26 @@ pub(crate) fn refusal_of_expose(heaps: &Heaps, s: RegNo, i: u32) -> Option<Refus
         return Some(Refusal::Kind);
     }
     None
+}
+
+/// Why `move` is refused.
+pub(crate) fn refusal_of_move(
+    heaps: &Heaps,
+    d: RegNo,
+    i: u32,
+    s: RegNo,
+    j: u32,
+) -> Option<Refusal>
+    requires { (owned : List ℕ) × IsInOrder owned heaps.now }
+    ensures { result ≡ refusal_of (objects_of heaps.now.heap) (Move d i s j) }
+{
+    if is_empty(heaps, Reg::N(s)) {
+        return Some(Refusal::Empty);
+    }
+    if let Some(refusal) = refusal_of_slot(heaps, Reg::N(d), i) {
+        return Some(refusal);
+    }
+    refusal_of_slot(heaps, Reg::N(s), j)
 }
 
 /// Why `put` is refused.

@@ -182,3 +182,15 @@ pub(crate) fn naming_script(heaps: &Heaps, content: Option<SKey>) -> Reply
         None => Reply::Nothing,
     }
 }
+
+/// The reply that names what is held, or tells that there was nothing.
+pub(crate) fn naming(heaps: &Heaps, content: Option<Held>) -> Reply
+    requires { IsThere heaps.now content }
+    ensures { result ≡ named_or_nothing (held_name heaps.now content) }
+{
+    match content {
+        Some(Held::Native(key)) => naming_native(heaps, Some(key)),
+        Some(Held::Script(key)) => naming_script(heaps, Some(key)),
+        None => Reply::Nothing,
+    }
+}

@@ -46,7 +46,7 @@ impl Scripts {
         }
     }
 
-    /// Makes a plain object with `slots` empty slots (0 to 64) and the number `no`. It is black, and goes last.
+    /// Makes a plain object with `slots` empty slots (0 to 256) and the number `no`. It is black, and goes last.
     ///
     /// `NoMemory` changes nothing. Beside the four calls that make an object none takes memory.
     pub fn create_plain(&mut self, no: ScriptNo, slots: SlotNo) -> Result<SKey, NoMemory>
@@ -145,7 +145,7 @@ impl Scripts {
         self.parts.has_colour(colour)
     }
 
-    /// How many slots an object has: 0 to 64.
+    /// How many slots an object has: 0 to 256.
     pub fn slots(&self, key: SKey) -> SlotNo
         requires live { IsTrue (is_there self.now key.0) }
         ensures { result ≡ length (slots_at self.now key.0) }

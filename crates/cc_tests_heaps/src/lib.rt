@@ -9,3 +9,5 @@
 mod counted;
 #[cfg(test)]
 mod heaps;
+#[cfg(test)]
+mod moving;

@@ -1,21 +1,22 @@
 //! Native registers and slots of natives written.
-ghost use Rattle.std.specs.Prelude.{◌≡◌, ◌<◌, ◌≤◌, ℕ, List, ◌∷◌, ◌++◌, length, slice_index_or, Some, None, IsSome, ◌+◌};
+ghost use Rattle.std.specs.Prelude.{◌≡◌, ◌<◌, ◌≤◌, ℕ, List, ◌∷◌, ◌++◌, length, map, slice_index_or, Some, None, IsSome, ◌+◌};
 ghost use Rattle.cc_names.specs.Names.{native};
+ghost use Rattle.cc_names.specs.Sizes.{bank_length};
 ghost use Rattle.cc_names.specs.declared.register.Reg.TheVariants.{N as n_register};
-ghost use Rattle.cc_model.specs.Heap.{native_at, register, set_register, set_slot};
+ghost use Rattle.cc_model.specs.Heap.{native_at, register, set_register, set_slot, touch};
 ghost use Rattle.cc_model.specs.Cascade.{add_ref, take_up, let_go};
 ghost use Rattle.cc_model.specs.End.{slots_now};
 ghost use Rattle.cc_model.specs.Counts.{times};
-ghost use Rattle.cc_model.specs.Effects.{hold_native, put_in_register};
+ghost use Rattle.cc_model.specs.Effects.{hold_native, put_in_register, touched};
 ghost use Rattle.cc_model.specs.Telling.{TellsEvents};
 ghost use Rattle.cc_model.specs.Graph as graph;
 ghost use Rattle.cc_laws_heap.specs.Sound.{numbers_of};
-ghost use Rattle.cc_counted.specs.Counts.{slots_of};
+ghost use Rattle.cc_counted.specs.Counts.{key_left, slots_of};
 ghost use Rattle.cc_heaps.specs.Keyed.{IsInOrder, counts_of, number_at, the_number, changed_to, left_with};
-ghost use Rattle.cc_heaps.specs.Changes.{IsNativeThere, IsThere, held_name, native_name, stored_in, IsBlackHeld};
+ghost use Rattle.cc_heaps.specs.Changes.{IsNativeThere, IsThere, KeepsKeys, held_name, moved_in, native_name, slot_held, stored_in, taken_from, IsBlackHeld};
 ghost use Rattle.cc_heaps.specs.Standing.{IsReached, StandsAfter};
 ghost use Rattle.cc_heaps.specs.Few.{AreOwnedOnce};
-ghost use Rattle.cc_heaps.specs.Keeping.{KeepsAll, KeepsAllIf};
+ghost use Rattle.cc_heaps.specs.Keeping.{KeepsAll, KeepsAllIf, KeepsAllIfReached};
 ghost use Rattle.cc_heaps.specs.Leaving.{TellsWhatIsFreed};
 
 use crate::heaps::Heaps;
@@ -63,6 +64,7 @@ impl Heaps {
 
     // A register written, whose new reference was taken before; what it held.
     fn replace_register(&mut self, r: RegNo, content: Option<NKey>) -> Option<NKey>
+        requires within { r < bank_length }
         requires order { (owned : List ℕ) × IsInOrder (numbers_of (native_name self.old content) ++ owned) self.old }
         requires there { IsNativeThere self.old content }
         ensures heap { self.new ≡ changed_to self.old (set_register self.old.heap (n_register r) (native_name self.old content)) }
@@ -82,6 +84,7 @@ impl Heaps {
         content: Option<NKey>,
         out: &mut N,
     )
+        requires within { r < bank_length }
         requires order { (owned : List ℕ) × IsInOrder (numbers_of (native_name self.old content) ++ owned) self.old }
         requires there { IsNativeThere self.old content }
         ensures heap { self.new ≡ left_with self.old (put_in_register self.old.heap r (native_name self.old content)).heap }
@@ -111,6 +114,7 @@ impl Heaps {
     /// The new reference is taken first, then the register is written, then what it held is given up with all that it
     /// deletes. Takes no memory.
     pub fn set_native_reg<N: Notices>(&mut self, r: RegNo, content: Option<NKey>, out: &mut N)
+        requires within { r < bank_length }
         requires order { (owned : List ℕ) × IsInOrder owned self.old × AreOwnedOnce owned }
         requires there { IsNativeThere self.old content }
         ensures heap { self.new ≡ left_with self.old (hold_native self.old.heap r (native_name self.old content)).heap }
@@ -152,6 +156,81 @@ impl Heaps {
     {
         self.take_up(content);
         let held = self.replace_slot(key, i, content);
+        self.let_go(held, out);
+    }
+
+    // A native stands in the buffer from then on, without the purple mark.
+    fn touch(&mut self, key: NKey)
+        requires live { IsSome (number_at self.old key.0) }
+        requires owned { (owned : List ℕ) × IsInOrder owned self.old }
+        ensures heap { self.new ≡ changed_to self.old (touch self.old.heap (the_number self.old key.0)) }
+        ensures order { (owned : List ℕ) → IsInOrder owned self.old → IsInOrder owned self.new }
+    {
+        self.counted.touch(key);
+    }
+
+    // What is to move: a native is touched, and a script object exposed.
+    fn touch_content(&mut self, content: Option<Held>)
+        requires order { (owned : List ℕ) × IsInOrder owned self.old }
+        requires there { IsThere self.old content }
+        ensures heap { self.new.heap ≡ touched self.old.heap (held_name self.old content) }
+        ensures natives { self.new.keys ≡ self.old.keys }
+        ensures keys { KeepsKeys self.old self.new }
+        ensures order { (owned : List ℕ) → IsInOrder owned self.old → IsInOrder owned self.new }
+    {
+        match content {
+            Some(Held::Native(key)) => self.touch(key),
+            Some(Held::Script(key)) => self.expose(key),
+            None => {}
+        }
+    }
+
+    // What slot j of a native holds, touched or exposed, and taken out of it. The reference to a native is the caller's.
+    fn take_out(&mut self, key: NKey, j: SlotNo) -> Option<Held>
+        requires order { (owned : List ℕ) × IsInOrder owned self.old }
+        requires live { IsSome (number_at self.old key.0) }
+        requires within { j < length (slots_of (counts_of self.old) key.0) }
+        ensures heap { self.new.heap ≡ taken_from self.old.heap (the_number self.old key.0) j }
+        ensures natives { self.new.keys ≡ self.old.keys }
+        ensures keys { KeepsKeys self.old self.new }
+        ensures name { held_name self.new result ≡ slot_held self.old.heap (the_number self.old key.0) j }
+        ensures there { IsThere self.new result }
+        ensures order { (owned : List ℕ) → IsInOrder owned self.old → IsInOrder (numbers_of (held_name self.new result) ++ owned) self.new }
+    {
+        let content = self.counted().slot(key, j);
+        self.touch_content(content);
+        self.replace_slot(key, j, None)
+    }
+
+    /// Slot `i` of `to`, counted from 0, holds from then on what slot `j` of `from` held, which is empty then. Where both are
+    /// one place nothing moves, but what is there is touched or exposed.
+    ///
+    /// What moves is seen by a collection that runs: a native stands in the buffer without the purple mark, a script object
+    /// is black, with all that an exposure makes black. Then it leaves slot `j`, and its reference goes into slot `i`, so no
+    /// count changes; then what slot `i` held is given up with all that it deletes. Takes no memory.
+    ///
+    /// A move can leave natives unreached that only hold each other, and to be touched is no suspicion: none is forgotten
+    /// where `to` is reached once slot `j` is empty. So it is where a register holds `to`, whatever slot is emptied. That
+    /// `to` is reached before is not enough: it could be reached over slot `j` alone, and be what moves.
+    pub fn move_slot<N: Notices>(&mut self, to: NKey, i: SlotNo, from: NKey, j: SlotNo, out: &mut N)
+        requires order { (owned : List ℕ) × IsInOrder owned self.old }
+        requires to_live { IsSome (number_at self.old to.0) }
+        requires to_within { i < length (slots_of (counts_of self.old) to.0) }
+        requires from_live { IsSome (number_at self.old from.0) }
+        requires from_within { j < length (slots_of (counts_of self.old) from.0) }
+        ensures heap { self.new.heap ≡ (moved_in self.old.heap (the_number self.old to.0) i (the_number self.old from.0) j).heap }
+        ensures natives { self.new.keys ≡ map (key_left self.new.heap) self.old.keys }
+        ensures told { TellsEvents (N.telling out.old) (N.telling out.new)
+            (moved_in self.old.heap (the_number self.old to.0) i (the_number self.old from.0) j).events }
+        ensures tells { TellsWhatIsFreed self.old.heap self.new.heap (N.telling out.old) (N.telling out.new) }
+        ensures kept { KeepsAllIfReached
+            (IsReached (taken_from self.old.heap (the_number self.old from.0) j) (Some (native (the_number self.old to.0)))) self.old self.new }
+        ensures stands { IsReached self.old.heap (Some (native (the_number self.old to.0))) → IsReached self.old.heap (Some (native (the_number self.old from.0))) →
+            StandsAfter self.old.heap self.new.heap (λ g. graph.move_slot g (Some (native (the_number self.old to.0))) i
+            (Some (native (the_number self.old from.0))) j (slot_held self.old.heap (the_number self.old from.0) j)) }
+    {
+        let content = self.take_out(from, j);
+        let held = self.replace_slot(to, i, content);
         self.let_go(held, out);
     }
 }

@@ -1,7 +1,7 @@
 //! Natives made.
 ghost use Rattle.std.specs.Prelude.{◌≡◌, ◌+◌, ◌<◌, ◌≤◌, ℕ, List, ◌∷◌, Some, Err, IfOk, OnOk, OnErr};
 ghost use Rattle.cc_names.specs.Names.{native};
-ghost use Rattle.cc_names.specs.Sizes.{most_slots};
+ghost use Rattle.cc_names.specs.Sizes.{bank_length, most_slots};
 ghost use Rattle.cc_model.specs.Effects.{make_native, with_native};
 ghost use Rattle.cc_model.specs.Telling.{TellsEvents};
 ghost use Rattle.cc_model.specs.declared.command.Command.TheVariants as command;
@@ -38,7 +38,7 @@ impl Heaps {
         Ok(key)
     }
 
-    /// Makes a native with `slots` empty slots (0 to 64), which register `r` holds from then on. Its name.
+    /// Makes a native with `slots` empty slots (0 to 256), which register `r` holds from then on. Its name.
     ///
     /// What the register held is given up, and what then has no reference is deleted and told. `Full` exactly where as
     /// many natives as the limit were ever made; `NoMemory` at any other time. Neither changes anything.
@@ -48,6 +48,7 @@ impl Heaps {
         slots: SlotNo,
         out: &mut N,
     ) -> Result<Name, MakeStop>
+        requires within { r < bank_length }
         requires order { (owned : List ℕ) × IsInOrder owned self.old }
         requires slots { slots ≤ most_slots }
         ensures full { result ≡ Err MakeStop.Full → self.old.heap.limits.natives ≤ self.old.heap.natives_made }

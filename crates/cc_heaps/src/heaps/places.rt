@@ -22,7 +22,7 @@ fn held_script(content: Option<SKey>) -> Option<Held>
 
 impl Heaps {
     /// How many places an object has in which it may refer to another: its slots and one more of a native, and its slots and
-    /// two more of a script object, 1 to 66.
+    /// two more of a script object, 1 to 258.
     pub fn places(&self, object: Held) -> SlotNo
         requires order { (owned : List ℕ) × IsInOrder owned self.now }
         requires there { IsThere self.now (Some object) }

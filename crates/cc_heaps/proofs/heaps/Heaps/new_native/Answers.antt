@@ -53,13 +53,13 @@ returns-in-Ok-clause-kept g c = record {
   counts = few-owned _;
   colours = (let v = c.args.self.now in
       let allowed : v.heap.natives_made < v.heap.limits.natives = rw (← c.self.view_is) (omega (arith, c.if-self-natives.false, c.natives.ensures.same)) in
-      subst (KeepsColours v.heap) (sym (returns-in-Ok-clause-heap g c)) (make_native-keeps v.heap c.args.r c.args.slots c.ranges.r.fits c.requires.slots allowed c.requires.order.1.sound).follows.colours);
+      subst (KeepsColours v.heap) (sym (returns-in-Ok-clause-heap g c)) (make_native-keeps v.heap c.args.r c.args.slots c.requires.within c.requires.slots allowed c.requires.order.1.sound).follows.colours);
   fresh = (let v = c.args.self.now in
       let allowed : v.heap.natives_made < v.heap.limits.natives = rw (← c.self.view_is) (omega (arith, c.if-self-natives.false, c.natives.ensures.same)) in
-      subst (KeepsFresh v.heap) (sym (returns-in-Ok-clause-heap g c)) (make_native-keeps v.heap c.args.r c.args.slots c.ranges.r.fits c.requires.slots allowed c.requires.order.1.sound).follows.fresh);
+      subst (KeepsFresh v.heap) (sym (returns-in-Ok-clause-heap g c)) (make_native-keeps v.heap c.args.r c.args.slots c.requires.within c.requires.slots allowed c.requires.order.1.sound).follows.fresh);
   suspected = (let v = c.args.self.now in
       let allowed : v.heap.natives_made < v.heap.limits.natives = rw (← c.self.view_is) (omega (arith, c.if-self-natives.false, c.natives.ensures.same)) in
-      subst (KeepsSuspected v.heap) (sym (returns-in-Ok-clause-heap g c)) (make_native-keeps v.heap c.args.r c.args.slots c.ranges.r.fits c.requires.slots allowed c.requires.order.1.sound).suspected);
+      subst (KeepsSuspected v.heap) (sym (returns-in-Ok-clause-heap g c)) (make_native-keeps v.heap c.args.r c.args.slots c.requires.within c.requires.slots allowed c.requires.order.1.sound).suspected);
 }
 
 pub returns-in-Ok-clause-stands : goal.returns-in-Ok-clause-stands
@@ -67,7 +67,7 @@ returns-in-Ok-clause-stands g c =
     let v = c.args.self.now in
     let allowed : v.heap.natives_made < v.heap.limits.natives = rw (← c.self.view_is) (omega (arith, c.if-self-natives.false, c.natives.ensures.same)) in
     subst (λ h. StandsAfter v.heap h (λ e. step e (Native c.args.r c.args.slots))) (sym (returns-in-Ok-clause-heap g c))
-    (make_native-stands v.heap c.args.r c.args.slots c.requires.order.1.sound c.ranges.r.fits c.requires.slots allowed)
+    (make_native-stands v.heap c.args.r c.args.slots c.requires.order.1.sound c.requires.within c.requires.slots allowed)
 
 pub returns-in-Err-clause-kept : goal.returns-in-Err-clause-kept
 returns-in-Err-clause-kept g c = KeepsAll-same c.args.self.now _ c.in-Err.ensures.same
@@ -77,7 +77,7 @@ returns-in-Ok-clause-tells g c =
     let v = c.args.self.now in
     let f = c.requires.order in
     let allowed : v.heap.natives_made < v.heap.limits.natives = rw (← c.self.view_is) (omega (arith, c.if-self-natives.false, c.natives.ensures.same)) in
-    make_native-tells f.0 v.heap c.put_in_register.new.self.heap c.args.r c.args.slots c.ranges.r.fits c.requires.slots allowed f.1.sound
+    make_native-tells f.0 v.heap c.put_in_register.new.self.heap c.args.r c.args.slots c.requires.within c.requires.slots allowed f.1.sound
     (g.N.Notices.telling c.args.out.now) (g.N.Notices.telling c.put_in_register.new.out)
     (returns-in-Ok-clause-heap g c) ((returns-in-Ok-clause-kept g c).order f.0 f.1).sound.well_formed (returns-in-Ok-clause-told g c)
 

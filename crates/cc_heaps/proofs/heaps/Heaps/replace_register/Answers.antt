@@ -69,5 +69,5 @@ returns-clause-there c =
 pub returns-clause-order : goal.returns-clause-order
 returns-clause-order c owned =
     rw (← c.self.view_is)
-    (λ o. (written-fit c.self.inside c.args.r c.args.content owned c.ranges.r.fits (rw (← c.self.view_is) at c.requires.there) c.native_reg-held.result
+    (λ o. (written-fit c.self.inside c.args.r c.args.content owned c.requires.within (rw (← c.self.view_is) at c.requires.there) c.native_reg-held.result
     (rw (← c.self.view_is) at c.native_reg-held.ensures.name) (record { order = o; linked = c.self.invariant })).order)

@@ -59,7 +59,7 @@ keeps : (g : given.Over) (c : goal.After-put_in_register g) → Keeps c.args.sel
 keeps g c =
     let v = c.args.self.now in
     let f = c.requires.order in
-    hold_native-keeps v.heap c.args.r (native_name v c.args.content) c.ranges.r.fits (native-in f.0 v c.args.content f.1) f.1.sound
+    hold_native-keeps v.heap c.args.r (native_name v c.args.content) c.requires.within (native-in f.0 v c.args.content f.1) f.1.sound
 
 pub returns-clause-kept : goal.returns-clause-kept
 returns-clause-kept g c = record {
@@ -82,6 +82,6 @@ returns-clause-tells g c =
     let v = c.args.self.now in
     let w = c.put_in_register.new.self in
     let f = c.requires.order in
-    hold_native-tells f.0 v w c.args.r (native_name v c.args.content) c.ranges.r.fits (native-in f.0 v c.args.content f.1) f.1
+    hold_native-tells f.0 v w c.args.r (native_name v c.args.content) c.requires.within (native-in f.0 v c.args.content f.1) f.1
     (g.N.Notices.telling c.args.out.now) (g.N.Notices.telling c.put_in_register.new.out)
     (returns-clause-heap g c) ((returns-clause-kept g c).order f.0 f.1) (returns-clause-told g c)
