@@ -199,26 +199,26 @@ pub collecting-done : (es : List KeyedEntry) (key : ℕ) (places : List ℕ) (be
 collecting-done es key places before is h = sym (append-nil places) ∙ (ap (λ o. places ++ falling_from es key o) (sym is) ∙ h.whole)
 
 -- the entries that are left
-pub record IsGiving (v : Keyed) (places : List ℕ) (start now : Walk) (target : Walk) : Type 0 where
+pub record IsGiving (v : Keyed) (places : List ℕ) (now target : Walk) : Type 0 where
   pub left : with_places v places now ≡ target
   pub within : (i : ℕ) → Among i places → i < length v.entries
 
 pub giving-starts : (v : Keyed) (owned : List ℕ) → IsInOrder owned v → (key : ℕ) (x : Name) → name_at v.scripts key ≡ Some x → (places : List ℕ) (w : Walk) →
-    places ≡ falling v.entries key (length v.entries) → IsGiving v places w w (with_entries x v.heap.entries w)
+    places ≡ falling v.entries key (length v.entries) → IsGiving v places w (with_entries x v.heap.entries w)
 giving-starts v owned order key x at places w e = record {
   left = ap (λ is. with_places v is w) e ∙ entries-given v owned order key x at w;
   within = λ i m. falling-within v.entries key (length v.entries) i (subst (Among i) e m);
 }
 
-pub giving-turn : (v : Keyed) (before places : List ℕ) (start now next target : Walk) (i : ℕ) → before ≡ places ++ i ∷ [] → next ≡ with_entry_at v i now →
-    IsGiving v before start now target → IsGiving v places start next target
-giving-turn v before places start now next target i popped e h = record {
+pub giving-turn : (v : Keyed) (before places : List ℕ) (now next target : Walk) (i : ℕ) → before ≡ places ++ i ∷ [] → next ≡ with_entry_at v i now →
+    IsGiving v before now target → IsGiving v places next target
+giving-turn v before places now next target i popped e h = record {
   left = ap (with_places v places) e ∙ (sym (places-last v places i now) ∙ (ap (λ is. with_places v is now) (sym popped) ∙ h.left));
   within = λ j m. h.within j (subst (Among j) (sym popped) (Among-left j places (i ∷ []) m));
 }
 
-pub giving-place : (v : Keyed) (before places : List ℕ) (start now target : Walk) (i : ℕ) → before ≡ places ++ i ∷ [] → IsGiving v before start now target → i < length v.entries
-giving-place v before places start now target i popped h = h.within i (subst (Among i) (sym popped) (Among-right i places (i ∷ []) (inl refl)))
+pub giving-place : (v : Keyed) (before places : List ℕ) (now target : Walk) (i : ℕ) → before ≡ places ++ i ∷ [] → IsGiving v before now target → i < length v.entries
+giving-place v before places now target i popped h = h.within i (subst (Among i) (sym popped) (Among-right i places (i ∷ []) (inl refl)))
 
-pub giving-done : (v : Keyed) (before places : List ℕ) (start now target : Walk) → before ≡ places ++ [] → before ≡ [] → IsGiving v before start now target → now ≡ target
-giving-done v before places start now target popped none h = ap (λ is. with_places v is now) (sym none) ∙ h.left
+pub giving-done : (v : Keyed) (before : List ℕ) (now target : Walk) → before ≡ [] → IsGiving v before now target → now ≡ target
+giving-done v before now target none h = ap (λ is. with_places v is now) (sym none) ∙ h.left

@@ -1,5 +1,5 @@
 -- THE SEARCH: one object walked, what holds between two, and what a search that is over has found.
-use Rattle.std.proofs.Common.{◌≡◌, ℕ, ◌+◌, ◌-◌, ◌<◌, ◌≤◌, Bool, true, false, List, [], ◌∷◌, ◌++◌, length, take, drop, Option, Some, None, option_and_then, refl, sym, ◌∙◌, ap, subst, ◌⊎◌, ⊎_elim, arith, count_by, drop-cons}
+use Rattle.std.proofs.Common.{◌≡◌, ℕ, ◌+◌, ◌-◌, ◌<◌, ◌≤◌, Bool, true, false, List, [], ◌∷◌, ◌++◌, length, take, drop, get_or, Option, Some, None, option_and_then, refl, sym, ◌∙◌, ap, subst, ◌⊎◌, ⊎_elim, arith, count_by, drop-cons}
 use Rattle.std.proofs.lemmas.Bool.{true≢false}
 use Rattle.std.proofs.lemmas.List.{length-append}
 use Rattle.cc_names.specs.declared.name.Name.{Name}
@@ -56,7 +56,8 @@ waiting-some v f paired l =
     let k = step-at f.nodes.nodes f.reasons.items f.walked paired.reasons l in
     let long : length (all_steps f) ≡ length f.nodes.nodes = steps-length f.nodes.nodes f.reasons.items paired.reasons in
     let next : 1 + f.walked ≡ f.walked + 1 = omega arith in
-    (_, drop-cons (all_steps f) f.walked k.step (omega (arith, l, long)) ∙ ap (λ n. _ ∷ drop n (all_steps f)) next)
+    let s : Step = get_or (all_steps f) f.walked k.step in
+    (s, drop-cons (all_steps f) f.walked k.step (omega (arith, l, long)) ∙ ap (λ n. s ∷ drop n (all_steps f)) next)
 
 -- one more is walked
 abbrev pub Walks : Keyed → Found → Found → Type 0

@@ -55,7 +55,9 @@ impl Found {
     {
         self.mark(name);
         let mut path = Vec::new(alloc);
-        for i in (0..self.nodes.len()).rev() {
+        let mut i = self.nodes.len();
+        'steps: while i > 0 {
+            i -= 1;
             if self.nodes.is_black(i) {
                 path.push(i)?;
                 self.mark_grounds(i);

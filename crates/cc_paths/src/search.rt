@@ -36,12 +36,11 @@ fn held_script(content: Option<SKey>, heaps: &Heaps) -> Option<Held>
 fn places_with(alloc: Global, heaps: &Heaps, object: SKey) -> Result<Vec<usize>, NoMemory>
     ensures { IfOk result (λ places. places.items ≡ falling heaps.now.entries object.0 (length heaps.now.entries)) }
 {
-    let weak = heaps.weak();
     let mut places = Vec::new(alloc);
-    let mut place = weak.first_with(object);
+    let mut place = heaps.weak().first_with(object);
     'places: while let Some(i) = place {
         places.push(i)?;
-        place = weak.next_with(object, i);
+        place = heaps.weak().next_with(object, i);
     }
     Ok(places)
 }
