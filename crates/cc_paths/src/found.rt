@@ -78,7 +78,9 @@ impl Found {
         if self.nodes.len() == u32::MAX {
             return Err(NoMemory);
         }
-        self.reasons.push(reason)?;
+        if self.reasons.push(reason).is_err() {
+            return Err(NoMemory);
+        }
         self.nodes.add_node(name, object)?;
         Ok(())
     }

@@ -9,9 +9,9 @@
 //! Nothing goes over all natives or all entries, and nothing recurses. Memory is taken before the first step is told.
 #![tactic(auto)]
 
+mod explaining;
 mod found;
 mod needed;
 mod search;
-mod why;
 
-pub use why::why;
+pub use explaining::why;

@@ -59,7 +59,9 @@ impl Found {
         'steps: while i > 0 {
             i -= 1;
             if self.nodes.is_black(i) {
-                path.push(i)?;
+                if path.push(i).is_err() {
+                    return Err(NoMemory);
+                }
                 self.mark_grounds(i);
             }
         }

@@ -39,7 +39,9 @@ fn places_with(alloc: Global, heaps: &Heaps, object: SKey) -> Result<Vec<usize>,
     let mut places = Vec::new(alloc);
     let mut place = heaps.weak().first_with(object);
     'places: while let Some(i) = place {
-        places.push(i)?;
+        if places.push(i).is_err() {
+            return Err(NoMemory);
+        }
         place = heaps.weak().next_with(object, i);
     }
     Ok(places)
