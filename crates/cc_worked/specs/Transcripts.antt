@@ -44,7 +44,7 @@ lists names = listing names (Census (length names))
 
 -- events, and no reply
 abbrev pub only : List Event → Answer
-only events = record { events = events; listed = []; reply = None }
+only events = record { events = events; listed = []; steps = []; reply = None }
 
 -- Right and wrong
 
