@@ -25,7 +25,7 @@ use crate::variable::{CHILDREN, CLOSURE, DATA, PARENT, SLOTS, Variable};
 use cc_collector::{Collector, Ended, Steps};
 use cc_heaps::Heaps;
 use cc_model::Notices;
-use cc_names::{Limits, Name, NativeNo, NoMemory, RegNo, SlotNo};
+use cc_names::{Limits, Name, NativeNo, NoMemory, SlotNo};
 use std::alloc::Global;
 use std::marker::{Brand, Model};
 use std::sync::ledger::{Blank, Ledger};
@@ -70,14 +70,14 @@ impl Document {
 
     /// The element that a variable holds.
     pub fn element(&self, at: Variable) -> Option<NativeNo>
-        ensures { (g : Graph) → Shows self.now g → option_map (λ n. n.0) result ≡ element_of (in_variable (objects_of g) at.0) }
+        ensures { (g : Graph) → Shows self.now g → option_map (λ n. n.0) result ≡ element_of (in_variable (objects_of g) at.number) }
     {
         self.parts.element_in(at)
     }
 
     /// The parent of the element in a variable.
     pub fn parent(&self, of: Variable) -> Option<NativeNo>
-        ensures { (g : Graph) → Shows self.now g → option_map (λ n. n.0) result ≡ parent_of (objects_of g) (in_variable (objects_of g) of.0) }
+        ensures { (g : Graph) → Shows self.now g → option_map (λ n. n.0) result ≡ parent_of (objects_of g) (in_variable (objects_of g) of.number) }
     {
         self.parts.element_at(of, PARENT)
     }
@@ -85,21 +85,21 @@ impl Document {
     /// The child at a place, 0 to 7, of the element in a variable.
     pub fn child(&self, of: Variable, place: SlotNo) -> Option<NativeNo>
         requires within { place < places }
-        ensures { (g : Graph) → Shows self.now g → option_map (λ n. n.0) result ≡ child_of (objects_of g) (in_variable (objects_of g) of.0) place }
+        ensures { (g : Graph) → Shows self.now g → option_map (λ n. n.0) result ≡ child_of (objects_of g) (in_variable (objects_of g) of.number) place }
     {
         self.parts.element_at(of, place + CHILDREN)
     }
 
     /// The element of which the listener of the element in a variable speaks; none where it has no listener.
     pub fn listener(&self, of: Variable) -> Option<NativeNo>
-        ensures { (g : Graph) → Shows self.now g → option_map (λ n. n.0) result ≡ listener_of (objects_of g) (in_variable (objects_of g) of.0) }
+        ensures { (g : Graph) → Shows self.now g → option_map (λ n. n.0) result ≡ listener_of (objects_of g) (in_variable (objects_of g) of.number) }
     {
         self.parts.listener_of(of)
     }
 
     /// The element of which the data of the element in a variable speaks; none where it has no data.
     pub fn data(&self, of: Variable) -> Option<NativeNo>
-        ensures { (g : Graph) → Shows self.now g → option_map (λ n. n.0) result ≡ data_of (objects_of g) (in_variable (objects_of g) of.0) }
+        ensures { (g : Graph) → Shows self.now g → option_map (λ n. n.0) result ≡ data_of (objects_of g) (in_variable (objects_of g) of.number) }
     {
         self.parts.data_of(of)
     }
@@ -113,7 +113,7 @@ impl Document {
         into: Variable,
         out: &mut N,
     ) -> Result<NativeNo, DocumentError>
-        ensures made { IfOk result (λ n. ShowsChanged self.old self.new (λ o p. IsAssigned o p into.0 (element n.0))) }
+        ensures made { IfOk result (λ n. ShowsChanged self.old self.new (λ o p. IsAssigned o p into.number (element n.0))) }
         ensures number { IfOk result (λ n. (g : Graph) → Shows self.old g → n.0 ≡ length g.natives + 1) }
         ensures stops { (e : DocumentError) → result ≡ Err e → (g : Graph) → Shows self.old g → StopsMaking (objects_of g) e }
         ensures full { (g : Graph) → Shows self.old g → g.limits.natives ≤ length g.natives → result ≡ Err Full }
@@ -121,7 +121,7 @@ impl Document {
         ensures same { OnErr result (self.new ≡ self.old) }
         ensures tells { TellsWhatIsFreed self.old.heaps.heap self.new.heaps.heap (N.telling out.old) (N.telling out.new) }
     {
-        match self.parts.heaps.new_native(into.0 as RegNo, SLOTS, out)? {
+        match self.parts.heaps.new_native(into.number, SLOTS, out)? {
             Name::Native(number) => Ok(number),
             Name::Script(_) | Name::Reflector(_) => unreachable!(),
         }
@@ -138,8 +138,8 @@ impl Document {
         out: &mut N,
     ) -> Result<(), DocumentError>
         ensures appended { OnOk result (ShowsChanged self.old self.new (λ o p.
-            Between (IsAppended o p) (element_of (in_variable o parent.0)) (element_of (in_variable o child.0)))) }
-        ensures stops { (e : DocumentError) → result ≡ Err e → (g : Graph) → Shows self.old g → StopsAppending (objects_of g) parent.0 child.0 e }
+            Between (IsAppended o p) (element_of (in_variable o parent.number)) (element_of (in_variable o child.number)))) }
+        ensures stops { (e : DocumentError) → result ≡ Err e → (g : Graph) → Shows self.old g → StopsAppending (objects_of g) parent.number child.number e }
         ensures makes { Makes 0 0 self.old self.new }
         ensures same { OnErr result (self.new ≡ self.old) }
         ensures tells { TellsWhatIsFreed self.old.heaps.heap self.new.heaps.heap (N.telling out.old) (N.telling out.new) }
@@ -170,8 +170,8 @@ impl Document {
         out: &mut N,
     ) -> Result<(), DocumentError>
         ensures removed { OnOk result (ShowsChanged self.old self.new (λ o p.
-            Between (IsRemoved o p) (element_of (in_variable o parent.0)) (element_of (in_variable o child.0)))) }
-        ensures stops { (e : DocumentError) → result ≡ Err e → (g : Graph) → Shows self.old g → StopsRemoving (objects_of g) parent.0 child.0 e }
+            Between (IsRemoved o p) (element_of (in_variable o parent.number)) (element_of (in_variable o child.number)))) }
+        ensures stops { (e : DocumentError) → result ≡ Err e → (g : Graph) → Shows self.old g → StopsRemoving (objects_of g) parent.number child.number e }
         ensures makes { Makes 0 0 self.old self.new }
         ensures same { OnErr result (self.new ≡ self.old) }
         ensures tells { TellsWhatIsFreed self.old.heaps.heap self.new.heaps.heap (N.telling out.old) (N.telling out.new) }
@@ -201,10 +201,10 @@ impl Document {
         out: &mut N,
     ) -> Result<(), DocumentError>
         ensures listens { OnOk result (ShowsChanged self.old self.new (λ o p.
-            Between (IsHeard o p) (element_of (in_variable o to.0)) (element_of (in_variable o about.0)))) }
-        ensures stops { (e : DocumentError) → result ≡ Err e → (g : Graph) → Shows self.old g → StopsListening (objects_of g) to.0 about.0 e }
-        ensures empty { (g : Graph) → Shows self.old g → LacksElement (objects_of g) to.0 about.0 → result ≡ Err Empty }
-        ensures full { (g : Graph) → Shows self.old g → ¬ (LacksElement (objects_of g) to.0 about.0) → IsScriptFull (objects_of g) → result ≡ Err Full }
+            Between (IsHeard o p) (element_of (in_variable o to.number)) (element_of (in_variable o about.number)))) }
+        ensures stops { (e : DocumentError) → result ≡ Err e → (g : Graph) → Shows self.old g → StopsListening (objects_of g) to.number about.number e }
+        ensures empty { (g : Graph) → Shows self.old g → LacksElement (objects_of g) to.number about.number → result ≡ Err Empty }
+        ensures full { (g : Graph) → Shows self.old g → ¬ (LacksElement (objects_of g) to.number about.number) → IsScriptFull (objects_of g) → result ≡ Err Full }
         ensures makes { OnOk result (Makes 0 1 self.old self.new) }
         ensures same { OnErr result (ShowsChanged self.old self.new IsAsBefore) }
         ensures tried { OnErr result (MakesOneAtMost self.old self.new) }
@@ -225,10 +225,10 @@ impl Document {
     /// `Empty`, `Full` and `NoMemory` as at `listen`.
     pub fn put_data(&mut self, of: Variable, about: Variable) -> Result<(), DocumentError>
         ensures has { OnOk result (ShowsChanged self.old self.new (λ o p.
-            Between (HasData o p) (element_of (in_variable o of.0)) (element_of (in_variable o about.0)))) }
-        ensures stops { (e : DocumentError) → result ≡ Err e → (g : Graph) → Shows self.old g → StopsListening (objects_of g) of.0 about.0 e }
-        ensures empty { (g : Graph) → Shows self.old g → LacksElement (objects_of g) of.0 about.0 → result ≡ Err Empty }
-        ensures full { (g : Graph) → Shows self.old g → ¬ (LacksElement (objects_of g) of.0 about.0) → IsScriptFull (objects_of g) → result ≡ Err Full }
+            Between (HasData o p) (element_of (in_variable o of.number)) (element_of (in_variable o about.number)))) }
+        ensures stops { (e : DocumentError) → result ≡ Err e → (g : Graph) → Shows self.old g → StopsListening (objects_of g) of.number about.number e }
+        ensures empty { (g : Graph) → Shows self.old g → LacksElement (objects_of g) of.number about.number → result ≡ Err Empty }
+        ensures full { (g : Graph) → Shows self.old g → ¬ (LacksElement (objects_of g) of.number about.number) → IsScriptFull (objects_of g) → result ≡ Err Full }
         ensures makes { OnOk result (Makes 0 1 self.old self.new) }
         ensures same { OnErr result (ShowsChanged self.old self.new IsAsBefore) }
         ensures tried { OnErr result (MakesOneAtMost self.old self.new) }
@@ -255,7 +255,7 @@ impl Document {
         out: &mut N,
     )
         requires within { place < places }
-        ensures assigned { ShowsChanged self.old self.new (λ o p. IsAssigned o p into.0 (elements (child_of o (in_variable o of.0) place))) }
+        ensures assigned { ShowsChanged self.old self.new (λ o p. IsAssigned o p into.number (elements (child_of o (in_variable o of.number) place))) }
         ensures makes { Makes 0 0 self.old self.new }
         ensures tells { TellsWhatIsFreed self.old.heaps.heap self.new.heaps.heap (N.telling out.old) (N.telling out.new) }
     {
@@ -264,7 +264,7 @@ impl Document {
 
     /// A variable holds the parent of the element in another, or nothing where it has none.
     pub fn visit_parent<N: Notices>(&mut self, into: Variable, of: Variable, out: &mut N)
-        ensures assigned { ShowsChanged self.old self.new (λ o p. IsAssigned o p into.0 (elements (parent_of o (in_variable o of.0)))) }
+        ensures assigned { ShowsChanged self.old self.new (λ o p. IsAssigned o p into.number (elements (parent_of o (in_variable o of.number)))) }
         ensures makes { Makes 0 0 self.old self.new }
         ensures tells { TellsWhatIsFreed self.old.heaps.heap self.new.heaps.heap (N.telling out.old) (N.telling out.new) }
     {
@@ -273,13 +273,11 @@ impl Document {
 
     /// A variable holds nothing from then on.
     pub fn let_go<N: Notices>(&mut self, variable: Variable, out: &mut N)
-        ensures assigned { ShowsChanged self.old self.new (λ o p. IsAssigned o p variable.0 None) }
+        ensures assigned { ShowsChanged self.old self.new (λ o p. IsAssigned o p variable.number None) }
         ensures makes { Makes 0 0 self.old self.new }
         ensures tells { TellsWhatIsFreed self.old.heaps.heap self.new.heaps.heap (N.telling out.old) (N.telling out.new) }
     {
-        self.parts
-            .heaps
-            .set_native_reg(variable.0 as RegNo, None, out);
+        self.parts.heaps.set_native_reg(variable.number, None, out);
     }
 
     /// Whether a collection runs.
@@ -347,11 +345,11 @@ impl Document {
     fn place(&self, parent: Variable, child: Option<NativeNo>) -> Option<SlotNo>
         ensures within { IfSome result (λ place. place < places) }
         ensures found { IfSome result (λ place. (g : Graph) → Shows self.now g →
-            child_of (objects_of g) (in_variable (objects_of g) parent.0) place ≡ option_map (λ n. n.0) child) }
+            child_of (objects_of g) (in_variable (objects_of g) parent.number) place ≡ option_map (λ n. n.0) child) }
         ensures lowest { IfSome result (λ place. (g : Graph) → Shows self.now g → (q : ℕ) → q < place →
-            child_of (objects_of g) (in_variable (objects_of g) parent.0) q ≢ option_map (λ n. n.0) child) }
+            child_of (objects_of g) (in_variable (objects_of g) parent.number) q ≢ option_map (λ n. n.0) child) }
         ensures none { result ≡ None → (g : Graph) → Shows self.now g → (place : ℕ) → place < places →
-            child_of (objects_of g) (in_variable (objects_of g) parent.0) place ≢ option_map (λ n. n.0) child }
+            child_of (objects_of g) (in_variable (objects_of g) parent.number) place ≢ option_map (λ n. n.0) child }
     {
         self.parts.place_of(parent, child)
     }

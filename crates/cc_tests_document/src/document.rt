@@ -6,11 +6,11 @@ use std::alloc::Global;
 use std::test::Fail;
 
 // Variables of the tests.
-const ROOT: Variable = Variable(0);
+const ROOT: Variable = Variable { number: 0 };
 
-const CHILD: Variable = Variable(1);
+const CHILD: Variable = Variable { number: 1 };
 
-const NEXT: Variable = Variable(2);
+const NEXT: Variable = Variable { number: 1023 };
 
 // The child is removed, and no variable holds it.
 fn lets_go(document: &mut Document, out: &mut Notebook) -> bool {
@@ -102,7 +102,7 @@ fn error_is_printed(rt: HostRuntime) -> Result<(), Fail> {
     let text = format!(in rt.alloc(); "{error}; {error:?} of {ROOT:?}")?;
     assert_eq!(rt;
         text.as_str(),
-        "the element has no place for another child; NoPlace of Variable(0)"
+        "the element has no place for another child; NoPlace of Variable { number: 0 }"
     );
     Ok(())
 }

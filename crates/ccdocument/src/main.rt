@@ -15,15 +15,15 @@ use std::alloc::Global;
 use std::fmt;
 
 // What the program works on.
-const PAGE: Variable = Variable(0);
+const PAGE: Variable = Variable { number: 0 };
 
-const MENU: Variable = Variable(1);
+const MENU: Variable = Variable { number: 1 };
 
-const FIRST: Variable = Variable(2);
+const FIRST: Variable = Variable { number: 2 };
 
-const SECOND: Variable = Variable(3);
+const SECOND: Variable = Variable { number: 3 };
 
-const TEXT: Variable = Variable(4);
+const TEXT: Variable = Variable { number: 4 };
 
 /// How many units of a collection are done in a frame.
 const UNITS: u32 = 5;
