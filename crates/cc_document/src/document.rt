@@ -1,7 +1,12 @@
 //! A document: its calls.
-ghost use Rattle.std.specs.Prelude.{◌≡◌, ◌≢◌, ◌+◌, ◌<◌, ◌≤◌, ℕ, None, Err, OnOk, OnErr, IfOk, IfSome, length, map, option_map, is_some};
+ghost use Rattle.std.specs.Prelude.{◌≡◌, ◌≢◌, ◌↔◌, ◌+◌, ◌<◌, ◌≤◌, ℕ, true, None, Ok, Err, OnOk, OnErr, IfOk, IfSome, IsTrue, length, map, option_map, is_some};
+ghost use Rattle.cc_names.specs.Names.{native};
 ghost use Rattle.cc_model.specs.declared.item.Item.TheVariants.{Listed};
+ghost use Rattle.cc_model.specs.Answers.{item_of_step};
+ghost use Rattle.cc_model.specs.Derivations.{leads_made, path_to};
 ghost use Rattle.cc_model.specs.Graph.{Graph, objects_of};
+ghost use Rattle.cc_model.specs.Paths.{IsPathTo};
+ghost use Rattle.cc_model.specs.Reached.{Reached};
 ghost use Rattle.cc_model.specs.Run.{census_names};
 ghost use Rattle.cc_model.specs.Telling.{Tells};
 ghost use Rattle.cc_gc.specs.Sparing.{KeepsWhatIsReached};
@@ -26,6 +31,7 @@ use cc_collector::{Collector, Ended, Steps};
 use cc_heaps::Heaps;
 use cc_model::Notices;
 use cc_names::{Limits, Name, NativeNo, NoMemory, SlotNo};
+use cc_paths::why;
 use std::alloc::Global;
 use std::marker::{Brand, Model};
 use std::sync::ledger::{Blank, Ledger};
@@ -339,6 +345,25 @@ impl Document {
         ensures count { result ≡ length (census_names self.now.heaps.heap) }
     {
         self.parts.heaps.census(out)
+    }
+
+    /// Why an element is there: tells the steps by which the variables lead to it, each once and itself last. A step names an
+    /// object, and the variable or the object that holds it (see `cc_paths::why`). `false`, and no step, exactly where nothing
+    /// leads to the element: then it is gone, or a collection is still to take it.
+    ///
+    /// It changes nothing, and may be called between any two frames. `NoMemory` comes before the first step is told.
+    pub fn why<N: Notices>(
+        &self,
+        alloc: Global,
+        element: NativeNo,
+        out: &mut N,
+    ) -> Result<bool, NoMemory>
+        ensures led { IfOk result (λ b. (g : Graph) → Shows self.now g → IsTrue b ↔ Reached g (native element.0)) }
+        ensures path { result ≡ Ok true → (g : Graph) → Shows self.now g → IsPathTo g (native element.0) (path_to (leads_made g) (native element.0)) }
+        ensures told { OnOk result ((g : Graph) → Shows self.now g → Tells (N.telling out.old) (N.telling out.new) (map item_of_step (path_to (leads_made g) (native element.0)))) }
+        ensures err { OnErr result (N.telling out.new ≡ N.telling out.old) }
+    {
+        why(alloc, &self.parts.heaps, &Name::Native(element), out)
     }
 
     /// The lowest place of the element in a variable that has this child, or none.
