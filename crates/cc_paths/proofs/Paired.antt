@@ -47,7 +47,7 @@ added-paired v f g x held r paired new named added =
       walked = omega (arith, paired.walked, added.walked);
       no_blacks = added.blacks ∙ paired.no_blacks;
       held = λ n m. ⊎_elim (λ a. paired.held n a) (λ b. ⊎_elim (λ is. subst (λ (k : Vertex). held_name v (Some k.held) ≡ Some k.name) is named) (λ never. absurd never) b)
-        (Among-append n f.nodes.nodes (vertex x held ∷ []) (subst (Among n) last m));
+          (Among-append n f.nodes.nodes (vertex x held ∷ []) (subst (Among n) last m));
     }
 
 -- what is found already

@@ -157,6 +157,8 @@ impl Found {
         ensures walk { OnOk result ((s : Step) (ss : List Step) → (walk_of self.old).waiting ≡ s ∷ ss → walk_of self.new ≡ walked_first (leads_in heaps.now.heap) s ss (walk_of self.old)) }
         ensures paired { OnOk result (IsPaired heaps.now self.new) }
     {
+        // nodes have numbers, so there are no more than numbers
+        prove!(self.walked < self.nodes.len());
         let (name, object) = self.nodes.node(self.walked);
         self.walked += 1;
         self.add_places(name, object, heaps)?;
