@@ -1,10 +1,9 @@
 -- What registers and nodes have, by names.
 use Rattle.std.specs.Prelude.{slice_get, IsSome, IsTrue}
-use Rattle.std.proofs.Common.{◌≡◌, ℕ, zero, suc, true, List, [], ◌∷◌, drop, Option, Some, None, option_map, is_some, refl, sym, ◌∙◌, ap, subst}
+use Rattle.std.proofs.Common.{◌≡◌, ℕ, zero, suc, true, List, [], ◌∷◌, drop, Option, Some, None, option_map, is_some, refl, sym, ◌∙◌, ap}
 use Rattle.cc_lists.proofs.Places.{place-among}
 use Rattle.cc_names.specs.declared.name.Name.{Name}
 use Rattle.cc_names.specs.declared.number.NKey.{NKey}
-use Rattle.cc_names.specs.declared.number.SKey.{SKey}
 use Rattle.cc_names.specs.Names.{is_native, native}
 use Rattle.cc_model.specs.declared.item.Reason.{Reason}
 use Rattle.cc_model.specs.Answers.{Step}
@@ -12,7 +11,7 @@ use Rattle.cc_counted.specs.declared.held.Held.{Held}
 use Rattle.cc_counted.specs.declared.held.Held.TheVariants as held
 use Rattle.cc_counted.specs.Counts.{held_of_native}
 use Rattle.cc_graph.specs.Shown.{Vertex}
-use Rattle.cc_script.specs.Objects.{Object, is_there, name_at, object_at}
+use Rattle.cc_script.specs.Objects.{Object, object_at}
 use Rattle.cc_heaps.specs.Keyed.{Keyed, number_at}
 use Rattle.cc_heaps.specs.Changes.{IsNativeThere, IsThere, held_name, native_name}
 use Rattle.cc_paths.specs.declared.found.Found.{Found}

@@ -1,8 +1,7 @@
 -- THE ENTRIES OF AN OBJECT by their places are those of which it is a member by name; a native is a member of none.
 use Rattle.std.specs.Prelude.{slice_get, IsTrue, IfSome}
-use Rattle.std.proofs.Common.{◌≡◌, ℕ, zero, suc, ◌+◌, ◌==◌, ◌<◌, ◌≤◌, Bool, true, false, not, ◌||◌, List, [], ◌∷◌, ◌++◌, map, length, take, drop, get_or, Option, Some, None, option_map, is_some, refl, sym, ◌∙◌, ap, subst, append_assoc, inl, inr, ⊎_elim, arith}
-use Rattle.std.specs.Option.{option_to_list, option_and_then}
-use Rattle.std.proofs.lemmas.Bool.{eqb-true, eq-eqb, false≢true, true≢false}
+use Rattle.std.proofs.Common.{◌≡◌, ℕ, zero, suc, ◌+◌, ◌==◌, ◌<◌, ◌≤◌, Bool, true, false, not, ◌||◌, List, [], ◌∷◌, ◌++◌, length, take, Option, Some, None, option_map, refl, sym, ◌∙◌, ap, subst, append_assoc, inl, inr, ⊎_elim, arith}
+use Rattle.std.proofs.lemmas.Bool.{eqb-true, eq-eqb, false≢true}
 use Rattle.std.proofs.lemmas.List.{append-nil, take_more, length-map}
 use Rattle.std.proofs.lemmas.Option.{get_or_from_slice_get, slice_get-map, slice_get_cases}
 use Rattle.cc_lists.specs.Members.{Among}
@@ -14,13 +13,12 @@ use Rattle.cc_names.specs.Names.{is_native, is_script, same_name}
 use Rattle.cc_names.proofs.NameTests.{same_name-true, same_name-exact}
 use Rattle.cc_model.specs.Entries.{Entry, joints_of, key_joint}
 use Rattle.cc_model.specs.Heap.{Heap, HeapScript}
-use Rattle.cc_model.specs.WellFormed.{IsWellFormed, script_names}
+use Rattle.cc_model.specs.WellFormed.{IsWellFormed}
 use Rattle.cc_model.specs.Derivations.{Walk, is_delegate, is_member, with_entries, with_joint, with_joints}
 use Rattle.cc_laws_heap.proofs.Face.{entry-named, script_names-named}
 use Rattle.cc_script.specs.Objects.{Object, is_there, name_at}
 use Rattle.cc_weakmaps.specs.Entries.{KeyedEntry}
 use Rattle.cc_weakmaps.specs.Index.{has_object, is_it, place_below, IsPlaceOf}
-use Rattle.cc_marking.specs.Marking.{AreEntriesThere, IsEntryThere}
 use Rattle.cc_heaps.specs.Keyed.{Keyed, IsInOrder, name_held, named_entries, named_entry, the_name_at}
 use Rattle.cc_heaps.proofs.Reaching.{HasOneName, key-named, name_at-found, the_name-is, the_name-there}
 use Rattle.cc_heaps.proofs.ScriptsChanged.{HasOneName-named}

@@ -1,11 +1,11 @@
 -- STEPS THAT ARE MARKED: one more of them is, and what is left to be done after each, from the last to the first.
 use Rattle.std.specs.Prelude.{slice_index_or, slice_get}
-use Rattle.std.proofs.Common.{◌≡◌, ℕ, zero, suc, ◌+◌, ◌==◌, ◌<◌, ◌≤◌, Bool, true, false, cond, ◌||◌, List, [], ◌∷◌, ◌++◌, map, length, take, Option, Some, None, is_some, option_map, refl, sym, ◌∙◌, ap, subst, inl, inr, ⊎_elim, arith, count_by, append_assoc}
+use Rattle.std.proofs.Common.{◌≡◌, ℕ, zero, suc, ◌+◌, ◌==◌, ◌<◌, ◌≤◌, Bool, true, false, cond, ◌||◌, List, [], ◌∷◌, ◌++◌, map, length, take, Option, Some, None, option_map, refl, sym, ◌∙◌, ap, subst, inl, inr, ⊎_elim, arith, count_by, append_assoc}
 use Rattle.std.specs.Option.{option_to_list}
 use Rattle.std.proofs.lemmas.List.{append-nil, map_push, take_more}
 use Rattle.std.proofs.lemmas.Option.{get_or_from_slice_get}
 use Rattle.std.proofs.lemmas.Bool.{true≢false, eqb-true, eq-eqb, or_cases, or_left, or_right}
-use Rattle.cc_lists.specs.Members.{Among, has, with_last}
+use Rattle.cc_lists.specs.Members.{Among, has}
 use Rattle.cc_lists.proofs.Members.{has-there, has-among, Among-append, Among-left, Among-right}
 use Rattle.cc_lists.proofs.Counting.{count_by-cons, count_by-some}
 use Rattle.cc_lists.proofs.CountsOf.{false-left}
@@ -18,7 +18,7 @@ use Rattle.cc_model.specs.declared.item.Reason.{Reason}
 use Rattle.cc_model.specs.declared.item.Reason.TheVariants.{Root}
 use Rattle.cc_model.specs.Answers.{Step}
 use Rattle.cc_model.specs.Derivations.{Needed, grounds, named, needed_for, with_needed}
-use Rattle.cc_graph.specs.Shown.{Vertex, is_black, number_from, number_of, with_black}
+use Rattle.cc_graph.specs.Shown.{Vertex, number_from, number_of, with_black}
 use Rattle.cc_model.specs.Answers.{item_of_step}
 use Rattle.cc_model.specs.Telling.{Telling, Tells}
 use Rattle.cc_model.proofs.Tellings.{Tells-nil, Tells-trans}

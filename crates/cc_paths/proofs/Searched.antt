@@ -1,5 +1,5 @@
 -- THE SEARCH: one object walked, what holds between two, and what a search that is over has found.
-use Rattle.std.proofs.Common.{◌≡◌, ℕ, suc, ◌+◌, ◌-◌, ◌<◌, ◌≤◌, Bool, true, false, List, [], ◌∷◌, ◌++◌, length, take, drop, get_or, Option, Some, None, option_and_then, refl, sym, ◌∙◌, ap, subst, ◌⊎◌, ⊎_elim, arith, count_by, drop-cons}
+use Rattle.std.proofs.Common.{◌≡◌, ℕ, suc, ◌+◌, ◌-◌, ◌<◌, ◌≤◌, Bool, true, false, List, [], ◌∷◌, ◌++◌, length, take, drop, get_or, Some, option_and_then, refl, sym, ◌∙◌, ap, subst, ◌⊎◌, ⊎_elim, arith, count_by, drop-cons}
 use Rattle.std.proofs.lemmas.Bool.{true≢false}
 use Rattle.std.proofs.lemmas.List.{length-append}
 use Rattle.cc_names.specs.declared.name.Name.{Name}
@@ -10,7 +10,7 @@ use Rattle.cc_model.specs.Slots.{contents}
 use Rattle.cc_model.specs.Checks.{slots_or_none}
 use Rattle.cc_model.specs.Places.{places_in}
 use Rattle.cc_model.specs.WellFormed.{names_there}
-use Rattle.cc_model.specs.Derivations.{Leads, Walk, is_found, is_led_to, leads_in, named, needed_for, rooted, steps_of, walked_first, with_bank, with_edges, with_entries, with_object}
+use Rattle.cc_model.specs.Derivations.{Leads, Walk, is_found, is_led_to, leads_in, named, needed_for, walked_first, with_bank, with_edges, with_entries, with_object}
 use Rattle.cc_model.proofs.Derivations.{IsOnTheWay, found-led, found-path, not_found-led, not_led-path, on_the_way-goes_on, on_the_way-starts, walked_first-walked}
 use Rattle.cc_model.proofs.Leading.{heap-within}
 use Rattle.cc_counted.specs.declared.held.Held.{Held}

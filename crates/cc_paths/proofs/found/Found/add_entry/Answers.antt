@@ -1,10 +1,9 @@
-use Rattle.std.proofs.Common.{◌≡◌, List, [], ◌∷◌, ◌++◌, Some, option_map, sym, ◌∙◌, ap, arith}
+use Rattle.std.proofs.Common.{◌≡◌, option_map, sym, ◌∙◌, ap}
 use Rattle.std.specs.Prelude.{slice_get}
 use Rattle.std.proofs.lemmas.Result.{on_ok_weaker}
 use Rattle.cc_lists.proofs.Places.{place-among}
 use Rattle.cc_names.specs.declared.number.SKey.{SKey}
 use Rattle.cc_model.specs.Derivations.{with_joint}
-use Rattle.cc_weakmaps.specs.Entries.{entry}
 use Rattle.cc_paths.specs.Found.{walk_of}
 use Rattle.cc_paths.specs.Search.{named_joint}
 use Rattle.cc_paths.proofs.EntryPlaces.{one-keyed, one-keyless}

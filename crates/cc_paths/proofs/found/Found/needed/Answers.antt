@@ -1,6 +1,5 @@
-use Rattle.std.proofs.Common.{◌≡◌, ℕ, ◌+◌, ◌-◌, ◌<◌, ◌≤◌, ◌++◌, ◌∷◌, [], List, length, refl, sym, ◌∙◌, ap, subst, arith, rules, cond, not}
+use Rattle.std.proofs.Common.{◌≡◌, ◌+◌, ◌-◌, ◌<◌, ◌++◌, ◌∷◌, [], List, length, sym, ◌∙◌, ap, subst, arith, cond, not}
 use Rattle.cc_graph.specs.Shown.{Vertex}
-use Rattle.cc_names.specs.declared.name.Name.{Name}
 use Rattle.std.specs.Prelude.{slice_index_or}
 use Rattle.cc_names.specs.declared.register.Reg.TheVariants.{N}
 use Rattle.cc_model.specs.declared.item.Reason.{Reason}
@@ -9,7 +8,7 @@ use Rattle.cc_paths.specs.Needed.{reason_at}
 use Rattle.cc_model.specs.Derivations.{grounds}
 use Rattle.cc_paths.specs.Found.{all_steps, steps_by}
 use Rattle.cc_paths.proofs.Steps.{steps-length}
-use Rattle.cc_paths.proofs.Marked.{AreBlack, IsNeeding, IsStepAt, black-none, distinct-same, needing-black, needing-starts, needing-white, step-at}
+use Rattle.cc_paths.proofs.Marked.{AreBlack, IsNeeding, black-none, distinct-same, needing-black, needing-starts, needing-white, step-at}
 use Rattle.cc_paths.proofs.found.Found.needed.Goals as goal
 
 pub steps-init : goal.steps-init

@@ -1,4 +1,4 @@
-use Rattle.std.proofs.Common.{◌≡◌, ◌<◌, true, length, sym, ◌∙◌, inl, inr, arith}
+use Rattle.std.proofs.Common.{◌<◌, length, sym, ◌∙◌, inl, inr, arith}
 use Rattle.cc_paths.specs.Found.{walk_of}
 use Rattle.cc_paths.proofs.Searched.{search-over, searching-smaller, searching-starts, searching-turn}
 use Rattle.cc_paths.proofs.found.Found.of.Goals.{then-search-test+else-not-has, else-search-test}

@@ -1,6 +1,5 @@
-use Rattle.std.proofs.Common.{◌≡◌, ◌+◌, List, ◌∷◌, Some, refl, sym, ◌∙◌, ap}
+use Rattle.std.proofs.Common.{◌≡◌, ◌+◌, Some, refl, sym, ◌∙◌, ap}
 use Rattle.std.proofs.lemmas.Result.{on_ok_weaker}
-use Rattle.cc_model.specs.Answers.{Step}
 use Rattle.cc_model.specs.Derivations.{with_entries}
 use Rattle.cc_heaps.specs.Changes.{held_name}
 use Rattle.cc_paths.specs.Found.{all_steps, walk_by, walk_of}
