@@ -12,3 +12,5 @@ mod part_6;
 mod part_7;
 mod part_8;
 mod part_9;
+mod part_10;
+mod part_11;

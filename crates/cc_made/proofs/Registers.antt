@@ -197,7 +197,7 @@ next-kept s (taken c) a low e = left-or-changed (HasEmptied 0 0) s.graph c a.rep
 -- a register that is let go is emptied: that wants no memory, and is not refused
 pub drop-done : (s : State) (r : Reg) (a : Answer) → AnswersTaken s (Drop r) a → graph_after s.graph (Drop r) a.reply ≡ set_register s.graph r None
 unfolding changed refusal_of reply_if_taken
-drop-done s r a answered = go a.reply answered.1
+drop-done s r a answered = go a.reply answered.2
   where
     go : (reply : Option Reply) → ReplyAnswers s (Drop r) a reply → graph_after s.graph (Drop r) reply ≡ set_register s.graph r None
     go None p = absurd p

@@ -1,10 +1,9 @@
 -- What registers and nodes have, by names.
 use Rattle.std.specs.Prelude.{slice_get, IsSome, IsTrue}
-use Rattle.std.proofs.Common.{◌≡◌, ℕ, zero, suc, true, List, [], ◌∷◌, drop, Option, Some, None, option_map, is_some, refl, sym, ◌∙◌, ap, subst}
+use Rattle.std.proofs.Common.{◌≡◌, ℕ, zero, suc, true, List, [], ◌∷◌, drop, Option, Some, None, option_map, is_some, refl, sym, ◌∙◌, ap}
 use Rattle.cc_lists.proofs.Places.{place-among}
 use Rattle.cc_names.specs.declared.name.Name.{Name}
 use Rattle.cc_names.specs.declared.number.NKey.{NKey}
-use Rattle.cc_names.specs.declared.number.SKey.{SKey}
 use Rattle.cc_names.specs.Names.{is_native, native}
 use Rattle.cc_model.specs.declared.item.Reason.{Reason}
 use Rattle.cc_model.specs.Answers.{Step}
@@ -12,12 +11,11 @@ use Rattle.cc_counted.specs.declared.held.Held.{Held}
 use Rattle.cc_counted.specs.declared.held.Held.TheVariants as held
 use Rattle.cc_counted.specs.Counts.{held_of_native}
 use Rattle.cc_graph.specs.Shown.{Vertex}
-use Rattle.cc_script.specs.Objects.{Object, is_there, name_at, object_at}
+use Rattle.cc_script.specs.Objects.{Object, object_at}
 use Rattle.cc_heaps.specs.Keyed.{Keyed, number_at}
 use Rattle.cc_heaps.specs.Changes.{IsNativeThere, IsThere, held_name, native_name}
 use Rattle.cc_paths.specs.declared.found.Found.{Found}
 use Rattle.cc_paths.specs.Found.{IsPaired, steps_by}
-use Rattle.cc_paths.proofs.Marked.{step-node}
 
 -- what a native register holds
 pub native-held : (v : Keyed) (o : Option NKey) → held_name v (held_of_native o) ≡ native_name v o
@@ -62,15 +60,10 @@ node-named v f i x object paired name_read held_read = go (slice_get f.nodes.nod
         ap (λ h. held_name v (Some h)) (sym key) ∙ (paired.held n (place-among n f.nodes.nodes i at) ∙ ap Some its)
 
 -- and as the step that waits
-first-at : (n : ℕ) (ss : List Step) (s : Step) (rest : List Step) → drop n ss ≡ s ∷ rest → slice_get ss n ≡ Some s
-first-at zero [] s rest e = absurd (cc)
-first-at zero (t ∷ ss) s rest e = cc
-first-at (suc n) [] s rest e = absurd (cc)
-first-at (suc n) (t ∷ ss) s rest e = first-at n ss s rest e
-
 pub node-waits : (vs : List Vertex) (rs : List Reason) (i : ℕ) (x : Name) (s : Step) (rest : List Step) → option_map (λ (n : Vertex). n.name) (slice_get vs i) ≡ Some x →
     drop i (steps_by vs rs) ≡ s ∷ rest → x ≡ s.0
-node-waits vs rs i x s rest read waits =
-    let n = step-node vs rs i s (first-at i (steps_by vs rs) s rest waits) in
-    let it : Some x ≡ Some s.0 = sym read ∙ (ap (option_map (λ (k : Vertex). k.name)) n.1 ∙ ap Some n.2) in
-    cc
+node-waits [] rs i x s rest read waits = absurd (cc)
+node-waits (v ∷ vs) [] zero x s rest read waits = absurd (cc)
+node-waits (v ∷ vs) [] (suc i) x s rest read waits = absurd (cc)
+node-waits (v ∷ vs) (r ∷ rs) zero x s rest read waits = cc
+node-waits (v ∷ vs) (r ∷ rs) (suc i) x s rest read waits = node-waits vs rs i x s rest read waits

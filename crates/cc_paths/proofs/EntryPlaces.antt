@@ -1,8 +1,7 @@
 -- THE ENTRIES OF AN OBJECT by their places are those of which it is a member by name; a native is a member of none.
 use Rattle.std.specs.Prelude.{slice_get, IsTrue, IfSome}
-use Rattle.std.proofs.Common.{◌≡◌, ℕ, zero, suc, ◌+◌, ◌==◌, ◌<◌, ◌≤◌, Bool, true, false, not, ◌||◌, List, [], ◌∷◌, ◌++◌, map, length, take, drop, get_or, Option, Some, None, option_map, is_some, refl, sym, ◌∙◌, ap, subst, append_assoc, inl, inr, ⊎_elim, arith}
-use Rattle.std.specs.Option.{option_to_list, option_and_then}
-use Rattle.std.proofs.lemmas.Bool.{eqb-true, eq-eqb, false≢true, true≢false}
+use Rattle.std.proofs.Common.{◌≡◌, ℕ, zero, suc, ◌+◌, ◌==◌, ◌<◌, ◌≤◌, Bool, true, false, not, ◌||◌, List, [], ◌∷◌, ◌++◌, length, take, Option, Some, None, option_map, refl, sym, ◌∙◌, ap, subst, append_assoc, inl, inr, ⊎_elim, arith}
+use Rattle.std.proofs.lemmas.Bool.{eqb-true, eq-eqb, false≢true}
 use Rattle.std.proofs.lemmas.List.{append-nil, take_more, length-map}
 use Rattle.std.proofs.lemmas.Option.{get_or_from_slice_get, slice_get-map, slice_get_cases}
 use Rattle.cc_lists.specs.Members.{Among}
@@ -12,19 +11,18 @@ use Rattle.cc_lists.proofs.Places.{place-among}
 use Rattle.cc_names.specs.declared.name.Name.{Name}
 use Rattle.cc_names.specs.Names.{is_native, is_script, same_name}
 use Rattle.cc_names.proofs.NameTests.{same_name-true, same_name-exact}
-use Rattle.cc_model.specs.Entries.{Entry, joints_of}
+use Rattle.cc_model.specs.Entries.{Entry, joints_of, key_joint}
 use Rattle.cc_model.specs.Heap.{Heap, HeapScript}
-use Rattle.cc_model.specs.WellFormed.{IsWellFormed, script_names}
-use Rattle.cc_model.specs.Derivations.{Walk, is_delegate, is_member, with_entries, with_joints}
+use Rattle.cc_model.specs.WellFormed.{IsWellFormed}
+use Rattle.cc_model.specs.Derivations.{Walk, is_delegate, is_member, with_entries, with_joint, with_joints}
 use Rattle.cc_laws_heap.proofs.Face.{entry-named, script_names-named}
 use Rattle.cc_script.specs.Objects.{Object, is_there, name_at}
 use Rattle.cc_weakmaps.specs.Entries.{KeyedEntry}
 use Rattle.cc_weakmaps.specs.Index.{has_object, is_it, place_below, IsPlaceOf}
-use Rattle.cc_marking.specs.Marking.{AreEntriesThere, IsEntryThere}
 use Rattle.cc_heaps.specs.Keyed.{Keyed, IsInOrder, name_held, named_entries, named_entry, the_name_at}
 use Rattle.cc_heaps.proofs.Reaching.{HasOneName, key-named, name_at-found, the_name-is, the_name-there}
 use Rattle.cc_heaps.proofs.ScriptsChanged.{HasOneName-named}
-use Rattle.cc_paths.specs.Search.{falling, falling_from, with_entry_at, with_places}
+use Rattle.cc_paths.specs.Search.{falling, falling_from, named_joint, with_entry_at, with_places}
 use Rattle.cc_paths.proofs.Marked.{same-tests}
 use Rattle.cc_paths.proofs.Turns.{take-all}
 
@@ -144,6 +142,30 @@ places-entries v x key members (suc n) w l = ⊎_elim
         ∙ (sym (entries-last x (take n (named_entries v.scripts v.entries)) (named_entry v.scripts e) w)
         ∙ ap (λ es. with_entries x es w) (sym (taken e at)))))
 
+-- What one entry gives: its value, and before it its key, where it has a delegate
+
+keyless : (objects : List Object) (e : KeyedEntry) (w : Walk) → e.delegate ≡ None → with_joints (joints_of (named_entry objects e)) w ≡ with_joint w (named_joint objects e.the_map e.key e.value)
+keyless objects e w none =
+    ap (λ o. with_joints (key_joint (the_name_at objects e.the_map) (name_held objects o) (the_name_at objects e.key) ++ named_joint objects e.the_map e.key e.value ∷ []) w) none
+
+keyed : (objects : List Object) (e : KeyedEntry) (w : Walk) (d : ℕ) → e.delegate ≡ Some d → IsTrue (is_there objects d) →
+    with_joints (joints_of (named_entry objects e)) w ≡ with_joint (with_joint w (named_joint objects e.the_map d e.key)) (named_joint objects e.the_map e.key e.value)
+keyed objects e w d is there =
+    ap (λ o. with_joints (key_joint (the_name_at objects e.the_map) o (the_name_at objects e.key) ++ named_joint objects e.the_map e.key e.value ∷ []) w)
+    (ap (name_held objects) is ∙ the_name-there objects d there)
+
+pub one-keyless : (v : Keyed) (i : ℕ) (e : KeyedEntry) (w now : Walk) → slice_get v.entries i ≡ Some e → e.delegate ≡ None →
+    now ≡ with_joint w (named_joint v.scripts e.the_map e.key e.value) → now ≡ with_entry_at v i w
+one-keyless v i e w now at none given =
+    given ∙ (sym (keyless v.scripts e w none) ∙ ap (λ o. elim o [ None ↦ w | Some d ↦ with_joints (joints_of (named_entry v.scripts d)) w ]) (sym at))
+
+pub one-keyed : (v : Keyed) (i : ℕ) (e : KeyedEntry) (w middle now : Walk) (d : ℕ) → slice_get v.entries i ≡ Some e → e.delegate ≡ Some d → IsTrue (is_there v.scripts d) →
+    middle ≡ with_joint w (named_joint v.scripts e.the_map d e.key) → now ≡ with_joint middle (named_joint v.scripts e.the_map e.key e.value) → now ≡ with_entry_at v i w
+one-keyed v i e w middle now d at is there first second =
+    second
+    ∙ (ap (λ u. with_joint u (named_joint v.scripts e.the_map e.key e.value)) first
+    ∙ (sym (keyed v.scripts e w d is there) ∙ ap (λ o. elim o [ None ↦ w | Some f ↦ with_joints (joints_of (named_entry v.scripts f)) w ]) (sym at)))
+
 -- ALL ENTRIES OF AN OBJECT
 pub entries-given : (v : Keyed) (owned : List ℕ) → IsInOrder owned v → (key : ℕ) (x : Name) → name_at v.scripts key ≡ Some x → (w : Walk) →
     with_places v (falling v.entries key (length v.entries)) w ≡ with_entries x v.heap.entries w
@@ -181,8 +203,12 @@ pub record IsCollecting (es : List KeyedEntry) (key : ℕ) (places : List ℕ) (
   pub whole : places ++ falling_from es key next ≡ falling es key (length es)
   pub there : IfSome next (IsPlaceOf es key)
 
-pub collecting-starts : (es : List KeyedEntry) (key : ℕ) (next : Option ℕ) → next ≡ place_below es key (length es) → IfSome next (IsPlaceOf es key) → IsCollecting es key [] next
-collecting-starts es key next e there = record { whole = ap (falling_from es key) e ∙ sym (falling-from es key (length es)); there = there }
+pub collecting-starts : (es : List KeyedEntry) (key : ℕ) (places : List ℕ) (next : Option ℕ) → places ≡ [] → next ≡ place_below es key (length es) → IfSome next (IsPlaceOf es key) →
+    IsCollecting es key places next
+collecting-starts es key places next none e there = record {
+  whole = (λ i. none i ++ (ap (falling_from es key) e ∙ sym (falling-from es key (length es))) i);
+  there = there;
+}
 
 pub collecting-turn : (es : List KeyedEntry) (key : ℕ) (places more : List ℕ) (before next : Option ℕ) (i : ℕ) → before ≡ Some i → more ≡ places ++ i ∷ [] → next ≡ place_below es key i →
     IfSome next (IsPlaceOf es key) → IsCollecting es key places before → IsCollecting es key more next

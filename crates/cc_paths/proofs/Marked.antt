@@ -1,11 +1,11 @@
 -- STEPS THAT ARE MARKED: one more of them is, and what is left to be done after each, from the last to the first.
 use Rattle.std.specs.Prelude.{slice_index_or, slice_get}
-use Rattle.std.proofs.Common.{◌≡◌, ℕ, zero, suc, ◌+◌, ◌==◌, ◌<◌, ◌≤◌, Bool, true, false, cond, ◌||◌, List, [], ◌∷◌, ◌++◌, map, length, take, Option, Some, None, is_some, refl, sym, ◌∙◌, ap, subst, inl, inr, ⊎_elim, arith, count_by, append_assoc}
+use Rattle.std.proofs.Common.{◌≡◌, ℕ, zero, suc, ◌+◌, ◌==◌, ◌<◌, ◌≤◌, Bool, true, false, cond, ◌||◌, List, [], ◌∷◌, ◌++◌, map, length, take, Option, Some, None, option_map, refl, sym, ◌∙◌, ap, subst, inl, inr, ⊎_elim, arith, count_by, append_assoc}
 use Rattle.std.specs.Option.{option_to_list}
 use Rattle.std.proofs.lemmas.List.{append-nil, map_push, take_more}
 use Rattle.std.proofs.lemmas.Option.{get_or_from_slice_get}
 use Rattle.std.proofs.lemmas.Bool.{true≢false, eqb-true, eq-eqb, or_cases, or_left, or_right}
-use Rattle.cc_lists.specs.Members.{Among, has, with_last}
+use Rattle.cc_lists.specs.Members.{Among, has}
 use Rattle.cc_lists.proofs.Members.{has-there, has-among, Among-append, Among-left, Among-right}
 use Rattle.cc_lists.proofs.Counting.{count_by-cons, count_by-some}
 use Rattle.cc_lists.proofs.CountsOf.{false-left}
@@ -18,12 +18,13 @@ use Rattle.cc_model.specs.declared.item.Reason.{Reason}
 use Rattle.cc_model.specs.declared.item.Reason.TheVariants.{Root}
 use Rattle.cc_model.specs.Answers.{Step}
 use Rattle.cc_model.specs.Derivations.{Needed, grounds, named, needed_for, with_needed}
-use Rattle.cc_graph.specs.Shown.{Vertex, is_black, number_from, number_of, with_black}
+use Rattle.cc_graph.specs.Shown.{Vertex, number_from, number_of, with_black}
 use Rattle.cc_model.specs.Answers.{item_of_step}
 use Rattle.cc_model.specs.Telling.{Telling, Tells}
-use Rattle.cc_model.proofs.Tellings.{Tells-trans}
-use Rattle.cc_paths.specs.Found.{steps_by}
-use Rattle.cc_paths.specs.Needed.{told_of}
+use Rattle.cc_model.proofs.Tellings.{Tells-nil, Tells-trans}
+use Rattle.cc_paths.specs.declared.found.Found.{Found}
+use Rattle.cc_paths.specs.Found.{all_steps, steps_by}
+use Rattle.cc_paths.specs.Needed.{HaveDistinctNames, told_of}
 use Rattle.cc_paths.proofs.Steps.{named-by}
 use Rattle.cc_paths.proofs.Turns.{needed_onto, onto-last, onto-none, take-all, told-last}
 
@@ -47,6 +48,14 @@ step-at (v ∷ vs) (r ∷ rs) zero e l = record { step = (v.name, r); at = refl;
 step-at (v ∷ vs) (r ∷ rs) (suc i) e l =
     let k = step-at vs rs i (omega (arith, e)) (omega (arith, l)) in
     record { step = k.step; at = k.at; node = k.node; node_at = k.node_at; name = k.name; reason = k.reason }
+
+-- a step as its object and its reason are read
+pub step-read : (vs : List Vertex) (rs : List Reason) (i : ℕ) (x : Name) (r : Reason) → length rs ≡ length vs → i < length vs →
+    option_map (λ (v : Vertex). v.name) (slice_get vs i) ≡ Some x → r ≡ slice_index_or rs i (Root (N 0)) → slice_get (steps_by vs rs) i ≡ Some (x, r)
+step-read [] rs i x r e l name read = absurd (omega (arith, l))
+step-read (v ∷ vs) [] i x r e l name read = absurd (omega (arith, e))
+step-read (v ∷ vs) (q ∷ rs) zero x r e l name read = let same : v.name ≡ x = cc in λ j. Some (same j, sym read j)
+step-read (v ∷ vs) (q ∷ rs) (suc i) x r e l name read = step-read vs rs i x r (omega (arith, e)) (omega (arith, l)) name read
 
 -- a step has a node
 step-node : (vs : List Vertex) (rs : List Reason) (i : ℕ) (s : Step) → slice_get (steps_by vs rs) i ≡ Some s → (v : Vertex) × (slice_get vs i ≡ Some v) × (v.name ≡ s.0)
@@ -127,12 +136,12 @@ black-more blacks k i = go (has ◌==◌ blacks k) refl
         (λ t. ⊎_elim (λ q. subst (λ j. has ◌==◌ blacks j ≡ true) (eqb-true k i q) e) (λ q. q) (or_cases (k == i) (has ◌==◌ blacks i) t))
     go false e = same-tests (has ◌==◌ (blacks ++ k ∷ []) i) ((k == i) || has ◌==◌ blacks i)
         (λ t. ⊎_elim (λ m. or_right (k == i) (has ◌==◌ blacks i) (has-there ◌==◌ number-exact blacks i m))
-          (λ m. ⊎_elim (λ is. or_left (k == i) (has ◌==◌ blacks i) (eq-eqb k i is)) (λ never. absurd never) m)
-          (Among-append i blacks (k ∷ []) (has-among ◌==◌ number-exact (blacks ++ k ∷ []) i t)))
+        (λ m. ⊎_elim (λ is. or_left (k == i) (has ◌==◌ blacks i) (eq-eqb k i is)) (λ never. absurd never) m)
+        (Among-append i blacks (k ∷ []) (has-among ◌==◌ number-exact (blacks ++ k ∷ []) i t)))
         (λ t. has-there ◌==◌ number-exact (blacks ++ k ∷ []) i (⊎_elim
-          (λ q. Among-right i blacks (k ∷ []) (inl (eqb-true k i q)))
-          (λ q. Among-left i blacks (k ∷ []) (has-among ◌==◌ number-exact blacks i q))
-          (or_cases (k == i) (has ◌==◌ blacks i) t)))
+        (λ q. Among-right i blacks (k ∷ []) (inl (eqb-true k i q)))
+        (λ q. Among-left i blacks (k ∷ []) (has-among ◌==◌ number-exact blacks i q))
+        (or_cases (k == i) (has ◌==◌ blacks i) t)))
 
 -- EXACTLY THE STEPS OF SOME NAMES ARE BLACK
 abbrev pub AreBlack : List Vertex → List Reason → List ℕ → List Name → Type 0
@@ -188,7 +197,7 @@ pub needing-white : (ss : List Step) (vs : List Vertex) (rs : List Reason) (blac
 needing-white ss vs rs blacks x path i s at l white h = record {
   state = h.state;
   left = ap (needed_onto (take i ss)) (sym (ap (λ b. elim b [ true ↦ record { steps = s ∷ h.state.steps; wanted = grounds s.1 ++ h.state.wanted } | false ↦ h.state ])
-    (sym (h.black i s (ap (λ ts. slice_get ts i) h.same ∙ at)) ∙ white))) ∙ (sym (one-left ss i s h.state at l) ∙ h.left);
+      (sym (h.black i s (ap (λ ts. slice_get ts i) h.same ∙ at)) ∙ white))) ∙ (sym (one-left ss i s h.state at l) ∙ h.left);
   told = h.told;
   black = h.black;
   same = h.same;
@@ -202,7 +211,7 @@ pub needing-black : (ss : List Step) (vs : List Vertex) (rs : List Reason) (blac
 needing-black ss vs rs blacks x path i s ws qs more at l black kept marked h = record {
   state = record { steps = s ∷ h.state.steps; wanted = grounds s.1 ++ h.state.wanted };
   left = ap (needed_onto (take i ss)) (sym (ap (λ b. elim b [ true ↦ record { steps = s ∷ h.state.steps; wanted = grounds s.1 ++ h.state.wanted } | false ↦ h.state ])
-    (sym (h.black i s (ap (λ ts. slice_get ts i) h.same ∙ at)) ∙ black))) ∙ (sym (one-left ss i s h.state at l) ∙ h.left);
+      (sym (h.black i s (ap (λ ts. slice_get ts i) h.same ∙ at)) ∙ black))) ∙ (sym (one-left ss i s h.state at l) ∙ h.left);
   told = ap (λ ts. s ∷ ts) h.told ∙ (ap (λ o. option_to_list o ++ told_of ss path) (sym at) ∙ sym (told-last ss path i));
   black = marked h.state.wanted h.black;
   same = kept ∙ h.same;
@@ -220,6 +229,13 @@ pub record IsTelling (ss : List Step) (path left : List ℕ) (old new : Telling)
   pub whole : done ++ told_of ss left ≡ told_of ss path
   pub within : (j : ℕ) → Among j left → j < length ss
 
+pub telling-starts : (ss : List Step) (path : List ℕ) (now : Telling) → ((j : ℕ) → Among j path → j < length ss) → IsTelling ss path path now now
+telling-starts ss path now within = record { done = []; tells = Tells-nil now; whole = refl; within = within }
+
+-- the number that is taken
+pub telling-within : (ss : List Step) (path before left : List ℕ) (old new : Telling) (i : ℕ) → before ≡ left ++ i ∷ [] → IsTelling ss path before old new → i < length ss
+telling-within ss path before left old new i popped h = h.within i (subst (Among i) (sym popped) (Among-right i left (i ∷ []) (inl refl)))
+
 pub telling-turn : (ss : List Step) (path before left : List ℕ) (old mid new : Telling) (i : ℕ) (s : Step) → before ≡ left ++ i ∷ [] → slice_get ss i ≡ Some s →
     Tells mid new (item_of_step s ∷ []) → IsTelling ss path before old mid → IsTelling ss path left old new
 telling-turn ss path before left old mid new i s popped at told h = record {
@@ -234,3 +250,9 @@ telling-turn ss path before left old mid new i s popped at told h = record {
 pub telling-done : (ss : List Step) (path left : List ℕ) (old new : Telling) → left ≡ [] → IsTelling ss path left old new → Tells old new (map item_of_step (told_of ss path))
 telling-done ss path left old new none h =
     subst (λ ts. Tells old new (map item_of_step ts)) (sym (append-nil h.done) ∙ (ap (λ is. h.done ++ told_of ss is) (sym none) ∙ h.whole)) h.tells
+
+-- the same steps have the same objects
+pub distinct-same : (f g : Found) → g.nodes.nodes ≡ f.nodes.nodes → g.reasons.items ≡ f.reasons.items → HaveDistinctNames f → HaveDistinctNames g
+distinct-same f g nodes reasons few x =
+    let same : all_steps f ≡ all_steps g = λ j. steps_by (sym nodes j) (sym reasons j) in
+    subst (λ (ss : List Step). count_by (same_name x) (named ss) ≤ 1) same (few x)

@@ -1,16 +1,16 @@
 -- Each object has a reason and stands at its key, also after one more is found.
-use Rattle.std.proofs.Common.{◌≡◌, ℕ, ◌+◌, ◌≤◌, true, false, List, [], ◌∷◌, ◌++◌, length, Option, Some, None, is_some, refl, sym, ◌∙◌, ap, subst, inl, inr, ⊎_elim, arith, length-append}
+use Rattle.std.proofs.Common.{◌≡◌, ℕ, ◌+◌, true, false, List, [], ◌∷◌, ◌++◌, length, Option, Some, None, is_some, refl, sym, ◌∙◌, ap, subst, ⊎_elim, arith, length-append}
 use Rattle.cc_lists.specs.Members.{Among}
 use Rattle.cc_lists.proofs.Members.{Among-append}
 use Rattle.cc_names.specs.declared.name.Name.{Name}
 use Rattle.cc_model.specs.declared.item.Reason.{Reason}
-use Rattle.cc_model.specs.Derivations.{Walk, is_found, with_step}
+use Rattle.cc_model.specs.Derivations.{is_found}
 use Rattle.cc_counted.specs.declared.held.Held.{Held}
 use Rattle.cc_graph.specs.Shown.{Vertex, number_of, vertex, with_vertex}
 use Rattle.cc_heaps.specs.Keyed.{Keyed}
 use Rattle.cc_heaps.specs.Changes.{held_name}
 use Rattle.cc_paths.specs.declared.found.Found.{Found}
-use Rattle.cc_paths.specs.Found.{IsPaired, all_steps, steps_by, walk_by, walk_of, with_content}
+use Rattle.cc_paths.specs.Found.{IsPaired, steps_by, walk_by, walk_of, with_content}
 use Rattle.cc_paths.proofs.Steps.{number-found, step-found, walk-pushed}
 
 -- one more goes last
@@ -47,7 +47,7 @@ added-paired v f g x held r paired new named added =
       walked = omega (arith, paired.walked, added.walked);
       no_blacks = added.blacks ∙ paired.no_blacks;
       held = λ n m. ⊎_elim (λ a. paired.held n a) (λ b. ⊎_elim (λ is. subst (λ (k : Vertex). held_name v (Some k.held) ≡ Some k.name) is named) (λ never. absurd never) b)
-        (Among-append n f.nodes.nodes (vertex x held ∷ []) (subst (Among n) last m));
+          (Among-append n f.nodes.nodes (vertex x held ∷ []) (subst (Among n) last m));
     }
 
 -- what is found already

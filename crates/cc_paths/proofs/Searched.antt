@@ -1,5 +1,5 @@
 -- THE SEARCH: one object walked, what holds between two, and what a search that is over has found.
-use Rattle.std.proofs.Common.{◌≡◌, ℕ, ◌+◌, ◌-◌, ◌<◌, ◌≤◌, Bool, true, false, List, [], ◌∷◌, ◌++◌, length, take, drop, get_or, Option, Some, None, option_and_then, refl, sym, ◌∙◌, ap, subst, ◌⊎◌, ⊎_elim, arith, count_by, drop-cons}
+use Rattle.std.proofs.Common.{◌≡◌, ℕ, suc, ◌+◌, ◌-◌, ◌<◌, ◌≤◌, Bool, true, false, List, [], ◌∷◌, ◌++◌, length, take, drop, get_or, Some, option_and_then, refl, sym, ◌∙◌, ap, subst, ◌⊎◌, ⊎_elim, arith, count_by, drop-cons}
 use Rattle.std.proofs.lemmas.Bool.{true≢false}
 use Rattle.std.proofs.lemmas.List.{length-append}
 use Rattle.cc_names.specs.declared.name.Name.{Name}
@@ -10,7 +10,7 @@ use Rattle.cc_model.specs.Slots.{contents}
 use Rattle.cc_model.specs.Checks.{slots_or_none}
 use Rattle.cc_model.specs.Places.{places_in}
 use Rattle.cc_model.specs.WellFormed.{names_there}
-use Rattle.cc_model.specs.Derivations.{Leads, Walk, is_found, is_led_to, leads_in, named, needed_for, rooted, steps_of, walked_first, with_bank, with_edges, with_entries, with_object}
+use Rattle.cc_model.specs.Derivations.{Leads, Walk, is_found, is_led_to, leads_in, named, needed_for, walked_first, with_bank, with_edges, with_entries, with_object}
 use Rattle.cc_model.proofs.Derivations.{IsOnTheWay, found-led, found-path, not_found-led, not_led-path, on_the_way-goes_on, on_the_way-starts, walked_first-walked}
 use Rattle.cc_model.proofs.Leading.{heap-within}
 use Rattle.cc_counted.specs.declared.held.Held.{Held}
@@ -55,7 +55,7 @@ waiting-some : (v : Keyed) (f : Found) → IsPaired v f → f.walked < length f.
 waiting-some v f paired l =
     let k = step-at f.nodes.nodes f.reasons.items f.walked paired.reasons l in
     let long : length (all_steps f) ≡ length f.nodes.nodes = steps-length f.nodes.nodes f.reasons.items paired.reasons in
-    let next : 1 + f.walked ≡ f.walked + 1 = omega arith in
+    let next : suc f.walked ≡ f.walked + 1 = omega arith in
     let s : Step = get_or (all_steps f) f.walked k.step in
     (s, drop-cons (all_steps f) f.walked k.step (omega (arith, l, long)) ∙ ap (λ n. s ∷ drop n (all_steps f)) next)
 
@@ -88,13 +88,13 @@ searching-smaller v owned f g order l paired walks h =
 -- A SEARCH THAT IS OVER: no object waits, or that which is asked for is found
 pub search-over : (v : Keyed) (f : Found) (x : Name) → IsSearching v f → (length f.nodes.nodes ≤ f.walked) ⊎ (is_found (walk_of f) x ≡ true) → HasSearched v.heap x f
 search-over v f x h over = record {
-    paired = h.paired.reasons;
-    distinct = subst (λ ss. (y : Name) → count_by (same_name y) (named ss) ≤ 1) (walk_by-steps f.walked (all_steps f)) h.way.some.distinct;
-    no_blacks = h.paired.no_blacks;
-    led = led (is_found (walk_of f) x) refl;
-    path = λ t. found-path l names (walk_of f) x h.way t ∙ ap (λ ss. (needed_for ss (x ∷ [])).steps) (walk_by-steps f.walked (all_steps f));
-    no_path = λ t. not_led-path l x (not_found-led l names (walk_of f) x h.way (rests t) t);
-  }
+  paired = h.paired.reasons;
+  distinct = subst (λ ss. (y : Name) → count_by (same_name y) (named ss) ≤ 1) (walk_by-steps f.walked (all_steps f)) h.way.some.distinct;
+  no_blacks = h.paired.no_blacks;
+  led = led (is_found (walk_of f) x) refl;
+  path = λ t. found-path l names (walk_of f) x h.way t ∙ ap (λ ss. (needed_for ss (x ∷ [])).steps) (walk_by-steps f.walked (all_steps f));
+  no_path = λ t. not_led-path l x (not_found-led l names (walk_of f) x h.way (rests t) t);
+}
   where
     l : Leads
     l = leads_in v.heap

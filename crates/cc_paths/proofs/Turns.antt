@@ -1,18 +1,15 @@
 -- TURNS OF THE LOOPS over registers, over places, and over the steps from the last to the first: what is left to be done after
 -- each.
 use Rattle.std.specs.Prelude.{slice_index_or, slice_get}
-use Rattle.std.proofs.Common.{◌≡◌, ℕ, zero, suc, ◌+◌, ◌<◌, ◌≤◌, Bool, true, false, List, [], ◌∷◌, ◌++◌, length, take, drop, Option, Some, None, refl, sym, ◌∙◌, ap, subst, arith, drop-cons, append_assoc}
+use Rattle.std.proofs.Common.{◌≡◌, ℕ, zero, suc, ◌+◌, ◌<◌, ◌≤◌, List, [], ◌∷◌, ◌++◌, length, take, drop, Option, Some, None, refl, sym, ◌∙◌, ap, arith, drop-cons, append_assoc}
 use Rattle.std.specs.Option.{option_to_list}
-use Rattle.std.proofs.lemmas.List.{append-nil, take_more, length-append}
-use Rattle.std.proofs.lemmas.Option.{get_or_from_slice_get}
-use Rattle.cc_lists.specs.Members.{has}
+use Rattle.std.proofs.lemmas.List.{append-nil}
 use Rattle.cc_names.specs.declared.name.Name.{Name}
 use Rattle.cc_names.specs.declared.register.Reg.{Reg}
-use Rattle.cc_names.specs.Names.{same_name}
 use Rattle.cc_model.specs.declared.item.Reason.TheVariants.{Root, Edge}
 use Rattle.cc_model.specs.Answers.{Step}
 use Rattle.cc_model.specs.Slots.{Slots, contents}
-use Rattle.cc_model.specs.Derivations.{Walk, Needed, grounds, needed_for, with_bank, with_edges, with_needed}
+use Rattle.cc_model.specs.Derivations.{Walk, Needed, needed_for, with_bank, with_edges, with_needed}
 use Rattle.cc_paths.specs.Found.{walk_by, with_content}
 use Rattle.cc_paths.specs.Needed.{told_of}
 

@@ -1,7 +1,7 @@
 -- THE SEARCH: which entries an object is a member of, and what a search has come to.
 use Rattle.std.specs.Prelude.{◌≡◌, ℕ, zero, suc, true, false, List, [], ◌∷◌, length, Option, Some, None, option_map, slice_get}
 use Rattle.cc_names.specs.declared.name.Name.{Name}
-use Rattle.cc_model.specs.Entries.{Entry, Joint, joint, joints_of}
+use Rattle.cc_model.specs.Entries.{Joint, joint, joints_of}
 use Rattle.cc_model.specs.Heap.{Heap}
 use Rattle.cc_model.specs.Derivations.{Walk, is_found, is_led_to, leads_in, path_to, needed_for, with_joints}
 use Rattle.cc_script.specs.Objects.{Object}

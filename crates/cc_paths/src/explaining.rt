@@ -1,5 +1,5 @@
 //! What is asked: how an object is reached.
-ghost use Rattle.std.specs.Prelude.{◌≡◌, ℕ, List, map, IfOk, OnErr, OnOk};
+ghost use Rattle.std.specs.Prelude.{◌≡◌, ℕ, List, false, map, IfOk, OnErr, OnOk};
 ghost use Rattle.cc_model.specs.Answers.{item_of_step};
 ghost use Rattle.cc_model.specs.Derivations.{is_led_to, leads_in, path_to};
 ghost use Rattle.cc_model.specs.Telling.{Tells};
@@ -29,6 +29,7 @@ pub fn why<N: Notices>(
     requires order { (owned : List ℕ) × IsInOrder owned heaps.now }
     ensures found { IfOk result (λ b. b ≡ is_led_to (leads_in heaps.now.heap) name.now) }
     ensures told { OnOk result (Tells (N.telling out.old) (N.telling out.new) (map item_of_step (path_to (leads_in heaps.now.heap) name.now))) }
+    ensures nothing { IfOk result (λ b. b ≡ false → N.telling out.new ≡ N.telling out.old) }
     ensures err { OnErr result (N.telling out.new ≡ N.telling out.old) }
 {
     let mut found = Found::of(alloc, heaps, name)?;

@@ -1,7 +1,7 @@
 //! The steps that were found so far.
-ghost use Rattle.std.specs.Prelude.{◌≡◌, ◌<◌, [], length, slice_get, Some, IfOk, OnOk};
+ghost use Rattle.std.specs.Prelude.{◌≡◌, [], length, Some, OnOk};
 ghost use Rattle.cc_heaps.specs.Changes.{IsThere, held_name};
-ghost use Rattle.cc_model.specs.Derivations.{is_found, with_step};
+ghost use Rattle.cc_model.specs.Derivations.{is_found};
 ghost use Rattle.cc_paths.specs.Found.{IsPaired, nothing_kept, with_content, walk_of};
 
 use cc_counted::Held;

@@ -1,16 +1,14 @@
 //! The search: from the registers on, from one object after another.
-ghost use Rattle.std.specs.Prelude.{◌≡◌, ◌<◌, ℕ, List, [], ◌∷◌, length, Some, None, IfOk, OnOk, IsTrue};
-ghost use Rattle.cc_lists.specs.Members.{Among};
+ghost use Rattle.std.specs.Prelude.{◌≡◌, ◌<◌, ℕ, List, ◌∷◌, length, Some, None, IfOk, OnOk, IsTrue};
 ghost use Rattle.cc_names.specs.declared.register.Reg.TheVariants as reg;
 ghost use Rattle.cc_model.specs.Answers.{Step};
 ghost use Rattle.cc_model.specs.Slots.{contents};
-ghost use Rattle.cc_model.specs.Derivations.{leads_in, rooted, walked_first, with_bank, with_edges, with_entries, with_joint};
-ghost use Rattle.cc_counted.specs.declared.held.Held.TheVariants as held;
+ghost use Rattle.cc_model.specs.Derivations.{leads_in, walked_first, with_bank, with_edges, with_entries, with_joint};
 ghost use Rattle.cc_script.specs.Objects.{is_there, name_at};
 ghost use Rattle.cc_heaps.specs.Keyed.{IsInOrder};
 ghost use Rattle.cc_heaps.specs.Changes.{IsScriptThere, IsThere, held_name, script_name};
 ghost use Rattle.cc_heaps.specs.Places.{places_at};
-ghost use Rattle.cc_paths.specs.Found.{IsPaired, all_steps, walk_of};
+ghost use Rattle.cc_paths.specs.Found.{IsPaired, walk_of};
 ghost use Rattle.cc_paths.specs.Search.{HasSearched, falling, named_joint, with_entry_at};
 
 use crate::found::Found;
@@ -157,6 +155,8 @@ impl Found {
         ensures walk { OnOk result ((s : Step) (ss : List Step) → (walk_of self.old).waiting ≡ s ∷ ss → walk_of self.new ≡ walked_first (leads_in heaps.now.heap) s ss (walk_of self.old)) }
         ensures paired { OnOk result (IsPaired heaps.now self.new) }
     {
+        // nodes have numbers, so there are no more than numbers
+        prove!(self.walked < self.nodes.len());
         let (name, object) = self.nodes.node(self.walked);
         self.walked += 1;
         self.add_places(name, object, heaps)?;

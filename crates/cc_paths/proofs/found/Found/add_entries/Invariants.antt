@@ -6,7 +6,7 @@ use Rattle.cc_paths.proofs.found.Found.add_entries.Given as goal
 
 abbrev pub invariant-entries : goal.invariant-entries
 invariant-entries l = record {
-  giving : IsGiving l.heaps l.places.items (walk_of l.self) (with_entries l.name l.heaps.heap.entries (walk_of l.fn.self));
+  giving : IsGiving l.heaps l.places.items (walk_of l.self) (with_entries l.fn.name l.heaps.heap.entries (walk_of l.fn.self));
   paired : IsPaired l.heaps l.self;
 }
 

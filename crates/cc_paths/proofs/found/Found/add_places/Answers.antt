@@ -1,5 +1,4 @@
-use Rattle.std.proofs.Common.{◌≡◌, ◌<◌, ◌≤◌, None, length, sym, ◌∙◌, ap, subst, arith}
-use Rattle.std.specs.Prelude.{slice_index_or}
+use Rattle.std.proofs.Common.{◌<◌, ◌≤◌, length, sym, ◌∙◌, arith}
 use Rattle.cc_heaps.specs.Changes.{held_name}
 use Rattle.cc_heaps.specs.Places.{places_at}
 use Rattle.cc_paths.specs.Found.{walk_of}

@@ -1,7 +1,7 @@
-use Rattle.std.proofs.Common.{◌≡◌, ◌<◌, ◌≤◌, None, length, refl, sym, ◌∙◌, ap, subst, arith}
+use Rattle.std.proofs.Common.{◌≡◌, ◌<◌, ◌≤◌, None, length, sym, ◌∙◌, arith}
 use Rattle.std.specs.Prelude.{slice_index_or}
 use Rattle.cc_names.specs.declared.register.Reg.TheVariants.{S}
-use Rattle.cc_heaps.specs.Changes.{IsThere, held_name}
+use Rattle.cc_heaps.specs.Changes.{held_name}
 use Rattle.cc_paths.specs.Found.{walk_of}
 use Rattle.cc_paths.proofs.Turns.{bank-end, bank-turn}
 use Rattle.cc_paths.proofs.found.Found.add_scripts.Goals as goal
