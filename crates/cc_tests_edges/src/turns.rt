@@ -6,6 +6,7 @@ use crate::runs::status_of_run;
 use cc_outside::{Failed, ReadCounts, Sink, Source, WriteCounts};
 use cc_replay::Status;
 use std::cell::Cell;
+use std::process::Abort;
 
 /// What was called so far, in order: a digit 1 for each read, a digit 2 for each write, the first call in front.
 type Log = Cell<u64>;
