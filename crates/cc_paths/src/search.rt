@@ -155,7 +155,7 @@ impl Found {
         ensures walk { OnOk result ((s : Step) (ss : List Step) → (walk_of self.old).waiting ≡ s ∷ ss → walk_of self.new ≡ walked_first (leads_in heaps.now.heap) s ss (walk_of self.old)) }
         ensures paired { OnOk result (IsPaired heaps.now self.new) }
     {
-        // nodes have numbers, so there are no more than numbers
+        // nodes are counted in 32 bits, so this count of them stays in its range
         prove!(self.walked < self.nodes.len());
         let (name, object) = self.nodes.node(self.walked);
         self.walked += 1;
