@@ -87,7 +87,10 @@ fn a_move_is_of_version_2(rt: HostRuntime) {
 fn why_is_of_version_2_and_asks_for_one_name(rt: HostRuntime) {
     for (line, name) in [
         ("why #1", Name::Native(NativeNo(1))),
-        (" why  @4294967295 \r", Name::Script(ScriptNo(4_294_967_295))),
+        (
+            " why  @4294967295 \r",
+            Name::Script(ScriptNo(4_294_967_295)),
+        ),
         ("why ~20", Name::Reflector(NativeNo(20))),
     ] {
         let line = line.as_bytes();

@@ -46,10 +46,7 @@ fn a_counter_counts(rt: HostRuntime) {
 
 /// A path, with each kind of reason and of name, and its reply. The last step is as long as one can be.
 const PATH: [Item; 5] = [
-    Item::Step(
-        Name::Native(NativeNo(7)),
-        Reason::Root(Reg::N(1023)),
-    ),
+    Item::Step(Name::Native(NativeNo(7)), Reason::Root(Reg::N(1023))),
     Item::Step(
         Name::Script(ScriptNo(999_999)),
         Reason::Edge(Name::Native(NativeNo(7))),
