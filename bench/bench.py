@@ -12,12 +12,14 @@ EXCEPT are parts of names, with commas between: only shapes with one of the firs
 second.
 
 A shape is a script in two parts: the first builds N objects, and the second, its last lines, has them collected, swept,
-or traversed, where they are live. The whole script is timed, and the first part alone. Columns:
+traversed, where they are live, or found on the way to an object. The whole script is timed, and the first part alone.
+Columns:
 
     seconds       the whole script, from the program's start to its end, with the output written to a file
     commands/s    the script's lines by those seconds
     ns/object     the second part alone (the difference of the two times), by the N objects, and by how often it does
-                  its work: a chain of entries is marked 64 times and scanned 8 times, all else is done once
+                  its work: a chain of entries is marked 64 times and scanned 8 times, a path is found 8 times, and most
+                  other work is done once
     growth        the time of each size by that of the least size, of the whole script and of the second part
 
 Each run's output is checked before it counts: status 0, one reply a line, none of them a refusal, and as many `- free`
@@ -218,6 +220,36 @@ def live_chain_in_slices(size):
     return Shape(build, ["slice 1", "copy n254 n255"] * (size + 2), 0, 0)
 
 
+def path_along_chain(size):
+    """The path to the far end of a chain, whose last native a register holds: all its natives are found and told."""
+    build, last = chain(size)
+    others = [f"drop {it}" for it in ("n0", "n1", "n2") if it != last]
+    return Shape(["version 2"] + build + others, ["why #1"], 0, 0, times=8)
+
+
+def path_along_entries(size):
+    """The path to the value of the last entry of a chain of entries. The map and the first key are in registers."""
+    return Shape(["version 2"] + entries(size), [f"why @{size + 1}"], 0, 0, times=8)
+
+
+def path_along_entries_backwards(size):
+    """The same, with the entries set against the order."""
+    return Shape(["version 2"] + entries_backwards(size), ["why @2"], 0, 0, times=8)
+
+
+def path_to_nothing(size):
+    """A name that was never made is asked for: all the natives of a living chain are found, and none is told."""
+    build, _ = chain(size)
+    return Shape(["version 2"] + build, [f"why #{size + 1}"], 0, 0, times=8)
+
+
+def path_beside_a_chain(size):
+    """A native in the first register is asked for beside a living chain, as often as this has natives: no other is found
+    before. What is divided by the objects is the time of one answer."""
+    build, _ = chain(size)
+    return Shape(["version 2"] + build, ["why #1"] * size, 0, 0)
+
+
 SHAPES = [
     ("chain, dropped", dropped_chain),
     ("made and let go, beside a live chain", made_beside_a_chain),
@@ -236,6 +268,11 @@ SHAPES = [
     ("chain of proxies, exposed", proxy_chain_exposed),
     ("chain of proxies, scanned", proxy_chain_scanned),
     ("keys that are proxies, marked", proxy_keys),
+    ("path along a chain", path_along_chain),
+    ("path along a chain of entries", path_along_entries),
+    ("path along a chain of entries, against its order", path_along_entries_backwards),
+    ("path to nothing, beside a live chain", path_to_nothing),
+    ("path of one step, beside a live chain", path_beside_a_chain),
 ]
 
 

@@ -21,7 +21,7 @@ ROOT = Path(__file__).resolve().parent.parent
 EMBEDDING = ROOT / 'docs' / 'EMBEDDING.md'
 README = ROOT / 'README.md'
 WHOLE = ('rust', 'antt')
-CALLED = ('cc_counted', 'cc_heaps', 'cc_script', 'cc_weakmaps', 'cc_wrappers')
+CALLED = ('cc_counted', 'cc_heaps', 'cc_paths', 'cc_script', 'cc_weakmaps', 'cc_wrappers')
 FENCE = '```'
 
 

@@ -288,7 +288,7 @@ def file_of_tables(count):
 //!
 //! Made by tools/worked_examples.py from examples/worked.txt.
 
-""" + ''.join(f'mod part_{number};\n' for number in range(1, count + 1))
+""" + ''.join(f'mod {it};\n' for it in sorted(f'part_{number}' for number in range(1, count + 1)))
 
 
 def files(examples):

@@ -16,3 +16,4 @@ pub mod Beginning
 pub mod Idle
 pub mod Freed
 pub mod Growing
+pub mod Explaining

@@ -83,7 +83,7 @@ written v i from g = set_slot g (register g (N v)) i (source g from)
 
 -- the register of a variable
 abbrev pub register_of : Option Variable → Option Reg
-register_of v = option_map (λ w. N w.0) v
+register_of v = option_map (λ w. N w.number) v
 
 -- a variable holds what slot i of the element in another holds, where that is an element
 abbrev pub gone_to : ℕ → Option ℕ → Graph → Graph

@@ -1,7 +1,12 @@
 //! A document: its calls.
-ghost use Rattle.std.specs.Prelude.{◌≡◌, ◌≢◌, ◌+◌, ◌<◌, ◌≤◌, ℕ, None, Err, OnOk, OnErr, IfOk, IfSome, length, map, option_map, is_some};
+ghost use Rattle.std.specs.Prelude.{◌≡◌, ◌≢◌, ◌↔◌, ◌+◌, ◌<◌, ◌≤◌, ℕ, true, None, Ok, Err, OnOk, OnErr, IfOk, IfSome, IsTrue, length, map, option_map, is_some};
+ghost use Rattle.cc_names.specs.Names.{native};
 ghost use Rattle.cc_model.specs.declared.item.Item.TheVariants.{Listed};
+ghost use Rattle.cc_model.specs.Answers.{item_of_step};
+ghost use Rattle.cc_model.specs.Derivations.{leads_made, path_to};
 ghost use Rattle.cc_model.specs.Graph.{Graph, objects_of};
+ghost use Rattle.cc_model.specs.Paths.{IsPathTo};
+ghost use Rattle.cc_model.specs.Reached.{Reached};
 ghost use Rattle.cc_model.specs.Run.{census_names};
 ghost use Rattle.cc_model.specs.Telling.{Tells};
 ghost use Rattle.cc_gc.specs.Sparing.{KeepsWhatIsReached};
@@ -25,7 +30,8 @@ use crate::variable::{CHILDREN, CLOSURE, DATA, PARENT, SLOTS, Variable};
 use cc_collector::{Collector, Ended, Steps};
 use cc_heaps::Heaps;
 use cc_model::Notices;
-use cc_names::{Limits, Name, NativeNo, NoMemory, RegNo, SlotNo};
+use cc_names::{Limits, Name, NativeNo, NoMemory, SlotNo};
+use cc_paths::why;
 use std::alloc::Global;
 use std::marker::{Brand, Model};
 use std::sync::ledger::{Blank, Ledger};
@@ -70,14 +76,14 @@ impl Document {
 
     /// The element that a variable holds.
     pub fn element(&self, at: Variable) -> Option<NativeNo>
-        ensures { (g : Graph) → Shows self.now g → option_map (λ n. n.0) result ≡ element_of (in_variable (objects_of g) at.0) }
+        ensures { (g : Graph) → Shows self.now g → option_map (λ n. n.0) result ≡ element_of (in_variable (objects_of g) at.number) }
     {
         self.parts.element_in(at)
     }
 
     /// The parent of the element in a variable.
     pub fn parent(&self, of: Variable) -> Option<NativeNo>
-        ensures { (g : Graph) → Shows self.now g → option_map (λ n. n.0) result ≡ parent_of (objects_of g) (in_variable (objects_of g) of.0) }
+        ensures { (g : Graph) → Shows self.now g → option_map (λ n. n.0) result ≡ parent_of (objects_of g) (in_variable (objects_of g) of.number) }
     {
         self.parts.element_at(of, PARENT)
     }
@@ -85,21 +91,21 @@ impl Document {
     /// The child at a place, 0 to 7, of the element in a variable.
     pub fn child(&self, of: Variable, place: SlotNo) -> Option<NativeNo>
         requires within { place < places }
-        ensures { (g : Graph) → Shows self.now g → option_map (λ n. n.0) result ≡ child_of (objects_of g) (in_variable (objects_of g) of.0) place }
+        ensures { (g : Graph) → Shows self.now g → option_map (λ n. n.0) result ≡ child_of (objects_of g) (in_variable (objects_of g) of.number) place }
     {
         self.parts.element_at(of, place + CHILDREN)
     }
 
     /// The element of which the listener of the element in a variable speaks; none where it has no listener.
     pub fn listener(&self, of: Variable) -> Option<NativeNo>
-        ensures { (g : Graph) → Shows self.now g → option_map (λ n. n.0) result ≡ listener_of (objects_of g) (in_variable (objects_of g) of.0) }
+        ensures { (g : Graph) → Shows self.now g → option_map (λ n. n.0) result ≡ listener_of (objects_of g) (in_variable (objects_of g) of.number) }
     {
         self.parts.listener_of(of)
     }
 
     /// The element of which the data of the element in a variable speaks; none where it has no data.
     pub fn data(&self, of: Variable) -> Option<NativeNo>
-        ensures { (g : Graph) → Shows self.now g → option_map (λ n. n.0) result ≡ data_of (objects_of g) (in_variable (objects_of g) of.0) }
+        ensures { (g : Graph) → Shows self.now g → option_map (λ n. n.0) result ≡ data_of (objects_of g) (in_variable (objects_of g) of.number) }
     {
         self.parts.data_of(of)
     }
@@ -113,7 +119,7 @@ impl Document {
         into: Variable,
         out: &mut N,
     ) -> Result<NativeNo, DocumentError>
-        ensures made { IfOk result (λ n. ShowsChanged self.old self.new (λ o p. IsAssigned o p into.0 (element n.0))) }
+        ensures made { IfOk result (λ n. ShowsChanged self.old self.new (λ o p. IsAssigned o p into.number (element n.0))) }
         ensures number { IfOk result (λ n. (g : Graph) → Shows self.old g → n.0 ≡ length g.natives + 1) }
         ensures stops { (e : DocumentError) → result ≡ Err e → (g : Graph) → Shows self.old g → StopsMaking (objects_of g) e }
         ensures full { (g : Graph) → Shows self.old g → g.limits.natives ≤ length g.natives → result ≡ Err Full }
@@ -121,7 +127,7 @@ impl Document {
         ensures same { OnErr result (self.new ≡ self.old) }
         ensures tells { TellsWhatIsFreed self.old.heaps.heap self.new.heaps.heap (N.telling out.old) (N.telling out.new) }
     {
-        match self.parts.heaps.new_native(into.0 as RegNo, SLOTS, out)? {
+        match self.parts.heaps.new_native(into.number, SLOTS, out)? {
             Name::Native(number) => Ok(number),
             Name::Script(_) | Name::Reflector(_) => unreachable!(),
         }
@@ -138,8 +144,8 @@ impl Document {
         out: &mut N,
     ) -> Result<(), DocumentError>
         ensures appended { OnOk result (ShowsChanged self.old self.new (λ o p.
-            Between (IsAppended o p) (element_of (in_variable o parent.0)) (element_of (in_variable o child.0)))) }
-        ensures stops { (e : DocumentError) → result ≡ Err e → (g : Graph) → Shows self.old g → StopsAppending (objects_of g) parent.0 child.0 e }
+            Between (IsAppended o p) (element_of (in_variable o parent.number)) (element_of (in_variable o child.number)))) }
+        ensures stops { (e : DocumentError) → result ≡ Err e → (g : Graph) → Shows self.old g → StopsAppending (objects_of g) parent.number child.number e }
         ensures makes { Makes 0 0 self.old self.new }
         ensures same { OnErr result (self.new ≡ self.old) }
         ensures tells { TellsWhatIsFreed self.old.heaps.heap self.new.heaps.heap (N.telling out.old) (N.telling out.new) }
@@ -170,8 +176,8 @@ impl Document {
         out: &mut N,
     ) -> Result<(), DocumentError>
         ensures removed { OnOk result (ShowsChanged self.old self.new (λ o p.
-            Between (IsRemoved o p) (element_of (in_variable o parent.0)) (element_of (in_variable o child.0)))) }
-        ensures stops { (e : DocumentError) → result ≡ Err e → (g : Graph) → Shows self.old g → StopsRemoving (objects_of g) parent.0 child.0 e }
+            Between (IsRemoved o p) (element_of (in_variable o parent.number)) (element_of (in_variable o child.number)))) }
+        ensures stops { (e : DocumentError) → result ≡ Err e → (g : Graph) → Shows self.old g → StopsRemoving (objects_of g) parent.number child.number e }
         ensures makes { Makes 0 0 self.old self.new }
         ensures same { OnErr result (self.new ≡ self.old) }
         ensures tells { TellsWhatIsFreed self.old.heaps.heap self.new.heaps.heap (N.telling out.old) (N.telling out.new) }
@@ -201,10 +207,10 @@ impl Document {
         out: &mut N,
     ) -> Result<(), DocumentError>
         ensures listens { OnOk result (ShowsChanged self.old self.new (λ o p.
-            Between (IsHeard o p) (element_of (in_variable o to.0)) (element_of (in_variable o about.0)))) }
-        ensures stops { (e : DocumentError) → result ≡ Err e → (g : Graph) → Shows self.old g → StopsListening (objects_of g) to.0 about.0 e }
-        ensures empty { (g : Graph) → Shows self.old g → LacksElement (objects_of g) to.0 about.0 → result ≡ Err Empty }
-        ensures full { (g : Graph) → Shows self.old g → ¬ (LacksElement (objects_of g) to.0 about.0) → IsScriptFull (objects_of g) → result ≡ Err Full }
+            Between (IsHeard o p) (element_of (in_variable o to.number)) (element_of (in_variable o about.number)))) }
+        ensures stops { (e : DocumentError) → result ≡ Err e → (g : Graph) → Shows self.old g → StopsListening (objects_of g) to.number about.number e }
+        ensures empty { (g : Graph) → Shows self.old g → LacksElement (objects_of g) to.number about.number → result ≡ Err Empty }
+        ensures full { (g : Graph) → Shows self.old g → ¬ (LacksElement (objects_of g) to.number about.number) → IsScriptFull (objects_of g) → result ≡ Err Full }
         ensures makes { OnOk result (Makes 0 1 self.old self.new) }
         ensures same { OnErr result (ShowsChanged self.old self.new IsAsBefore) }
         ensures tried { OnErr result (MakesOneAtMost self.old self.new) }
@@ -225,10 +231,10 @@ impl Document {
     /// `Empty`, `Full` and `NoMemory` as at `listen`.
     pub fn put_data(&mut self, of: Variable, about: Variable) -> Result<(), DocumentError>
         ensures has { OnOk result (ShowsChanged self.old self.new (λ o p.
-            Between (HasData o p) (element_of (in_variable o of.0)) (element_of (in_variable o about.0)))) }
-        ensures stops { (e : DocumentError) → result ≡ Err e → (g : Graph) → Shows self.old g → StopsListening (objects_of g) of.0 about.0 e }
-        ensures empty { (g : Graph) → Shows self.old g → LacksElement (objects_of g) of.0 about.0 → result ≡ Err Empty }
-        ensures full { (g : Graph) → Shows self.old g → ¬ (LacksElement (objects_of g) of.0 about.0) → IsScriptFull (objects_of g) → result ≡ Err Full }
+            Between (HasData o p) (element_of (in_variable o of.number)) (element_of (in_variable o about.number)))) }
+        ensures stops { (e : DocumentError) → result ≡ Err e → (g : Graph) → Shows self.old g → StopsListening (objects_of g) of.number about.number e }
+        ensures empty { (g : Graph) → Shows self.old g → LacksElement (objects_of g) of.number about.number → result ≡ Err Empty }
+        ensures full { (g : Graph) → Shows self.old g → ¬ (LacksElement (objects_of g) of.number about.number) → IsScriptFull (objects_of g) → result ≡ Err Full }
         ensures makes { OnOk result (Makes 0 1 self.old self.new) }
         ensures same { OnErr result (ShowsChanged self.old self.new IsAsBefore) }
         ensures tried { OnErr result (MakesOneAtMost self.old self.new) }
@@ -255,7 +261,7 @@ impl Document {
         out: &mut N,
     )
         requires within { place < places }
-        ensures assigned { ShowsChanged self.old self.new (λ o p. IsAssigned o p into.0 (elements (child_of o (in_variable o of.0) place))) }
+        ensures assigned { ShowsChanged self.old self.new (λ o p. IsAssigned o p into.number (elements (child_of o (in_variable o of.number) place))) }
         ensures makes { Makes 0 0 self.old self.new }
         ensures tells { TellsWhatIsFreed self.old.heaps.heap self.new.heaps.heap (N.telling out.old) (N.telling out.new) }
     {
@@ -264,7 +270,7 @@ impl Document {
 
     /// A variable holds the parent of the element in another, or nothing where it has none.
     pub fn visit_parent<N: Notices>(&mut self, into: Variable, of: Variable, out: &mut N)
-        ensures assigned { ShowsChanged self.old self.new (λ o p. IsAssigned o p into.0 (elements (parent_of o (in_variable o of.0)))) }
+        ensures assigned { ShowsChanged self.old self.new (λ o p. IsAssigned o p into.number (elements (parent_of o (in_variable o of.number)))) }
         ensures makes { Makes 0 0 self.old self.new }
         ensures tells { TellsWhatIsFreed self.old.heaps.heap self.new.heaps.heap (N.telling out.old) (N.telling out.new) }
     {
@@ -273,13 +279,11 @@ impl Document {
 
     /// A variable holds nothing from then on.
     pub fn let_go<N: Notices>(&mut self, variable: Variable, out: &mut N)
-        ensures assigned { ShowsChanged self.old self.new (λ o p. IsAssigned o p variable.0 None) }
+        ensures assigned { ShowsChanged self.old self.new (λ o p. IsAssigned o p variable.number None) }
         ensures makes { Makes 0 0 self.old self.new }
         ensures tells { TellsWhatIsFreed self.old.heaps.heap self.new.heaps.heap (N.telling out.old) (N.telling out.new) }
     {
-        self.parts
-            .heaps
-            .set_native_reg(variable.0 as RegNo, None, out);
+        self.parts.heaps.set_native_reg(variable.number, None, out);
     }
 
     /// Whether a collection runs.
@@ -343,15 +347,34 @@ impl Document {
         self.parts.heaps.census(out)
     }
 
+    /// Why an element is there: tells the steps by which the variables lead to it, each once and itself last. A step names an
+    /// object, and the variable or the object that holds it (see `cc_paths::why`). `false`, and no step, exactly where nothing
+    /// leads to the element: then it is gone, or a collection is still to take it.
+    ///
+    /// It changes nothing, and may be called between any two frames. `NoMemory` comes before the first step is told.
+    pub fn why<N: Notices>(
+        &self,
+        alloc: Global,
+        element: NativeNo,
+        out: &mut N,
+    ) -> Result<bool, NoMemory>
+        ensures led { IfOk result (λ b. (g : Graph) → Shows self.now g → IsTrue b ↔ Reached g (native element.0)) }
+        ensures path { result ≡ Ok true → (g : Graph) → Shows self.now g → IsPathTo g (native element.0) (path_to (leads_made g) (native element.0)) }
+        ensures told { OnOk result ((g : Graph) → Shows self.now g → Tells (N.telling out.old) (N.telling out.new) (map item_of_step (path_to (leads_made g) (native element.0)))) }
+        ensures err { OnErr result (N.telling out.new ≡ N.telling out.old) }
+    {
+        why(alloc, &self.parts.heaps, &Name::Native(element), out)
+    }
+
     /// The lowest place of the element in a variable that has this child, or none.
     fn place(&self, parent: Variable, child: Option<NativeNo>) -> Option<SlotNo>
         ensures within { IfSome result (λ place. place < places) }
         ensures found { IfSome result (λ place. (g : Graph) → Shows self.now g →
-            child_of (objects_of g) (in_variable (objects_of g) parent.0) place ≡ option_map (λ n. n.0) child) }
+            child_of (objects_of g) (in_variable (objects_of g) parent.number) place ≡ option_map (λ n. n.0) child) }
         ensures lowest { IfSome result (λ place. (g : Graph) → Shows self.now g → (q : ℕ) → q < place →
-            child_of (objects_of g) (in_variable (objects_of g) parent.0) q ≢ option_map (λ n. n.0) child) }
+            child_of (objects_of g) (in_variable (objects_of g) parent.number) q ≢ option_map (λ n. n.0) child) }
         ensures none { result ≡ None → (g : Graph) → Shows self.now g → (place : ℕ) → place < places →
-            child_of (objects_of g) (in_variable (objects_of g) parent.0) place ≢ option_map (λ n. n.0) child }
+            child_of (objects_of g) (in_variable (objects_of g) parent.number) place ≢ option_map (λ n. n.0) child }
     {
         self.parts.place_of(parent, child)
     }

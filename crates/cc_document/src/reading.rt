@@ -11,7 +11,7 @@ ghost use Rattle.cc_document.specs.Shown.{IsShown, register_of};
 use crate::parts::Parts;
 use crate::variable::{CHILDREN, CLOSED, DATA, LISTENER, PLACES, SPOKEN, Variable};
 use cc_counted::{Held, native_held};
-use cc_names::{NKey, NativeNo, RegNo, SKey, SlotNo};
+use cc_names::{NKey, NativeNo, SKey, SlotNo};
 use cc_wrappers::unwrap_of;
 
 impl Parts {
@@ -28,33 +28,33 @@ impl Parts {
         ensures name { native_name self.now.heaps result ≡ source self.now.heaps.heap (register_of variable) }
         ensures there { IsNativeThere self.now.heaps result }
     {
-        self.heaps.native_reg(variable?.0 as RegNo)
+        self.heaps.native_reg(variable?.number)
     }
 
     /// The element that a variable holds.
     pub(crate) fn element_in(&self, variable: Variable) -> Option<NativeNo>
-        ensures { option_map (λ n. n.0) result ≡ element_of (register self.now.heaps.heap (n_register variable.0)) }
+        ensures { option_map (λ n. n.0) result ≡ element_of (register self.now.heaps.heap (n_register variable.number)) }
     {
-        self.number_of(self.heaps.native_reg(variable.0 as RegNo))
+        self.number_of(self.heaps.native_reg(variable.number))
     }
 
     /// What slot `i` of the element in a variable holds.
     fn content_at(&self, of: Variable, i: SlotNo) -> Option<Held>
         requires shown { IsShown self.now }
         requires within { i < element_slots }
-        ensures name { held_name self.now.heaps result ≡ slot_of (objects_of self.now.heaps.heap) (register self.now.heaps.heap (n_register of.0)) i }
+        ensures name { held_name self.now.heaps result ≡ slot_of (objects_of self.now.heaps.heap) (register self.now.heaps.heap (n_register of.number)) i }
         ensures there { IsThere self.now.heaps result }
     {
         self.heaps
             .counted()
-            .slot(self.heaps.native_reg(of.0 as RegNo)?, i)
+            .slot(self.heaps.native_reg(of.number)?, i)
     }
 
     /// Where the element in slot `i` of the element in a variable stands.
     pub(crate) fn key_at(&self, of: Variable, i: SlotNo) -> Option<NKey>
         requires shown { IsShown self.now }
         requires within { i < element_slots }
-        ensures name { native_name self.now.heaps result ≡ elements (element_of (slot_of (objects_of self.now.heaps.heap) (register self.now.heaps.heap (n_register of.0)) i)) }
+        ensures name { native_name self.now.heaps result ≡ elements (element_of (slot_of (objects_of self.now.heaps.heap) (register self.now.heaps.heap (n_register of.number)) i)) }
         ensures there { IsNativeThere self.now.heaps result }
     {
         native_held(self.content_at(of, i))
@@ -64,7 +64,7 @@ impl Parts {
     pub(crate) fn element_at(&self, of: Variable, i: SlotNo) -> Option<NativeNo>
         requires shown { IsShown self.now }
         requires within { i < element_slots }
-        ensures { option_map (λ n. n.0) result ≡ element_of (slot_of (objects_of self.now.heaps.heap) (register self.now.heaps.heap (n_register of.0)) i) }
+        ensures { option_map (λ n. n.0) result ≡ element_of (slot_of (objects_of self.now.heaps.heap) (register self.now.heaps.heap (n_register of.number)) i) }
     {
         self.number_of(self.key_at(of, i))
     }
@@ -73,11 +73,11 @@ impl Parts {
     pub(crate) fn place_of(&self, parent: Variable, child: Option<NativeNo>) -> Option<SlotNo>
         requires shown { IsShown self.now }
         ensures within { IfSome result (λ place. place < places) }
-        ensures found { IfSome result (λ place. child_of (objects_of self.now.heaps.heap) (register self.now.heaps.heap (n_register parent.0)) place ≡ option_map (λ n. n.0) child) }
+        ensures found { IfSome result (λ place. child_of (objects_of self.now.heaps.heap) (register self.now.heaps.heap (n_register parent.number)) place ≡ option_map (λ n. n.0) child) }
         ensures lowest { IfSome result (λ place. (q : ℕ) → q < place →
-            child_of (objects_of self.now.heaps.heap) (register self.now.heaps.heap (n_register parent.0)) q ≢ option_map (λ n. n.0) child) }
+            child_of (objects_of self.now.heaps.heap) (register self.now.heaps.heap (n_register parent.number)) q ≢ option_map (λ n. n.0) child) }
         ensures none { result ≡ None → (place : ℕ) → place < places →
-            child_of (objects_of self.now.heaps.heap) (register self.now.heaps.heap (n_register parent.0)) place ≢ option_map (λ n. n.0) child }
+            child_of (objects_of self.now.heaps.heap) (register self.now.heaps.heap (n_register parent.number)) place ≢ option_map (λ n. n.0) child }
     {
         for place in 0..PLACES {
             if self.element_at(parent, place + CHILDREN) == child {
@@ -103,7 +103,7 @@ impl Parts {
     /// The element of which the listener of the element in a variable speaks.
     pub(crate) fn listener_of(&self, of: Variable) -> Option<NativeNo>
         requires { IsShown self.now }
-        ensures { option_map (λ n. n.0) result ≡ listener_of (objects_of self.now.heaps.heap) (register self.now.heaps.heap (n_register of.0)) }
+        ensures { option_map (λ n. n.0) result ≡ listener_of (objects_of self.now.heaps.heap) (register self.now.heaps.heap (n_register of.number)) }
     {
         match self.content_at(of, LISTENER) {
             Some(Held::Script(closure)) => self.spoken_of(closure),
@@ -115,12 +115,12 @@ impl Parts {
     /// The element of which the data of the element in a variable speaks. An element that has no reflector has no data.
     pub(crate) fn data_of(&self, of: Variable) -> Option<NativeNo>
         requires { IsShown self.now }
-        ensures { option_map (λ n. n.0) result ≡ data_of (objects_of self.now.heaps.heap) (register self.now.heaps.heap (n_register of.0)) }
+        ensures { option_map (λ n. n.0) result ≡ data_of (objects_of self.now.heaps.heap) (register self.now.heaps.heap (n_register of.number)) }
     {
         let reflector = self
             .heaps
             .counted()
-            .reflector(self.heaps.native_reg(of.0 as RegNo)?)?;
+            .reflector(self.heaps.native_reg(of.number)?)?;
         let data = self
             .heaps
             .weak()

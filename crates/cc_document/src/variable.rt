@@ -1,10 +1,33 @@
 //! Where a document's elements stand in the two heaps: variables, slots and places.
 
-use cc_names::{RegNo, SlotNo};
+ghost use Rattle.std.specs.Prelude.{◌≡◌, ◌↔◌, ◌<◌, ◌≤◌, None, IfSome};
+ghost use Rattle.cc_names.specs.Sizes.{bank_length};
 
-/// A variable of the host, by its number, which is 0 to 255. It holds an element, or nothing.
+use cc_names::{BANK_LENGTH, RegNo, SlotNo};
+
+/// A variable of the host, by its number, which is 0 to 1023: the native register with that number. It holds an element, or
+/// nothing.
+///
+/// A number that is known is written as it is, `Variable { number: 7 }`, and the check sees that it is one. `new` is for any
+/// other.
 #[derive(Clone, Copy, Debug, PartialEq, Eq, Drop)]
-pub struct Variable(pub u8);
+pub struct Variable {
+    pub number: RegNo,
+    pub ghost within: { number < bank_length },
+}
+
+impl Variable {
+    /// The variable with a number; none exactly from 1024 on.
+    pub fn new(number: RegNo) -> Option<Variable>
+        ensures number { IfSome result (λ v. v.number ≡ number) }
+        ensures none { (result ≡ None) ↔ (bank_length ≤ number) }
+    {
+        if number as usize >= BANK_LENGTH {
+            return None;
+        }
+        Some(Variable { number })
+    }
+}
 
 /// How many children an element has at most.
 pub const PLACES: SlotNo = 8;

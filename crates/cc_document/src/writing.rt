@@ -36,13 +36,13 @@ impl Parts {
     )
         requires shown { IsShown self.old }
         requires within { i < element_slots }
-        ensures shows { ShowsAfter self.old self.new (written of.0 i (register_of from)) }
+        ensures shows { ShowsAfter self.old self.new (written of.number i (register_of from)) }
         ensures tells { TellsWhatIsFreed self.old.heaps.heap self.new.heaps.heap (N.telling out.old) (N.telling out.new) }
         ensures makes { Makes 0 0 self.old self.new }
         ensures none_came { NoneCame self.old.heaps.heap self.new.heaps.heap }
     {
         let content = self.key_in(from);
-        if let Some(element) = self.heaps.native_reg(of.0 as RegNo) {
+        if let Some(element) = self.heaps.native_reg(of.number) {
             self.heaps
                 .store_native(element, i, Held::of_native(content), out);
         }
@@ -53,23 +53,23 @@ impl Parts {
         requires shown { IsShown self.old }
         requires within { i < element_slots }
         ensures shows { (g : Graph) → Shows self.old g →
-            Shows self.new (gone_to into.0 (element_of (slot_of (objects_of g) (in_variable (objects_of g) of.0) i)) g) }
+            Shows self.new (gone_to into.number (element_of (slot_of (objects_of g) (in_variable (objects_of g) of.number) i)) g) }
         ensures tells { TellsWhatIsFreed self.old.heaps.heap self.new.heaps.heap (N.telling out.old) (N.telling out.new) }
         ensures makes { Makes 0 0 self.old self.new }
     {
         let element = self.key_at(of, i);
-        self.heaps.set_native_reg(into.0 as RegNo, element, out);
+        self.heaps.set_native_reg(into.number, element, out);
     }
 
     /// The element in a variable has the closure that was made for its listener.
     pub(crate) fn hand_over<N: Notices>(&mut self, to: Variable, out: &mut N)
         requires shown { IsShownWith self.old HasClosure }
-        ensures shows { ShowsAfter self.old self.new (written to.0 listener_slot (Some (s_register closure_register))) }
+        ensures shows { ShowsAfter self.old self.new (written to.number listener_slot (Some (s_register closure_register))) }
         ensures tells { TellsWhatIsFreed self.old.heaps.heap self.new.heaps.heap (N.telling out.old) (N.telling out.new) }
         ensures makes { Makes 0 0 self.old self.new }
     {
         if let (Some(element), Some(closure)) = (
-            self.heaps.native_reg(to.0 as RegNo),
+            self.heaps.native_reg(to.number),
             self.heaps.script_reg(CLOSURE),
         ) {
             self.heaps
@@ -95,13 +95,13 @@ impl Parts {
     /// `NoMemory` changes nothing, and comes only where the element had no reflector.
     fn wrap_into_register(&mut self, element: Variable) -> Result<(), DocumentError>
         requires shown { IsShown self.old }
-        ensures wrapped { OnOk result (ShowsAfter self.old self.new (wrapping element.0)) }
+        ensures wrapped { OnOk result (ShowsAfter self.old self.new (wrapping element.number)) }
         ensures grows { OnOk result (Grows 0 self.old.heaps.heap self.new.heaps.heap) }
         ensures running { self.new.running ≡ self.old.running }
-        ensures stops { (e : DocumentError) → result ≡ Err e → StopsWrapping (heap.objects_of self.old.heaps.heap) element.0 e }
+        ensures stops { (e : DocumentError) → result ≡ Err e → StopsWrapping (heap.objects_of self.old.heaps.heap) element.number e }
         ensures same { OnErr result (self.new ≡ self.old) }
     {
-        let Some(key) = self.heaps.native_reg(element.0 as RegNo) else {
+        let Some(key) = self.heaps.native_reg(element.number) else {
             return Err(DocumentError::Empty);
         };
         let reflector = wrap(&mut self.heaps, key)?;
@@ -144,13 +144,13 @@ impl Parts {
     /// exactly at the limit; where memory is wanted for the reflector, it is let go again.
     pub(crate) fn close_over(&mut self, about: Variable) -> Result<(), DocumentError>
         requires shown { IsShown self.old }
-        ensures closed { OnOk result (ShowsAfter self.old self.new (closed_over about.0)) }
+        ensures closed { OnOk result (ShowsAfter self.old self.new (closed_over about.number)) }
         ensures has { OnOk result (IsShownWith self.new HasClosure) }
         ensures grows { OnOk result (Grows 1 self.old.heaps.heap self.new.heaps.heap) }
         ensures running { self.new.running ≡ self.old.running }
         ensures room { OnOk result (¬ (IsScriptFull (heap.objects_of self.old.heaps.heap))) }
         ensures full { IsScriptFull (heap.objects_of self.old.heaps.heap) → result ≡ Err Full }
-        ensures stops { (e : DocumentError) → result ≡ Err e → StopsClosing (heap.objects_of self.old.heaps.heap) about.0 e }
+        ensures stops { (e : DocumentError) → result ≡ Err e → StopsClosing (heap.objects_of self.old.heaps.heap) about.number e }
         ensures same { OnErr result (ShowsChanged self.old self.new IsLeft) }
         ensures tried { OnErr result (Grows 0 self.old.heaps.heap self.new.heaps.heap ⊎ Grows 1 self.old.heaps.heap self.new.heaps.heap) }
     {
@@ -187,10 +187,10 @@ impl Parts {
     /// The closure that was made is the data of the element in a variable.
     pub(crate) fn enter(&mut self, of: Variable) -> Result<(), DocumentError>
         requires shown { IsShownWith self.old HasClosure }
-        ensures entered { OnOk result (ShowsAfter self.old self.new (entered of.0)) }
+        ensures entered { OnOk result (ShowsAfter self.old self.new (entered of.number)) }
         ensures grows { Grows 0 self.old.heaps.heap self.new.heaps.heap }
         ensures running { self.new.running ≡ self.old.running }
-        ensures stops { (e : DocumentError) → result ≡ Err e → StopsWrapping (heap.objects_of self.old.heaps.heap) of.0 e }
+        ensures stops { (e : DocumentError) → result ≡ Err e → StopsWrapping (heap.objects_of self.old.heaps.heap) of.number e }
         ensures same { OnErr result (ShowsChanged self.old self.new IsLeft) }
     {
         self.wrap_into_register(of)?;

@@ -6,7 +6,7 @@ use Rattle.cc_names.specs.declared.name.Name.{Name}
 use Rattle.cc_names.specs.Names.{same_name}
 use Rattle.cc_model.specs.declared.item.Event.TheVariants.{Unlinked, Freed, Abandoned}
 use Rattle.cc_model.specs.declared.item.Item.{Item}
-use Rattle.cc_model.specs.declared.item.Item.TheVariants.{Event as of_event, Listed, Reply as of_reply}
+use Rattle.cc_model.specs.declared.item.Item.TheVariants.{Event as of_event, Listed, Step, Reply as of_reply}
 use Rattle.cc_model.specs.Heap.{Heap}
 use Rattle.cc_model.specs.WellFormed.{names_there}
 use Rattle.cc_embedding.specs.declared.told.Row.{Row}
@@ -17,6 +17,7 @@ frees x (of_event (Unlinked y)) = false
 frees x (of_event (Freed y)) = same_name y x
 frees x (of_event Abandoned) = false
 frees x (Listed y) = false
+frees x (Step y r) = false
 frees x (of_reply reply) = false
 
 -- whether one of these items does

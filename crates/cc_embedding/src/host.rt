@@ -1,12 +1,14 @@
 //! Heaps and their collector in one type, which keeps one fact.
-ghost use Rattle.std.specs.Prelude.{◌<◌};
+ghost use Rattle.std.specs.Prelude.{◌≡◌, ◌<◌, IfOk};
 ghost use Rattle.cc_names.specs.Sizes.{bank_length};
+ghost use Rattle.cc_model.specs.Derivations.{is_led_to, leads_in};
 
 use cc_collector::Collector;
 use cc_counted::Held;
 use cc_heaps::{Heaps, MakeStop};
 use cc_model::Notices;
 use cc_names::{Limits, Name, NoMemory, RegNo};
+use cc_paths::why;
 use std::alloc::Global;
 use std::marker::Model;
 
@@ -71,5 +73,12 @@ impl Host {
     /// Leaves what the registers lead to.
     pub fn settle<N: Notices>(&mut self, out: &mut N) -> Result<(), NoMemory> {
         self.collector.settle(&mut self.heaps, out)
+    }
+
+    /// Tells the steps by which the registers lead to an object. `false` where nothing leads to it.
+    pub fn why<N: Notices>(&self, alloc: Global, name: &Name, out: &mut N) -> Result<bool, NoMemory>
+        ensures { IfOk result (λ b. b ≡ is_led_to (leads_in self.now.heap) name.now) }
+    {
+        why(alloc, &self.heaps, name, out)
     }
 }

@@ -4,6 +4,8 @@
 //! Made by tools/worked_examples.py from examples/worked.txt.
 
 mod part_1;
+mod part_10;
+mod part_11;
 mod part_2;
 mod part_3;
 mod part_4;

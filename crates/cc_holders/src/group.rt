@@ -1,5 +1,5 @@
 //! A group of pages.
-ghost use Rattle.std.specs.Prelude.{◌≡◌, ◌⊎◌, ℕ, ◌+◌, ◌<◌, ◌≤◌, ◌^◌, [], length, count_by, get_or, IfNone, IfSome, IsTrue, OnOk};
+ghost use Rattle.std.specs.Prelude.{◌≡◌, ℕ, ◌+◌, ◌<◌, ◌≤◌, ◌^◌, [], length, count_by, get_or, IfNone, IfSome, OnOk};
 ghost use Rattle.cc_holders.specs.declared.entry.Entry.{Entry};
 ghost use Rattle.cc_holders.specs.Entries.{IsFirst, IsGivenBack, has_marked, in_group, in_page, key_of};
 
@@ -8,6 +8,9 @@ use crate::page::Page;
 use cc_names::NoMemory;
 use std::alloc::Global;
 use std::marker::Model;
+
+/// How many pages a group has.
+pub(crate) const PAGES: usize = 128;
 
 /// A group of pages.
 #[derive(Drop)]
@@ -76,12 +79,22 @@ impl Group {
         self.marked = self.marked + after - before;
     }
 
-    /// Whether the group has a page behind this one, and a page that has a number that is marked.
-    pub(crate) fn goes_on(&self, page: usize) -> bool
+    /// The first page behind this one that has a number that is marked; the end of the group where there is none.
+    pub(crate) fn next_marked_page(&self, page: usize) -> usize
         requires { page < 128 }
-        ensures { IsTrue result ⊎ ((k i : ℕ) → page < k → key_of (in_group self.now k i) ≡ None) }
+        ensures behind { page < result }
+        ensures within { result ≤ 128 }
+        ensures passed { (k i : ℕ) → page < k → k < result → key_of (in_group self.now k i) ≡ None }
     {
-        self.marked > 0 && page + 1 < self.pages.len()
+        if self.marked == 0 {
+            return PAGES;
+        }
+        for next in page + 1..self.pages.len().min(PAGES) {
+            if self.pages[next].count_marked() > 0 {
+                return next;
+            }
+        }
+        PAGES
     }
 
     /// The first marked number of a page, from a place on, by its place, and its key; none where there is none.

@@ -4,12 +4,9 @@ ghost use Rattle.cc_holders.specs.declared.entry.Entry.{Entry};
 ghost use Rattle.cc_holders.specs.Entries.{HasRoom, IsFirst, IsGivenBack, in_groups, in_page_of, key_of, page_in};
 
 use crate::entry::Entry;
-use crate::group::Group;
+use crate::group::{Group, PAGES};
 use crate::page::PLACES;
 use cc_names::NoMemory;
-
-/// How many pages a group has.
-const PAGES: usize = 128;
 
 /// How many groups there are at most: numbers have 32 bits.
 const GROUPS: usize = 1_048_576;
@@ -95,18 +92,14 @@ fn first_in_page(groups: &Table, page: usize, start: usize) -> Option<(usize, u3
     }
 }
 
-/// Where the page of a number ends; where its group has no marked number, or no page behind that, where the group ends.
+/// Where the next page of a number's group begins that has a marked number; where there is none, where the group ends.
 fn end_of_page(groups: &Table, number: usize) -> usize
     requires { number < 2 ^ 32 }
     ensures rises { number < result }
     ensures passed { (n : ℕ) → number ≤ n → n < result → (n / 32 ≡ number / 32) ⊎ (key_of (in_groups groups.now.items n) ≡ None) }
 {
     let page = number / PLACES;
-    if goes_on(groups, page) {
-        (page + 1) * PLACES
-    } else {
-        (page / PAGES + 1) * PAGES * PLACES
-    }
+    (page / PAGES * PAGES + next_page(groups, page)) * PLACES
 }
 
 /// A number that is above all that are known and have 32 bits.
@@ -117,13 +110,15 @@ fn end(groups: &Table) -> usize
     groups.len().min(GROUPS) * PAGES * PLACES
 }
 
-/// Whether a page's group has a page behind it, and a number that is marked.
-fn goes_on(groups: &Table, page: usize) -> bool
-    ensures { IsTrue result ⊎ ((n : ℕ) → n / 32 / 128 ≡ page / 128 → page < n / 32 → key_of (in_groups groups.now.items n) ≡ None) }
+/// The first page behind a page that has a marked number, by its place in their group; the end of the group where there is none.
+fn next_page(groups: &Table, page: usize) -> usize
+    ensures behind { page % 128 < result }
+    ensures within { result ≤ 128 }
+    ensures passed { (n : ℕ) → n / 32 / 128 ≡ page / 128 → page % 128 < n / 32 % 128 → n / 32 % 128 < result → key_of (in_groups groups.now.items n) ≡ None }
 {
     match groups.get(page / PAGES) {
-        Some(group) => group.goes_on(page % PAGES),
-        None => false,
+        Some(group) => group.next_marked_page(page % PAGES),
+        None => PAGES,
     }
 }
 

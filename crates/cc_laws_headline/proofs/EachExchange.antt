@@ -1,30 +1,38 @@
 -- EACH TURN OF A LAWFUL AND QUIET TRANSCRIPT: its answer is lawful in the state before it, and a census after the row is
 -- quiet there.
 use Rattle.std.proofs.Common.{◌≡◌, suc, Bool, true, false, List, [], ◌∷◌, ◌++◌, length, Option, Some, None, refl, sym, ◌∙◌, ap, subst, inl, inr, ◌⊎◌, ⊎_elim}
-use Rattle.std.proofs.lemmas.Bool.{true≢false}
+use Rattle.std.proofs.lemmas.Bool.{true≢false, and_parts}
+use Rattle.std.specs.Prelude.{IsTrue}
+use Rattle.std.specs.List.{list_all}
 use Rattle.cc_laws_run.specs.Missing.{asks_nothing}
 use Rattle.cc_lists.specs.Members.{Among}
 use Rattle.cc_names.specs.Allowance.{Allowance}
 use Rattle.cc_names.specs.declared.name.Name.{Name}
 use Rattle.cc_model.specs.declared.command.Command.{Command}
-use Rattle.cc_model.specs.declared.command.Command.TheVariants.{Nothing, Collect, Gc, Census}
+use Rattle.cc_model.specs.declared.command.Command.TheVariants.{Nothing, Why, Collect, Gc, Census}
 use Rattle.cc_model.specs.declared.item.Reply.{Reply}
-use Rattle.cc_model.specs.declared.item.Reply.TheVariants.{Done}
+use Rattle.cc_model.specs.declared.item.Reply.TheVariants.{Done, Nothing as nothing}
 use Rattle.cc_model.specs.declared.item.Event.{Event}
 use Rattle.cc_model.specs.declared.item.Event.TheVariants.{Unlinked, Freed}
-use Rattle.cc_model.specs.Answers.{Answer}
+use Rattle.cc_model.specs.Answers.{Answer, explaining}
 use Rattle.cc_model.specs.Asks.{Ask, long, bad, taken}
-use Rattle.cc_model.specs.Graph.{Graph}
+use Rattle.cc_model.specs.Graph.{Graph, step}
 use Rattle.cc_model.specs.Reached.{Reached}
-use Rattle.cc_model.specs.Lawful.{State, start, next, graph_after, MayBe, EachMayBe, ReplyAnswers, AnswersAsk, IsLawfulFrom, IsLawful}
+use Rattle.cc_model.specs.WellMade.{IsWellMade}
+use Rattle.cc_model.specs.Derivations.{leads_made, path_to, is_led_to, done_or_nothing, why_of}
+use Rattle.cc_model.specs.Lawful.{State, start, next, graph_after, is_without_memory, MayBe, EachMayBe, ReplyAnswers, Explains, AnswersAsk, IsLawfulFrom, IsLawful}
 use Rattle.cc_model.specs.Listed.{after_event, census_order}
 use Rattle.cc_model.specs.Quiet.{Row, nothing_yet, after_gc, after_collect, after_all, row_after, CensusIsQuiet, IsQuietFrom, IsQuiet}
 use Rattle.cc_model.specs.Quiet as quiet
-use Rattle.cc_laws_run.specs.Running.{state_after}
+use Rattle.cc_model.proofs.Derivations.{not_led-path}
+use Rattle.cc_model.proofs.PathsFollow.{path-is_right}
+use Rattle.cc_laws_heap.proofs.GraphCommands.{step-well, empty-well}
+use Rattle.cc_laws_heap.proofs.LedReached.{reached-led}
+use Rattle.cc_laws_run.specs.Running.{state_after, ask_in_range}
 use Rattle.cc_laws_run.proofs.FreedListed.{census_order-listed}
 use Rattle.cc_laws_run.proofs.PlainQuiet.{listed-census_order}
 use Rattle.cc_laws_headline.specs.Exchanges.{Exchange, IsExchangeOf, before, spoken, HasJustCollected}
-use Rattle.cc_laws_headline.specs.Headline.{CommandReplyIs, ReplyIs, ListsWhatIsThere, SparesReached, CensusIsExact, TellsOfAGraph}
+use Rattle.cc_laws_headline.specs.Headline.{CommandReplyIs, ReplyIs, ListsWhatIsThere, TellsWhy, by_path, unreached, unmet, SparesReached, CensusIsExact, TellsOfAGraph}
 
 -- Lawful
 
@@ -53,7 +61,8 @@ reply-is s long a l = ap (λ (b : Answer). b.reply) l
 reply-is s bad a l = ap (λ (b : Answer). b.reply) l
 reply-is s (taken Nothing) a l = ap (λ (b : Answer). b.reply) l
 reply-is s (taken Census) a l = tt
-reply-is s (taken c) a l = command-reply-is s c a a.reply l.1
+reply-is s (taken (Why x)) a l = tt
+reply-is s (taken c) a l = command-reply-is s c a a.reply l.2
 
 -- what it tells is not reached in the graph after it
 events-spare : (g : Graph) (names : List Name) (c : Command) (es : List Event) → EachMayBe g names c es →
@@ -79,11 +88,46 @@ answer-spares s long a l = silent-spares s a (ap (λ (b : Answer). b.events) l)
 answer-spares s bad a l = silent-spares s a (ap (λ (b : Answer). b.events) l)
 answer-spares s (taken Nothing) a l = silent-spares (next s (taken Nothing) a) a (ap (λ (b : Answer). b.events) l)
 answer-spares s (taken Census) a l = silent-spares (next s (taken Census) a) a (ap (λ (b : Answer). b.events) l)
-answer-spares s (taken c) a l = command-spares s c a a.reply l.1
+answer-spares s (taken (Why x)) a l = silent-spares (next s (taken (Why x)) a) a (⊎_elim (λ e. ap (λ (b : Answer). b.events) e) (λ e. ap (λ (b : Answer). b.events) e) l)
+answer-spares s (taken c) a l = command-spares s c a a.reply l.2
 
 -- and a census lists what is there
 census-lists : (s : State) (ask : Ask) (a : Answer) → AnswersAsk s ask a → ListsWhatIsThere s ask a
 census-lists s ask a l e = subst (λ (k : Ask). AnswersAsk s k a) e l
+
+-- Why
+
+-- asks in range leave a graph that is well made
+next-well : (s : State) (ask : Ask) (a : Answer) → IsWellMade s.graph → IsTrue (ask_in_range ask) → IsWellMade (next s ask a).graph
+next-well s long a w i = w
+next-well s bad a w i = w
+next-well s (taken c) a w i = go a.reply
+  where
+    by_memory : (b : Bool) → IsWellMade (elim b [ true ↦ s.graph | false ↦ step s.graph c ])
+    by_memory true = w
+    by_memory false = step-well s.graph w c i
+
+    go : (reply : Option Reply) → IsWellMade (graph_after s.graph c reply)
+    go None = w
+    go (Some reply) = by_memory (is_without_memory reply)
+
+state_after-well : (s : State) (asked : List Ask) (told : List Answer) (later : List Ask) → IsWellMade s.graph → IsTrue (list_all ask_in_range (asked ++ later)) →
+    IsWellMade (state_after s asked told).graph
+state_after-well s [] told later w i = w
+state_after-well s (c ∷ asked) [] later w i = w
+state_after-well s (c ∷ asked) (b ∷ told) later w i =
+    let p = and_parts (ask_in_range c) (list_all ask_in_range (asked ++ later)) i in
+    state_after-well (next s c b) asked told later (next-well s c b w p.0) p.1
+
+-- `why` is answered by a path of such a graph
+why-told : (g : Graph) (x : Name) (a : Answer) → IsWellMade g → Explains g x a → TellsWhy g x a
+why-told g x a w l = ⊎_elim (λ e. subst (TellsWhy g x) (sym e) (go (is_led_to (leads_made g) x) refl)) (λ e. subst (TellsWhy g x) (sym e) unmet) l
+  where
+    go : (b : Bool) → is_led_to (leads_made g) x ≡ b → TellsWhy g x (why_of (leads_made g) x)
+    go true e = subst (λ b. TellsWhy g x (explaining (path_to (leads_made g) x) (done_or_nothing b))) (sym e) (by_path (path-is_right g x e))
+    go false e = subst (λ b. TellsWhy g x (explaining (path_to (leads_made g) x) (done_or_nothing b))) (sym e)
+        (subst (λ steps. TellsWhy g x (explaining steps nothing)) (sym (not_led-path (leads_made g) x e))
+        (unreached (λ r. true≢false (sym (reached-led g w x r) ∙ e))))
 
 -- Quiet
 
@@ -160,6 +204,9 @@ module _ (limits : Allowance) (asks : List Ask) (answers : List Answer) (l : IsL
     one_each = lawful-length (start limits) asks answers l;
     replies = λ t i. reply-is (before limits t) t.ask t.answer (lawful-at t i);
     censuses = λ t i. census-lists (before limits t) t.ask t.answer (lawful-at t i);
+    paths = λ t x i range e. why-told (before limits t).graph x t.answer
+        (state_after-well (start limits) t.asked t.told (t.ask ∷ i.later) (empty-well limits) (subst (λ (ks : List Ask). IsTrue (list_all ask_in_range ks)) i.asks_are range))
+        (subst (λ (k : Ask). AnswersAsk (before limits t) k t.answer) e (lawful-at t i));
     spares = λ t i. answer-spares (before limits t) t.ask t.answer (lawful-at t i);
     lists = λ t i j e. census-reached (before limits t) t.answer
         (ap (λ (b : Answer). b.listed) (census-lists (before limits t) t.ask t.answer (lawful-at t i) e)) (exact-at t i j e);

@@ -22,6 +22,7 @@ pub use Rattle.cc_laws_heap.proofs.Freed.{TakesOut}
 pub use Rattle.cc_laws_heap.proofs.FreedNames.{FreesNames-left}
 pub use Rattle.cc_laws_heap.proofs.GiveUp.{IsBalanced-give_up_each, living-one, lower_native}
 pub use Rattle.cc_laws_heap.proofs.GraphCommands.{KeepsReflector-slot, empty-well, proxy-well, step-well}
+pub use Rattle.cc_laws_heap.proofs.GraphLeads.{graph-within}
 pub use Rattle.cc_laws_heap.proofs.GraphParts.{Grows, IsMadeEntry-grows, IsWellMade-entries, is_some-found, with_natives, with_scripts}
 pub use Rattle.cc_laws_heap.proofs.GraphReads.{Made, MadeNative, MadeScript, native_register-made}
 pub use Rattle.cc_laws_heap.proofs.GraphWrites.{Grows-change_native, IsWellMade-change_native, IsWellMade-native_register, IsWellMade-script_register, IsWellMade-script_slot, KeepsNative-preserved, KeepsNative-reflector_slot, KeepsNative-slot, KeepsNative-wrapped, set_native-is, set_script-is}
@@ -31,6 +32,7 @@ pub use Rattle.cc_laws_heap.proofs.Holds.{OfSome, OfSome-then, contents-at, cont
 pub use Rattle.cc_laws_heap.proofs.HoldsTheSame.{HoldsTheSame-add_ref, HoldsTheSame-take_up, names_there-alike, native_names-alike, raise_native, slots_in-alike}
 pub use Rattle.cc_laws_heap.proofs.Kept.{IsBuffer, IsWellFormed-buffer, with_buffer, with_entries}
 pub use Rattle.cc_laws_heap.proofs.Leaving.{IsOf, Leave, Leave-add_ref, Leave-before, Leave-frees, Leave-not_freed, done-leaves, is_left, numbers_there, numbers_there-named}
+pub use Rattle.cc_laws_heap.proofs.LedReached.{led-reached_in, reached-led, reached_in-led}
 pub use Rattle.cc_laws_heap.proofs.MadeAlike.{Follows-made, IsMade}
 pub use Rattle.cc_laws_heap.proofs.MadeSound.{with_native-sound, with_script-sound}
 pub use Rattle.cc_laws_heap.proofs.Making.{IsRising-push, contents-empty, contents-empty_none, places-with_mark, with_mark-cases}
@@ -65,5 +67,6 @@ pub use Rattle.cc_laws_heap.proofs.Taken.{IsTaken, IsTaken-from}
 pub use Rattle.cc_laws_heap.proofs.TakingAway.{IsSound-permuted, IsTaking, others-kept, take_away-leaves, take_away-sound, take_away-takes, taken-emptied, unroot_each-taking}
 pub use Rattle.cc_laws_heap.proofs.Unlinking.{Unlinks, unlink-keeps}
 pub use Rattle.cc_laws_heap.proofs.Unseen.{Leaves-exposed, Leaves-let_go, Leaves-take_up, Leaves-touched}
+pub use Rattle.cc_laws_heap.proofs.WalksAlike.{derivation-alike, why-alike}
 pub use Rattle.cc_laws_heap.proofs.Wrapping.{Follows-wrapped}
 pub use Rattle.cc_laws_heap.proofs.Writes.{contents-at as contents-at-of_writes, native_register-sound, native_slot-sound, script_register-sound, set_preserved-sound}

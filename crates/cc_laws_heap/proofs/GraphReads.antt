@@ -68,7 +68,7 @@ module _ (g : Graph) (w : IsWellMade g) where
   reflector_contents-made k x = grind arith
 
   -- what any object has in its slots was made
-  slots_in-made : (y x : Name) → Among x (contents (slots_or_none (slots_in g y))) → Made g x
+  pub slots_in-made : (y x : Name) → Among x (contents (slots_or_none (slots_in g y))) → Made g x
   slots_in-made y x e = grind (arith, MadeScript-made, script_contents-made, reflector_contents-made)
 
   -- and what a script object has there are script objects

@@ -5,11 +5,13 @@ use Rattle.std.specs.List.{flat_map}
 use Rattle.cc_lists.specs.Members.{Among}
 use Rattle.cc_lists.proofs.Members.{Among-map, Among-map_cases, Among-left, Among-right, Among-append, Among-flat_map, Among-flat_map_cases}
 use Rattle.cc_names.specs.declared.name.Name.{Name}
+use Rattle.cc_names.specs.declared.name.Name.TheVariants as name
 use Rattle.cc_names.specs.declared.kind.Kind.{Kind}
 use Rattle.cc_names.specs.Names.{native}
 use Rattle.cc_names.proofs.NameTests.{same_name-true}
 use Rattle.cc_model.specs.Slots.{Slots, contents, from_to}
-use Rattle.cc_model.specs.Checks.{native_of}
+use Rattle.cc_model.specs.Checks.{native_of, slots_or_none}
+use Rattle.cc_model.specs.Places.{places_of_native, places_of_script, places_in}
 use Rattle.cc_model.specs.Heap.{Heap, HeapNative, HeapScript, slots_of_kind, script_at}
 use Rattle.cc_model.specs.View.{view, native_edges, script_edges}
 use Rattle.cc_model.proofs.Places.{contents-last}
@@ -59,17 +61,43 @@ there-shape_at h w x m = ⊎_elim
 
 -- Edges
 
--- the edges of a native in the flat view are those of its shape
-native_edges-shape : (n : HeapNative) → native_edges n ≡ map (from_to (native n.number)) (edges_of_shape (native n.number) (shape_of_held_native n))
-native_edges-shape n = grind (arith, contents-last)
+-- the places of a native hold what its shape refers to
+native_places-shape : (n : HeapNative) → contents (places_of_native n) ≡ edges_of_shape (native n.number) (shape_of_held_native n)
+native_places-shape n = grind (arith, contents-last)
 
--- and so are those of a script object
-script_edges-shape : (o : HeapScript) → FitsName o.name o.kind o.slots → script_edges o ≡ map (from_to o.name) (edges_of_shape o.name (shape_of_held_script o))
-script_edges-shape o fits = ap (map (from_to o.name)) (contents-script o.slots o.delegate (native_of (Some o.name)) ∙ by_name o.name o.kind o.slots o.delegate fits)
+-- and so do those of a script object
+script_places-shape : (o : HeapScript) → FitsName o.name o.kind o.slots → contents (places_of_script o) ≡ edges_of_shape o.name (shape_of_held_script o)
+script_places-shape o fits = contents-script o.slots o.delegate (native_of (Some o.name)) ∙ by_name o.name o.kind o.slots o.delegate fits
   where
     by_name : (x : Name) (kind : Kind) (slots : Slots) (d : Option Name) → FitsName x kind slots →
         contents slots ++ (option_to_list d ++ option_to_list (native_of (Some x))) ≡ edges_of_shape x (script_shape (slots_of_kind kind slots) d)
     by_name x kind slots d f = grind arith
+
+-- the edges of a native in the flat view are those of its shape
+native_edges-shape : (n : HeapNative) → native_edges n ≡ map (from_to (native n.number)) (edges_of_shape (native n.number) (shape_of_held_native n))
+native_edges-shape n = ap (map (from_to (native n.number))) (native_places-shape n)
+
+-- and so are those of a script object
+script_edges-shape : (o : HeapScript) → FitsName o.name o.kind o.slots → script_edges o ≡ map (from_to o.name) (edges_of_shape o.name (shape_of_held_script o))
+script_edges-shape o fits = ap (map (from_to o.name)) (script_places-shape o fits)
+
+-- THE PLACES OF WHAT HAS A SHAPE hold what the shape refers to.
+pub places_in-shape : (h : Heap) → IsWellFormed h → (x : Name) (s : Shape) → shape_at h x ≡ Some s → contents (slots_or_none (places_in h x)) ≡ edges_of_shape x s
+places_in-shape h w x s e = ⊎_elim
+    (λ f. moved (native f.0.number) (shape_of_held_native f.0) (places_of_native f.0) f.2 f.3
+    (ap (option_map places_of_native) (native_at-member h (IsWellFormed-distinct h w) f.0 f.1)) (native_places-shape f.0))
+    (λ f. moved f.0.name (shape_of_held_script f.0) (places_of_script f.0) f.2 f.3 (of_script f.0 f.1 f.0.name refl (w.kinds f.0 f.1)) (script_places-shape f.0 (w.kinds f.0 f.1)))
+    (shape_at-found h x s e)
+  where
+    of_script : (o : HeapScript) → Among o h.scripts → (z : Name) → o.name ≡ z → FitsName z o.kind o.slots → places_in h z ≡ Some (places_of_script o)
+    of_script o i (name.Native k) q f = absurd f
+    of_script o i (name.Script k) q f = ap (option_map places_of_script) (subst (λ v. script_at h v ≡ Some o) q (script_at-member h w o i))
+    of_script o i (name.Reflector k) q f = ap (option_map places_of_script) (subst (λ v. script_at h v ≡ Some o) q (script_at-member h w o i))
+
+    moved : (z : Name) (t : Shape) (places : Slots) → z ≡ x → t ≡ s → places_in h z ≡ Some places → contents places ≡ edges_of_shape z t →
+        contents (slots_or_none (places_in h x)) ≡ edges_of_shape x s
+    moved z t places p q there held = subst (λ v. contents (slots_or_none (places_in h v)) ≡ edges_of_shape v s) p
+        (subst (λ u. contents (slots_or_none (places_in h z)) ≡ edges_of_shape z u) q (ap (λ o. contents (slots_or_none o)) there ∙ held))
 
 -- AN EDGE OF THE FLAT VIEW is one of an object that is there.
 pub edge-held : (h : Heap) → IsWellFormed h → (x y : Name) → Among (x, y) (view h).edges → (s : Shape) × (shape_at h x ≡ Some s) × Among y (edges_of_shape x s)

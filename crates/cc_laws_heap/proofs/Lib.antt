@@ -82,4 +82,7 @@ pub mod Wrapping
 pub mod ReachedReads
 pub mod StepsAlike
 pub mod CommandsStand
+pub mod GraphLeads
+pub mod WalksAlike
+pub mod LedReached
 pub mod Face

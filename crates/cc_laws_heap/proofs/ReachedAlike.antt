@@ -52,12 +52,12 @@ reached-there h g x s d = let k = s.reached x d in shape_at-there h x k.shape k.
 
 module _ (h : Heap) (g : Graph) (w : IsWellFormed h) (m : IsWellMade g) (s : StandsFor h g) where
   -- the entry of a reached map and a reached key is there
-  here : (e : Entry) → Among e g.entries → Reached g e.the_map → Reached g e.key →
+  pub here : (e : Entry) → Among e g.entries → Reached g e.the_map → Reached g e.key →
       (f : Entry) × Among f h.entries × (f.the_map ≡ e.the_map) × (f.key ≡ e.key) × (f.value ≡ e.value)
   here e i a b = found-among h.entries e.the_map e.key e.value (s.values e.the_map e.key a b ∙ found-only g.entries e (m.one_entry e.the_map e.key) i)
 
   -- entries of one key have one delegate
-  same_delegate : (e : Entry) → Among e g.entries → (f : Entry) → Among f h.entries → f.key ≡ e.key → f.delegate ≡ e.delegate
+  pub same_delegate : (e : Entry) → Among e g.entries → (f : Entry) → Among f h.entries → f.key ≡ e.key → f.delegate ≡ e.delegate
   same_delegate e i f j q = (m.entries f (ArePart-among h.entries g.entries f s.entries j)).delegate ∙ (ap (delegate_in g) q ∙ sym (m.entries e i).delegate)
 
   -- it is reached there

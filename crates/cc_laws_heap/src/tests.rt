@@ -17,4 +17,6 @@ fn laws_can_be_called() {
     graphs_are_well_made();
     reached_alike();
     commands_stand();
+    paths_are_right();
+    paths_agree();
 }

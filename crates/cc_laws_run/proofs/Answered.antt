@@ -9,7 +9,7 @@ use Rattle.cc_names.specs.declared.name.Name.TheVariants as name
 use Rattle.cc_names.specs.declared.register.Reg.TheVariants.{N, S}
 use Rattle.cc_names.specs.Names.{native, same_name, number_of}
 use Rattle.cc_model.specs.declared.command.Command.{Command}
-use Rattle.cc_model.specs.declared.command.Command.TheVariants.{Version2, Native, Script, WeakMap, Proxy, SetEntry, Wrap, Slice, Collect}
+use Rattle.cc_model.specs.declared.command.Command.TheVariants.{Version2, Why, Native, Script, WeakMap, Proxy, SetEntry, Wrap, Slice, Collect}
 use Rattle.cc_model.specs.declared.item.Event.{Event}
 use Rattle.cc_model.specs.declared.item.Refusal.{Refusal}
 use Rattle.cc_model.specs.declared.item.Refusal.TheVariants.{NoMemory}
@@ -26,9 +26,9 @@ use Rattle.cc_model.specs.Heap.{Heap, objects_of, has_reflector}
 use Rattle.cc_model.specs.Effects.{effects, takes_memory, lacks_reflector}
 use Rattle.cc_model.specs.WellFormed.{native_names, script_names}
 use Rattle.cc_model.specs.Counts.{times}
-use Rattle.cc_model.specs.Lawful.{State, AnswersAsk, AnswersCommand, ReplyAnswers, EachMayBe, may_want_memory, is_listed, is_refused, is_abandoning, has_none, has_abandonment_in_place, runs, runs_allowed, unlinked_numbers}
+use Rattle.cc_model.specs.Lawful.{State, AnswersAsk, Explains, AnswersCommand, ReplyAnswers, EachMayBe, may_want_memory, is_listed, is_refused, is_abandoning, has_none, has_abandonment_in_place, runs, runs_allowed, unlinked_numbers}
 use Rattle.cc_model.specs.Collecting.{Machine}
-use Rattle.cc_model.specs.Run.{Turn, mutate, do_ask}
+use Rattle.cc_model.specs.Run.{Turn, mutate, explain, do_ask}
 use Rattle.cc_laws_heap.proofs.Freed.{freed_event}
 use Rattle.cc_laws_heap.proofs.EndingEvents.{TellsOf-freed}
 use Rattle.cc_laws_heap.proofs.NameLists.{same_name-other}
@@ -36,11 +36,12 @@ use Rattle.cc_laws_heap.proofs.References.{times-some, times-cons_same, times-co
 use Rattle.cc_laws_heap.proofs.RepliesAlike.{refusal_of-alike, reply_if_taken-alike, objects-stand}
 use Rattle.cc_laws_heap.proofs.Taken.{IsTaken-from}
 use Rattle.cc_laws_heap.proofs.CommandsStand.{freed-unreached}
+use Rattle.cc_laws_heap.proofs.WalksAlike.{why-alike}
 use Rattle.cc_laws_run.specs.Running.{IsRunning, ask_in_range, moves_no_collection}
 use Rattle.cc_laws_run.proofs.Listing.{AreListed, native-listed, length-census_order}
 use Rattle.cc_laws_run.proofs.NamesAfter.{NamesAfter, made_natives, made_scripts, effects-names}
 use Rattle.cc_laws_run.proofs.ListedAfter.{AreListed-heap, has-listed_reflector, made-not_freed}
-use Rattle.cc_laws_run.proofs.CommandCases.{mutate-cases, taken-not_refused, graph_after-taken}
+use Rattle.cc_laws_run.proofs.CommandCases.{mutate-cases, explain-cases, taken-not_refused, graph_after-taken}
 
 -- the heaps refuse what the graph refuses
 pub refusals-agree : (m : Machine) (s : State) (c : Command) → IsRunning m s → refusal_of (graph.objects_of s.graph) c ≡ refusal_of (objects_of m.heap) c
@@ -158,20 +159,27 @@ done-answers m s c r i e t = record {
 
 -- A command of the mutator is answered lawfully.
 mutate-answers : (m : Machine) (s : State) (c : Command) → IsRunning m s → IsTrue (in_range c) → IsTrue (moves_no_collection (taken c)) →
-    ((mutate m c).answer.listed ≡ []) × ReplyAnswers s c (mutate m c).answer (mutate m c).answer.reply
-mutate-answers m s c r i t = mutate-cases m c (λ (u : Turn). (u.answer.listed ≡ []) × ReplyAnswers s c u.answer u.answer.reply)
-    (λ refusal e. (refl, refused-answers s c refusal (refusals-agree m s c r ∙ e) t))
-    (λ e f. (refl, unmet-answers m s c r e f t))
-    (λ e memory. (refl, done-answers m s c r i e t))
+    ((mutate m c).answer.listed ≡ []) × ((mutate m c).answer.steps ≡ []) × ReplyAnswers s c (mutate m c).answer (mutate m c).answer.reply
+mutate-answers m s c r i t = mutate-cases m c (λ (u : Turn). (u.answer.listed ≡ []) × (u.answer.steps ≡ []) × ReplyAnswers s c u.answer u.answer.reply)
+    (λ refusal e. (refl, refl, refused-answers s c refusal (refusals-agree m s c r ∙ e) t))
+    (λ e f. (refl, refl, unmet-answers m s c r e f t))
+    (λ e memory. (refl, refl, done-answers m s c r i e t))
 
 -- the line that asks for a version is answered as if it were the mutator's
 version-answered : (m : Machine) → mutate m Version2 ≡ do_ask m (taken Version2)
 unfolding mutate do_ask refusal_of effects reply_if_taken
 version-answered m = refl
 
+-- `why` is answered as the graph answers it
+explain-answers : (m : Machine) (s : State) (x : Name) → IsRunning m s → Explains s.graph x (explain m x).answer
+explain-answers m s x r = explain-cases m x (λ (u : Turn). Explains s.graph x u.answer)
+    (inl (why-alike m.heap s.graph r.sound.well_formed r.well_made r.stands x))
+    (inr refl)
+
 -- EACH ASK THAT MOVES NO COLLECTION IS ANSWERED LAWFULLY.
 pub ask-answers : (m : Machine) (s : State) (ask : Ask) → IsRunning m s → IsTrue (ask_in_range ask) → IsTrue (moves_no_collection ask) →
     AnswersAsk s ask (do_ask m ask).answer
 unfolding do_ask
-ask-answers m s (taken Version2) r i t = subst (λ (u : Turn). (u.answer.listed ≡ []) × ReplyAnswers s Version2 u.answer u.answer.reply) (version-answered m) (mutate-answers m s Version2 r i t)
+ask-answers m s (taken Version2) r i t = subst (λ (u : Turn). (u.answer.listed ≡ []) × (u.answer.steps ≡ []) × ReplyAnswers s Version2 u.answer u.answer.reply) (version-answered m) (mutate-answers m s Version2 r i t)
+ask-answers m s (taken (Why x)) r i t = explain-answers m s x r
 ask-answers m s ask r i t = grind (arith, length-census_order, mutate-answers)

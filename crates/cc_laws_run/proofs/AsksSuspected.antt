@@ -2,7 +2,7 @@
 use Rattle.std.specs.Prelude.{IsTrue}
 use Rattle.std.proofs.Common.{ℕ, [], refl, sym, subst}
 use Rattle.cc_model.specs.declared.command.Command.{Command}
-use Rattle.cc_model.specs.declared.command.Command.TheVariants.{Nothing, Version2, Slice, Collect, Gc, Census}
+use Rattle.cc_model.specs.declared.command.Command.TheVariants.{Nothing, Version2, Why, Slice, Collect, Gc, Census}
 use Rattle.cc_model.specs.Asks.{Ask, taken}
 use Rattle.cc_model.specs.Ranges.{in_range}
 use Rattle.cc_model.specs.View.{view}
@@ -16,7 +16,7 @@ use Rattle.cc_laws_run.specs.Doomed.{candidates_now, IsSuspectedNow}
 use Rattle.cc_laws_run.specs.Running.{IsRunning, ask_in_range}
 use Rattle.cc_laws_snapshot.proofs.CommandsSuspected.{effects-suspected}
 use Rattle.cc_laws_snapshot.proofs.SweepLoses.{collect_scripts-suspected}
-use Rattle.cc_laws_run.proofs.CommandCases.{mutate-cases}
+use Rattle.cc_laws_run.proofs.CommandCases.{mutate-cases, explain-cases}
 use Rattle.cc_laws_run.proofs.HoldingUnits.{unless_stopped-cases}
 use Rattle.cc_laws_run.proofs.QuietUnits.{IsGoing, units-going, IsGoingOn, gc-collects, finish_running-going, running-going}
 
@@ -66,5 +66,6 @@ ask-suspected m s (taken Gc) r i t = gc-suspected m s r t
 ask-suspected m s (taken Nothing) r i t = t
 ask-suspected m s (taken Version2) r i t = t
 ask-suspected m s (taken Census) r i t = t
+ask-suspected m s (taken (Why x)) r i t = explain-cases m x (λ (u : Turn). IsSuspectedNow u.machine) t t
 ask-suspected m s (taken c) r i t = mutate-suspected m c r.sound i t
 ask-suspected m s _ r i t = t

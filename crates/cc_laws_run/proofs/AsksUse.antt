@@ -1,7 +1,8 @@
 -- WHAT AN ASK USES of memory's answers: a front of them, with one `no` for each that its answer tells; and where memory is at every place, none is told.
 use Rattle.std.proofs.Common.{◌≡◌, ℕ, Bool, true, false, not, List, [], ◌∷◌, ◌++◌, Option, Some, None, refl, sym, ap, subst, arith}
+use Rattle.cc_names.specs.declared.name.Name.{Name}
 use Rattle.cc_model.specs.declared.command.Command.{Command}
-use Rattle.cc_model.specs.declared.command.Command.TheVariants.{Nothing, Version2, Slice, Collect, Gc, Census}
+use Rattle.cc_model.specs.declared.command.Command.TheVariants.{Nothing, Version2, Why, Slice, Collect, Gc, Census}
 use Rattle.cc_model.specs.declared.item.Refusal.{Refusal}
 use Rattle.cc_model.specs.declared.item.Refusal.TheVariants.{NoMemory}
 use Rattle.cc_model.specs.declared.item.Reply.{Reply}
@@ -13,7 +14,8 @@ use Rattle.cc_model.specs.Heap.{objects_of}
 use Rattle.cc_model.specs.Effects.{effects, takes_memory}
 use Rattle.cc_model.specs.End.{Progress}
 use Rattle.cc_model.specs.Collecting.{Machine, next_answer, later_answers, UnitsDone, no_units, slice, collect, gc, reply_to_units}
-use Rattle.cc_model.specs.Run.{Turn, answering, with_effects, if_granted, unless_refused, mutate, after_units, after_gc, do_ask}
+use Rattle.cc_model.specs.Run.{Turn, answering, with_effects, if_granted, unless_refused, mutate, after_units, after_gc, explain, do_ask}
+use Rattle.cc_model.specs.Derivations.{leads_in, is_led_to, done_or_nothing, why_of}
 use Rattle.cc_laws_run.specs.Memory.{with_memory, noes, noes_of_reply, noes_told}
 use Rattle.cc_laws_run.proofs.Unabandoned.{abandonments, TellsNone, effects-none}
 use Rattle.cc_laws_run.proofs.CommandCases.{taken-granted}
@@ -122,6 +124,40 @@ silent-use : (m : Machine) (a : Answer) → noes_of_reply a.reply ≡ 0 → Tell
     TurnUse (λ memory. record { machine = with_memory m memory; answer = a }) in_reply m.memory (record { machine = m; answer = a })
 silent-use m a reply events = record { used = []; any = λ more. refl; said_no = sym reply; ample = λ e. record { same = refl; memory = e; reply = reply; events = events } }
 
+-- `why` uses one answer
+explain-use : (m : Machine) (x : Name) → TurnUse (λ memory. explain (with_memory m memory) x) in_reply m.memory (explain m x)
+explain-use m x = record {
+  used = next_answer m.memory ∷ [];
+  any = λ more. any (next_answer m.memory) (later_answers m.memory) more;
+  said_no = said_no (next_answer m.memory) (later_answers m.memory);
+  ample = λ e. subst (λ b. HasAmple (answered true []) (answered b (later_answers m.memory))) (sym (ample-next m.memory e))
+      (record { same = refl; memory = ample-later m.memory e; reply = replies; events = refl });
+}
+  where
+    told : Answer
+    told = why_of (leads_in m.heap) x
+
+    replies : noes_of_reply told.reply ≡ 0
+    replies = go (is_led_to (leads_in m.heap) x)
+      where
+        go : (b : Bool) → noes_of_reply (Some (done_or_nothing b)) ≡ 0
+        go true = refl
+        go false = refl
+
+    answered : Bool → List Bool → Turn
+    answered answer memory = elim answer [
+      | true ↦ record { machine = with_memory m memory; answer = told }
+      | false ↦ answering (with_memory m memory) [] (Refused NoMemory)
+    ]
+
+    any : (answer : Bool) (memory more : List Bool) → answered answer more ≡ turn_with (answered answer memory) more
+    any true memory more = refl
+    any false memory more = refl
+
+    said_no : (answer : Bool) (memory : List Bool) → noes (answer ∷ []) ≡ in_reply (answered answer memory).answer
+    said_no true memory = sym replies
+    said_no false memory = refl
+
 -- AN ASK USES A FRONT OF MEMORY'S ANSWERS.
 pub ask-use : (m : Machine) (ask : Ask) → TurnUse (λ memory. do_ask (with_memory m memory) ask) (noes_told ask) m.memory (do_ask m ask)
 unfolding do_ask
@@ -131,5 +167,6 @@ ask-use m (taken Gc) = after_gc-use (λ memory. gc (with_memory m memory)) m (gc
 ask-use m (taken Nothing) = silent-use m _ refl refl
 ask-use m (taken Version2) = silent-use m _ refl refl
 ask-use m (taken Census) = silent-use m _ refl refl
+ask-use m (taken (Why x)) = explain-use m x
 ask-use m (taken c) = mutate-use m c
 ask-use m _ = silent-use m _ refl refl

@@ -83,7 +83,7 @@ module _ (s : State) (c : Command) (t : MovesUnits s c) where
 pub slice-answers : (m : Machine) (s : State) (u : ℕ) → IsRunning m s → AnswersAsk s (taken (Slice u)) (do_ask m (taken (Slice u))).answer
 unfolding do_ask
 slice-answers m s u r =
-    (refl, row-answers s (Slice u) (slice-moves s u) (slice u m) (slice-lawful s.graph r.well_made (Slice u) refl s.listed u m (running-on m s r)))
+    (refl, refl, row-answers s (Slice u) (slice-moves s u) (slice u m) (slice-lawful s.graph r.well_made (Slice u) refl s.listed u m (running-on m s r)))
 
 -- and leaves a machine that runs.
 pub slice-runs : (m : Machine) (s : State) (u : ℕ) → IsRunning m s →
@@ -98,7 +98,7 @@ slice-runs m s u r = runs-from (slice u m).machine (next s (taken (Slice u)) (re
 pub collect-answers : (m : Machine) (s : State) → IsRunning m s → AnswersAsk s (taken Collect) (do_ask m (taken Collect)).answer
 unfolding do_ask
 collect-answers m s r =
-    (refl, row-answers s Collect (collect-moves s) (collect m) (collect-lawful s.graph r.well_made Collect refl s.listed m (running-on m s r)))
+    (refl, refl, row-answers s Collect (collect-moves s) (collect m) (collect-lawful s.graph r.well_made Collect refl s.listed m (running-on m s r)))
 
 -- and leaves a machine that runs.
 pub collect-runs : (m : Machine) (s : State) → IsRunning m s →
@@ -121,6 +121,7 @@ pub gc-answers : (m : Machine) (s : State) → IsRunning m s → AnswersAsk s (t
 unfolding do_ask
 gc-answers m s r =
     let l : GcIsLawful s.graph s.listed (gc m) = gc-lawful s.graph r.well_made s.listed m (running-on m s r) in (
+      refl,
       refl,
       record {
         replies = inl (gc-done s).0;

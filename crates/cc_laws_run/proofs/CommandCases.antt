@@ -16,7 +16,8 @@ use Rattle.cc_model.specs.Effects.{effects, takes_memory}
 use Rattle.cc_model.specs.Listed.{listed}
 use Rattle.cc_model.specs.Lawful.{State, next, graph_after, is_refused, is_without_memory}
 use Rattle.cc_model.specs.Collecting.{Machine, later_answers}
-use Rattle.cc_model.specs.Run.{Turn, answering, with_effects, mutate}
+use Rattle.cc_model.specs.Derivations.{leads_in, why_of}
+use Rattle.cc_model.specs.Run.{Turn, answering, with_effects, mutate, explain}
 
 -- Whatever holds where the command is refused, where it wants memory and where it is done, holds of the turn.
 pub mutate-cases : (m : Machine) (c : Command) (P : Turn → Type 0) →
@@ -27,6 +28,12 @@ pub mutate-cases : (m : Machine) (c : Command) (P : Turn → Type 0) →
     P (mutate m c)
 unfolding mutate
 mutate-cases m c P refused unmet done = grind arith
+
+-- Whatever holds where a way is told and where memory is wanted holds of the turn that answers `why`.
+pub explain-cases : (m : Machine) (x : Name) (P : Turn → Type 0) →
+    P (record { machine = record m { memory = later_answers m.memory }; answer = why_of (leads_in m.heap) x }) →
+    P (answering (record m { memory = later_answers m.memory }) [] (Refused NoMemory)) → P (explain m x)
+explain-cases m x P told unmet = grind arith
 
 -- Replies
 

@@ -7,7 +7,7 @@ use Rattle.std.proofs.lemmas.Bool.{false≢true, and_parts}
 use Rattle.cc_lists.specs.Members.{Among}
 use Rattle.cc_names.specs.declared.name.Name.{Name}
 use Rattle.cc_model.specs.declared.command.Command.{Command}
-use Rattle.cc_model.specs.declared.command.Command.TheVariants.{Nothing, Version2, Slice, Collect, Gc, Census}
+use Rattle.cc_model.specs.declared.command.Command.TheVariants.{Nothing, Version2, Why, Slice, Collect, Gc, Census}
 use Rattle.cc_model.specs.declared.item.Event.{Event}
 use Rattle.cc_model.specs.declared.item.Event.TheVariants.{Abandoned}
 use Rattle.cc_model.specs.Asks.{Ask, taken}
@@ -28,7 +28,7 @@ use Rattle.cc_laws_run.specs.Doomed.{IsDoomed, IsDoomedNow, IsSuspectedNow, Keep
 use Rattle.cc_laws_run.specs.Followed.{first_units, first_collection}
 use Rattle.cc_laws_run.specs.Missing.{MissesNone, begins_one, lost}
 use Rattle.cc_laws_run.specs.Spent.{IsSpent}
-use Rattle.cc_laws_run.proofs.CommandCases.{mutate-cases}
+use Rattle.cc_laws_run.proofs.CommandCases.{mutate-cases, explain-cases}
 use Rattle.cc_laws_run.proofs.TouchedCommands.{doomed-effects}
 use Rattle.cc_laws_run.proofs.DoomedBegin.{collected-doomed}
 use Rattle.cc_laws_run.proofs.CollectionsLawful.{running-on, slice-runs, collect-runs, gc-runs}
@@ -130,6 +130,7 @@ ask-follows m s (taken Gc) ds r keeps d = gc-follows m s ds r d
 ask-follows m s (taken Nothing) ds r keeps d = (refl, d)
 ask-follows m s (taken Version2) ds r keeps d = (refl, d)
 ask-follows m s (taken Census) ds r keeps d = (refl, d)
+ask-follows m s (taken (Why x)) ds r keeps d = (refl, explain-cases m x (λ (u : Turn). IsDoomedNow u.machine ds) d d)
 ask-follows m s (taken c) ds r keeps d = (refl, mutate-follows m c ds r.sound keeps d)
 ask-follows m s _ ds r keeps d = (refl, d)
 

@@ -10,7 +10,7 @@ use Rattle.cc_model.specs.declared.command.Command.{Command}
 use Rattle.cc_model.specs.declared.command.Command.TheVariants as command
 use Rattle.cc_model.specs.Ranges.{is_register, are_registers, is_source, is_script_source, is_slots, in_range}
 use Rattle.cc_model.specs.Lines.{lines_of, without_return}
-use Rattle.cc_model.specs.Tokens.{tokens_of, is_digit_within, digits_from, number_within, number, slots_number, units_number, register_with, native_register, script_register}
+use Rattle.cc_model.specs.Tokens.{tokens_of, is_digit_within, digits_from, number_within, number, slots_number, units_number, register_with, native_register, script_register, object_name}
 use Rattle.cc_model.specs.declared.dialect.Dialect.{Dialect}
 use Rattle.cc_model.specs.declared.dialect.Dialect.TheVariants.{Start, One, Two}
 use Rattle.cc_model.specs.Dialects.{registers_of, slots_of}
@@ -205,7 +205,9 @@ forms-in_range : (v : Dialect) → EachInRange (forms_of v)
 forms-in_range Start = one-in_range Any (λ _. command.Version2) version_two (λ t. Has-any (version_two t)) (λ _ p. refl) also common-in_range Start
 forms-in_range One = common-in_range One
 forms-in_range Two = four-in_range IsRegister Any IsRegister Any command.Move (native_register Two) number (native_register Two) number
-    (native-below Two) any-number (native-below Two) any-number (λ d i s j p q r t. two_registers d s p r) also common-in_range Two
+    (native-below Two) any-number (native-below Two) any-number (λ d i s j p q r t. two_registers d s p r)
+    also one-in_range Any command.Why object_name (λ t. Has-any (object_name t)) (λ x p. refl)
+    also common-in_range Two
 
 -- Lines
 

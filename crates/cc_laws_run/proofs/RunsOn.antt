@@ -1,10 +1,11 @@
 -- A MACHINE THAT RUNS GOES ON RUNNING after each ask that moves no collection; the empty machine runs.
-use Rattle.std.proofs.Common.{◌≡◌, Bool, List, [], Option, Some, None, refl, sym, ◌∙◌, subst, arith}
+use Rattle.std.proofs.Common.{◌≡◌, Bool, true, false, List, [], Option, Some, None, refl, sym, ◌∙◌, subst, arith}
 use Rattle.std.specs.Prelude.{IsTrue}
 use Rattle.std.proofs.lemmas.Bool.{false≢true}
 use Rattle.cc_names.specs.Allowance.{Allowance}
+use Rattle.cc_names.specs.declared.name.Name.{Name}
 use Rattle.cc_model.specs.declared.command.Command.{Command}
-use Rattle.cc_model.specs.declared.command.Command.TheVariants.{Nothing, Version2, Slice, Collect, Gc, Census}
+use Rattle.cc_model.specs.declared.command.Command.TheVariants.{Nothing, Version2, Why, Slice, Collect, Gc, Census}
 use Rattle.cc_model.specs.Asks.{Ask, taken}
 use Rattle.cc_model.specs.Ranges.{in_range}
 use Rattle.cc_model.specs.Checks.{refusal_of, reply_if_taken}
@@ -18,9 +19,10 @@ use Rattle.cc_model.specs.WellFormed.{IsWellFormed, native_names, script_names}
 use Rattle.cc_model.specs.Effects.{effects}
 use Rattle.cc_model.specs.Snapshot.{Snapshot}
 use Rattle.cc_model.specs.Listed.{listed}
-use Rattle.cc_model.specs.Lawful.{State, start, next}
+use Rattle.cc_model.specs.Lawful.{State, start, next, graph_after}
 use Rattle.cc_model.specs.Collecting.{Machine, empty_machine, later_answers}
-use Rattle.cc_model.specs.Run.{Turn, with_effects, mutate, do_ask}
+use Rattle.cc_model.specs.Derivations.{leads_in, is_led_to, done_or_nothing}
+use Rattle.cc_model.specs.Run.{Turn, with_effects, mutate, explain, do_ask}
 use Rattle.cc_laws_heap.specs.Sound.{IsSound}
 use Rattle.cc_laws_heap.proofs.Taken.{IsTaken, IsTaken-from}
 use Rattle.cc_laws_heap.proofs.CommandsSound.{effects-sound}
@@ -33,7 +35,7 @@ use Rattle.cc_laws_run.specs.Running.{IsRunning, IsFreshNow, ask_in_range, moves
 use Rattle.cc_laws_run.proofs.Listing.{AreListed-census}
 use Rattle.cc_laws_run.proofs.NamesAfter.{effects-names}
 use Rattle.cc_laws_run.proofs.ListedAfter.{made-not_freed, effects-listed}
-use Rattle.cc_laws_run.proofs.CommandCases.{mutate-cases, graph_after-taken, next-refused, next-unmet}
+use Rattle.cc_laws_run.proofs.CommandCases.{mutate-cases, explain-cases, graph_after-taken, next-refused, next-unmet}
 use Rattle.cc_laws_run.proofs.Answered.{refusals-agree, running-listed}
 
 -- The empty machine
@@ -102,7 +104,7 @@ mutate-runs m s c r i = mutate-cases m c (λ (u : Turn). IsRunning u.machine (ne
     (λ e f. subst (λ z. IsRunning (record m { memory = later_answers m.memory }) z) (sym (next-unmet s c)) (with_memory-runs m s (later_answers m.memory) r))
     (λ e memory. done-runs m s c memory r i e)
 
--- a census leaves the graph, and so does the line that asks for a version
+-- a census leaves the graph, and so do the line that asks for a version and `why`
 step-census : (g : Graph) → step g Census ≡ g
 unfolding changed
 step-census g = grind arith
@@ -111,12 +113,30 @@ step-version : (g : Graph) → step g Version2 ≡ g
 unfolding changed
 step-version g = grind arith
 
+step-why : (g : Graph) (x : Name) → step g (Why x) ≡ g
+unfolding changed
+step-why g x = grind arith
+
+-- `why` leaves a machine that runs
+explain-runs : (m : Machine) (s : State) (x : Name) → IsRunning m s → IsRunning (explain m x).machine (next s (taken (Why x)) (explain m x).answer)
+explain-runs m s x r = explain-cases m x (λ (u : Turn). IsRunning u.machine (next s (taken (Why x)) u.answer))
+    (subst (λ g. IsRunning (record m { memory = later_answers m.memory }) (record s { graph = g })) (sym (told (is_led_to (leads_in m.heap) x))) later)
+    (subst (λ z. IsRunning (record m { memory = later_answers m.memory }) z) (sym (next-unmet s (Why x))) later)
+  where
+    later : IsRunning (record m { memory = later_answers m.memory }) s
+    later = with_memory-runs m s (later_answers m.memory) r
+
+    told : (b : Bool) → graph_after s.graph (Why x) (Some (done_or_nothing b)) ≡ s.graph
+    told true = step-why s.graph x
+    told false = step-why s.graph x
+
 -- EACH ASK THAT MOVES NO COLLECTION LEAVES A MACHINE THAT RUNS.
 pub ask-runs : (m : Machine) (s : State) (ask : Ask) → IsRunning m s → IsTrue (ask_in_range ask) → IsTrue (moves_no_collection ask) →
     IsRunning (do_ask m ask).machine (next s ask (do_ask m ask).answer)
 unfolding do_ask
 ask-runs m s (taken Census) r i t = subst (λ g. IsRunning m (record s { graph = g })) (sym (step-census s.graph)) r
 ask-runs m s (taken Version2) r i t = subst (λ g. IsRunning m (record s { graph = g })) (sym (step-version s.graph)) r
+ask-runs m s (taken (Why x)) r i t = explain-runs m s x r
 ask-runs m s (taken (Slice u)) r i t = absurd (false≢true t)
 ask-runs m s (taken Collect) r i t = absurd (false≢true t)
 ask-runs m s (taken Gc) r i t = absurd (false≢true t)

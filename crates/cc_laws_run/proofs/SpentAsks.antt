@@ -6,7 +6,7 @@ use Rattle.std.proofs.lemmas.Bool.{and_parts}
 use Rattle.cc_lists.specs.Members.{Among}
 use Rattle.cc_names.specs.declared.name.Name.{Name}
 use Rattle.cc_model.specs.declared.command.Command.{Command}
-use Rattle.cc_model.specs.declared.command.Command.TheVariants.{Nothing, Version2, Slice, Collect, Gc, Census}
+use Rattle.cc_model.specs.declared.command.Command.TheVariants.{Nothing, Version2, Why, Slice, Collect, Gc, Census}
 use Rattle.cc_model.specs.Asks.{Ask, taken}
 use Rattle.cc_model.specs.Ranges.{in_range}
 use Rattle.cc_model.specs.WellFormed.{IsWellFormed, names_there}
@@ -22,7 +22,7 @@ use Rattle.cc_laws_heap.proofs.CommandsSound.{effects-sound}
 use Rattle.cc_laws_run.specs.Doomed.{KeepsReflectors}
 use Rattle.cc_laws_run.specs.Spent.{IsSpent}
 use Rattle.cc_laws_run.specs.Running.{IsRunning, ask_in_range}
-use Rattle.cc_laws_run.proofs.CommandCases.{mutate-cases}
+use Rattle.cc_laws_run.proofs.CommandCases.{mutate-cases, explain-cases}
 use Rattle.cc_laws_run.proofs.TouchedCommands.{command-leaves}
 use Rattle.cc_laws_run.proofs.CollectionsLawful.{running-on}
 use Rattle.cc_laws_run.proofs.PlainLawful.{any-runs}
@@ -84,6 +84,7 @@ ask-spends m s (taken Gc) ds r i keeps d = gc-spends m s ds r d
 ask-spends m s (taken Nothing) ds r i keeps d = d
 ask-spends m s (taken Version2) ds r i keeps d = d
 ask-spends m s (taken Census) ds r i keeps d = d
+ask-spends m s (taken (Why x)) ds r i keeps d = explain-cases m x (λ (u : Turn). IsSpent u.machine.heap ds) d d
 ask-spends m s (taken c) ds r i keeps d = mutate-spends m c ds r.sound i keeps d
 ask-spends m s _ ds r i keeps d = d
 

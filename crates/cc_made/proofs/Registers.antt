@@ -10,7 +10,7 @@ use Rattle.cc_names.specs.declared.register.Reg.{Reg}
 use Rattle.cc_names.specs.declared.register.Reg.TheVariants.{N, S}
 use Rattle.cc_names.specs.Sizes.{bank_length}
 use Rattle.cc_model.specs.declared.command.Command.{Command}
-use Rattle.cc_model.specs.declared.command.Command.TheVariants.{Nothing, Version2, Native, Script, WeakMap, Proxy, CopyNative, CopyScript, Drop, Set, Get, Move, Put, Take, Wrap, Unwrap, Preserve, SetEntry, GetEntry, Expose, Slice, Collect, Gc, Census}
+use Rattle.cc_model.specs.declared.command.Command.TheVariants.{Nothing, Version2, Native, Script, WeakMap, Proxy, CopyNative, CopyScript, Drop, Set, Get, Move, Put, Take, Wrap, Unwrap, Preserve, SetEntry, GetEntry, Expose, Why, Slice, Collect, Gc, Census}
 use Rattle.cc_model.specs.declared.item.Refusal.{Refusal}
 use Rattle.cc_model.specs.declared.item.Reply.{Reply}
 use Rattle.cc_model.specs.Answers.{Answer}
@@ -169,6 +169,7 @@ changed-kept g (GetEntry d m k) low e = filled g g (S d) _ (same g) low e
 changed-kept g (Expose s i) low e = e
 changed-kept g Nothing low e = e
 changed-kept g Version2 low e = e
+changed-kept g (Why x) low e = e
 changed-kept g (Slice u) low e = e
 changed-kept g Collect low e = e
 changed-kept g Gc low e = e
@@ -196,7 +197,7 @@ next-kept s (taken c) a low e = left-or-changed (HasEmptied 0 0) s.graph c a.rep
 -- a register that is let go is emptied: that wants no memory, and is not refused
 pub drop-done : (s : State) (r : Reg) (a : Answer) → AnswersTaken s (Drop r) a → graph_after s.graph (Drop r) a.reply ≡ set_register s.graph r None
 unfolding changed refusal_of reply_if_taken
-drop-done s r a answered = go a.reply answered.1
+drop-done s r a answered = go a.reply answered.2
   where
     go : (reply : Option Reply) → ReplyAnswers s (Drop r) a reply → graph_after s.graph (Drop r) reply ≡ set_register s.graph r None
     go None p = absurd p

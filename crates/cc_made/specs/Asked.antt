@@ -3,7 +3,7 @@ use Rattle.std.specs.Prelude.{Bool, true, false, List, [], ◌∷◌, Option, So
 use Rattle.cc_names.specs.declared.register.Reg.{Reg}
 use Rattle.cc_names.specs.declared.register.Reg.TheVariants.{N, S}
 use Rattle.cc_model.specs.declared.command.Command.{Command}
-use Rattle.cc_model.specs.declared.command.Command.TheVariants.{Nothing, Version2, Native, Script, WeakMap, Proxy, CopyNative, CopyScript, Drop, Get, Take, Wrap, Unwrap, GetEntry, Collect, Gc, Census}
+use Rattle.cc_model.specs.declared.command.Command.TheVariants.{Nothing, Version2, Why, Native, Script, WeakMap, Proxy, CopyNative, CopyScript, Drop, Get, Take, Wrap, Unwrap, GetEntry, Collect, Gc, Census}
 use Rattle.cc_model.specs.Asks.{Ask, long, bad, taken}
 
 -- a command: no line that is too long or not in the grammar, none that is blank, no comment, and none that asks for a version
@@ -11,6 +11,7 @@ abbrev pub is_command : Ask → Bool
 is_command long = false
 is_command bad = false
 is_command (taken Nothing) = false
+is_command (taken (Why x)) = false
 is_command (taken Version2) = false
 is_command (taken c) = true
 

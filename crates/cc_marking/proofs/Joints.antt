@@ -1,15 +1,15 @@
 -- WHAT ENTRIES GIVE: their joints one by one, and what an entry has to do with the members of one.
 use Rattle.std.specs.Prelude.{IsTrue}
-use Rattle.std.proofs.Common.{◌≡◌, ℕ, ◌==◌, true, ◌||◌, List, [], ◌∷◌, Option, Some, None, refl, sym, ◌∙◌, ap, subst, ⊎_elim}
+use Rattle.std.proofs.Common.{◌≡◌, ℕ, true, List, [], ◌∷◌, Option, Some, None, refl, subst, ⊎_elim, arith}
 use Rattle.std.proofs.lemmas.Bool.{eq-eqb}
 use Rattle.cc_lists.specs.Members.{Among}
 use Rattle.cc_lists.proofs.Members.{Among-append, Among-flat_map, Among-flat_map_cases}
 use Rattle.cc_script.specs.Objects.{Object, is_there}
 use Rattle.cc_weakmaps.specs.Entries.{KeyedEntry}
-use Rattle.cc_weakmaps.specs.Index.{has_object, is_it}
+use Rattle.cc_weakmaps.specs.Index.{has_object}
 use Rattle.cc_weakmaps.proofs.Below.{or-true}
 use Rattle.cc_marking.specs.Joints.{Joint, joint, key_joint, joints_of, joints}
-use Rattle.cc_marking.specs.Marking.{AreEntriesThere, IsEntryThere}
+use Rattle.cc_marking.specs.Marking.{AreEntriesThere}
 
 -- what an entry gives: its value, or its key
 pub data Gives (e : KeyedEntry) : Joint → Type 0 where
@@ -34,20 +34,11 @@ entry-joint es e j m n = Among-flat_map joints_of e j es m n
 
 -- has the joint's first two members
 pub joint-has_map : (e : KeyedEntry) (j : Joint) (key : ℕ) → Gives e j → key ≡ j.the_map → has_object key e ≡ true
-joint-has_map e j key its_value s = ap (λ b. (b || e.key == key) || is_it key e.delegate) (eq-eqb e.the_map key (sym s))
-joint-has_map e j key (its_key d is) s = ap (λ b. (b || e.key == key) || is_it key e.delegate) (eq-eqb e.the_map key (sym s))
+joint-has_map e j key h1 h2 = grind (arith, eq-eqb)
 
 pub joint-has_key : (e : KeyedEntry) (j : Joint) (key : ℕ) → Gives e j → key ≡ j.key → has_object key e ≡ true
-joint-has_key e j key its_value s =
-    ap (λ b. (e.the_map == key || b) || is_it key e.delegate) (eq-eqb e.key key (sym s)) ∙ ap (λ b. b || is_it key e.delegate) (or-true (e.the_map == key))
-joint-has_key e j key (its_key d is) s =
-    ap (λ o. (e.the_map == key || e.key == key) || is_it key o) is
-    ∙ (ap (λ b. (e.the_map == key || e.key == key) || b) (eq-eqb d key (sym s)) ∙ or-true (e.the_map == key || e.key == key))
+joint-has_key e j key h1 h2 = grind (arith, eq-eqb, or-true)
 
 -- what it gives is there
 pub joint-there : (objects : List Object) (es : List KeyedEntry) → AreEntriesThere objects es → (j : Joint) → Among j (joints es) → IsTrue (is_there objects j.value)
-joint-there objects es there j m = let f = joint-entry es j m in given f.0 j (there f.0 f.1) (joint-gives f.0 j f.2)
-  where
-    given : (e : KeyedEntry) (j : Joint) → IsEntryThere objects e → Gives e j → IsTrue (is_there objects j.value)
-    given e j h its_value = h.value
-    given e j h (its_key d is) = h.key
+joint-there objects es there j m = grind (arith, joint-entry, joint-gives)

@@ -1,6 +1,6 @@
 -- THE COLOURS THAT A MARKING LEAVES ARE THE LEAST SETS: the lists of keys have what the rules derive, and no more.
 use Rattle.std.specs.Prelude.{◌↔◌}
-use Rattle.std.proofs.Common.{◌≡◌, ℕ, ◌==◌, Bool, true, false, List, ◌++◌, refl, sym, ⊎_elim, arith}
+use Rattle.std.proofs.Common.{◌≡◌, ℕ, ◌==◌, Bool, true, false, List, ◌++◌, ⊎_elim, arith}
 use Rattle.std.proofs.lemmas.Bool.{true≢false}
 use Rattle.cc_lists.specs.Members.{Among, has}
 use Rattle.cc_lists.proofs.ListWrites.{each-map}
@@ -15,15 +15,11 @@ use Rattle.cc_marking.proofs.Steps.{colour_by_tests}
 
 -- black by the first test
 by_tests-black : (b m : Bool) → (colour_by_tests b m ≡ Black) ↔ (b ≡ true)
-by_tests-black true m = (λ e. refl, λ e. refl)
-by_tests-black false true = (λ e. absurd (cc), λ e. absurd (cc))
-by_tests-black false false = (λ e. absurd (cc), λ e. absurd (cc))
+by_tests-black b m = grind (arith)
 
 -- gray by the second alone
 by_tests-gray : (b m : Bool) → (colour_by_tests b m ≡ Gray) ↔ ((b ≡ false) × (m ≡ true))
-by_tests-gray true m = (λ e. absurd (cc), λ e. absurd (true≢false e.0))
-by_tests-gray false true = (λ e. (refl, refl), λ e. refl)
-by_tests-gray false false = (λ e. absurd (cc), λ e. absurd (true≢false (sym e.1)))
+by_tests-gray b m = grind (arith, true≢false)
 
 module _ (objects : List Object) (entries : List KeyedEntry) (blacks grays : List ℕ) where
   abbrev black : List ℕ

@@ -11,22 +11,7 @@ use Rattle.cc_marking.specs.Looking.{side_left, sides_left}
 -- at first at most three for each entry
 pub sides-all : (looked : ℕ → Bool) (es : List KeyedEntry) → sides_left looked es ≤ 3 * length es
 sides-all looked [] = omega arith
-sides-all looked (e ∷ es) = go (looked e.the_map) (looked e.key) (side-one e.delegate) (sides-all looked es)
-  where
-    side-one : (o : Option ℕ) → side_left looked o ≤ 1
-    side-one None = omega arith
-    side-one (Some k) = one (looked k)
-      where
-        one : (b : Bool) → cond b 0 1 ≤ 1
-        one true = omega arith
-        one false = omega arith
-
-    go : (a b : Bool) → side_left looked e.delegate ≤ 1 → sides_left looked es ≤ 3 * length es →
-        cond a 0 1 + (cond b 0 1 + (side_left looked e.delegate + sides_left looked es)) ≤ 3 * suc (length es)
-    go true true o h = omega (arith, o, h)
-    go true false o h = omega (arith, o, h)
-    go false true o h = omega (arith, o, h)
-    go false false o h = omega (arith, o, h)
+sides-all looked (e ∷ es) = grind (arith, sides-all looked es)
 
 -- one object more: at least as many sides less as it has entries
 pub sides-fewer : (before after : ℕ → Bool) (k : ℕ) (es : List KeyedEntry) → before k ≡ false → ((j : ℕ) → after j ≡ (before j || k == j)) →
@@ -114,32 +99,16 @@ count_below es k (suc n) = test_weight (option_map (has_object k) (slice_get es 
 -- the next place is one of them, and the others are below it
 pub count-next : (es : List KeyedEntry) (k n i : ℕ) → place_below es k n ≡ Some i → count_below es k n ≡ 1 + count_below es k i
 count-next es k zero i e = absurd (cc)
-count-next es k (suc n) i e = go (count-next es k n i) (option_map (has_object k) (slice_get es n)) e
-  where
-    go : (place_below es k n ≡ Some i → count_below es k n ≡ 1 + count_below es k i) → (o : Option Bool) →
-        ◌≡◌ {A = Option ℕ} (elim o [ None ↦ place_below es k n | Some b ↦ elim b [ true ↦ Some n | false ↦ place_below es k n ] ]) (Some i) →
-        test_weight o + count_below es k n ≡ 1 + count_below es k i
-    go ih None f = let rest = ih f in omega (arith, rest)
-    go ih (Some true) f = let same : n ≡ i = cc in ap (λ z. 1 + count_below es k z) same
-    go ih (Some false) f = let rest = ih f in omega (arith, rest)
+count-next es k (suc n) i e = grind (arith, count-next es k n i)
 
 count-cons : (e : KeyedEntry) (es : List KeyedEntry) (k n : ℕ) → count_below (e ∷ es) k (suc n) ≡ cond (has_object k e) 1 0 + count_below es k n
 count-cons e es k zero = refl
-count-cons e es k (suc n) =
-    let ih = count-cons e es k n in
-    omega (arith, ih)
+count-cons e es k (suc n) = grind (arith, count-cons e es k n)
 
 -- none is one where there is no last place
 pub count-none : (es : List KeyedEntry) (k n : ℕ) → place_below es k n ≡ None → count_below es k n ≡ 0
 count-none es k zero e = refl
-count-none es k (suc n) e = go (count-none es k n) (option_map (has_object k) (slice_get es n)) e
-  where
-    go : (place_below es k n ≡ None → count_below es k n ≡ 0) → (o : Option Bool) →
-        ◌≡◌ {A = Option ℕ} (elim o [ None ↦ place_below es k n | Some b ↦ elim b [ true ↦ Some n | false ↦ place_below es k n ] ]) None →
-        test_weight o + count_below es k n ≡ 0
-    go ih None f = let rest = ih f in omega (arith, rest)
-    go ih (Some true) f = absurd (cc)
-    go ih (Some false) f = let rest = ih f in omega (arith, rest)
+count-none es k (suc n) e = grind (arith, count-none es k n)
 
 -- below the end they are all
 pub count-all : (es : List KeyedEntry) (k : ℕ) → count_below es k (length es) ≡ count_by (has_object k) es
@@ -149,16 +118,4 @@ count-all (e ∷ es) k = count-cons e es k (length es) ∙ (ap (λ n. cond (has_
 -- a test that passes more leaves no more sides
 pub sides-less : (before after : ℕ → Bool) (es : List KeyedEntry) → ((k : ℕ) → before k ≡ true → after k ≡ true) → sides_left after es ≤ sides_left before es
 sides-less before after [] more = omega arith
-sides-less before after (e ∷ es) more = omega (arith, sides-less before after es more, side e.the_map, side e.key, it e.delegate)
-  where
-    side : (k : ℕ) → cond (after k) 0 1 ≤ cond (before k) 0 1
-    side k = go (before k) refl (after k) refl
-      where
-        go : (a : Bool) → before k ≡ a → (b : Bool) → after k ≡ b → cond b 0 1 ≤ cond a 0 1
-        go a p true q = omega arith
-        go false p false q = omega arith
-        go true p false q = absurd (true≢false (sym (more k p) ∙ q))
-
-    it : (o : Option ℕ) → side_left after o ≤ side_left before o
-    it None = omega arith
-    it (Some k) = side k
+sides-less before after (e ∷ es) more = grind (arith, true≢false, sides-less before after es more)

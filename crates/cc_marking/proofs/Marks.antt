@@ -1,6 +1,6 @@
 -- WHAT A MARK OVER SLOTS AND ENTRIES COMES TO: how a key comes in, and induction.
 use Rattle.std.specs.Prelude.{◌↔◌, IsTrue}
-use Rattle.std.proofs.Common.{◌≡◌, ℕ, ◌==◌, List, [], ◌∷◌, refl, sym, subst, inl, inr, ⊎_elim}
+use Rattle.std.proofs.Common.{◌≡◌, ℕ, ◌==◌, List, [], refl, sym, subst, inl, inr, arith}
 use Rattle.cc_lists.specs.Members.{Among, has}
 use Rattle.cc_lists.specs.Least.{Least, system}
 use Rattle.cc_lists.proofs.Closure.{closure-decides}
@@ -29,10 +29,7 @@ module _ (objects : List Object) (entries : List KeyedEntry) where
 
   pub marked-value : (keys : List ℕ) (j : Joint) → Among j (joints entries) → IsMarkedFrom objects entries keys j.the_map →
       IsMarkedFrom objects entries keys j.key → IsMarkedFrom objects entries keys j.value
-  marked-value keys j m the_map key = derive-jointly keys (edges objects) (rules_of (joints entries)) (j.the_map ∷ j.key ∷ []) j.value (Among-map rule_of j (joints entries) m)
-      (λ y n. ⊎_elim
-      (λ s. subst (IsMarkedFrom objects entries keys) s the_map)
-      (λ t. ⊎_elim (λ s. subst (IsMarkedFrom objects entries keys) s key) (λ b. absurd b) t) n)
+  marked-value keys j m the_map key = grind (arith, derive-jointly, Among-map)
 
   -- induction
   pub marked-within : (keys : List ℕ) (P : ℕ → Type 0) → ((key : ℕ) → Among key keys → P key) → ((x y : ℕ) → Among (x, y) (edges objects) → P x → P y) →
@@ -65,5 +62,4 @@ marked-alike old new entries keys same key d = subst (λ es. Least (system keys 
 -- What is marked leads to such keys alone.
 pub marked-leads : (objects : List Object) (keys : List ℕ) (x y : ℕ) → Among (x, y) (edges objects) → (entries : List KeyedEntry) →
     IsTrue (has ◌==◌ (keys_marked objects entries keys) x) → IsTrue (has ◌==◌ (keys_marked objects entries keys) y)
-marked-leads objects keys x y edge entries h =
-    (marked-decided objects entries keys y).1 (marked-along objects entries keys x y edge ((marked-decided objects entries keys x).0 h))
+marked-leads objects keys x y edge entries h = grind (arith, marked-decided, marked-along)

@@ -1,14 +1,13 @@
 -- OBJECTS RAISED TO A COLOUR are painted, and raised twice to one colour where they are raised at either time.
-use Rattle.std.proofs.Common.{◌≡◌, ℕ, ◌==◌, Bool, true, false, cond, ◌||◌, List, map, Option, refl, sym, ◌∙◌, ap}
-use Rattle.std.specs.List.{flat_map}
 use Rattle.std.specs.Option.{option_to_list}
+use Rattle.std.specs.List.{flat_map}
+use Rattle.std.proofs.Common.{◌≡◌, ℕ, ◌==◌, Bool, true, false, cond, ◌||◌, List, refl, sym, ◌∙◌, ap, arith, Option, map}
 use Rattle.cc_lists.specs.Members.{has}
 use Rattle.cc_lists.proofs.ListWrites.{flat_map-kept, map-agree}
 use Rattle.cc_names.specs.declared.kind.Colour.{Colour}
-use Rattle.cc_names.specs.declared.kind.Colour.TheVariants.{White, Gray, Black}
-use Rattle.cc_script.specs.Objects.{Object, places_of, with_colour, is_below, raised, raised_among}
-use Rattle.cc_script.specs.Walking.{slot_edges, edges}
-use Rattle.cc_script.proofs.Walks.{risen, risen-key, risen-places}
+use Rattle.cc_script.specs.Objects.{Object, with_colour, is_below, raised, raised_among, places_of}
+use Rattle.cc_script.specs.Walking.{edges, slot_edges}
+use Rattle.cc_script.proofs.Walks.{risen, risen-key, risen-slots, risen-places}
 use Rattle.cc_marking.proofs.Painting.{painted, painted-alike, painted-twice}
 
 -- at least this colour
@@ -20,32 +19,16 @@ abbrev pub raised_to : List ℕ → Colour → Object → Colour
 raised_to keys to o = cond (has ◌==◌ keys o.key) (at_least to o.colour) o.colour
 
 raised-painted : (to : Colour) (o : Object) → raised to o ≡ with_colour (at_least to o.colour) o
-raised-painted to o = go (is_below o.colour to)
-  where
-    go : (b : Bool) → elim b [ true ↦ with_colour to o | false ↦ o ] ≡ with_colour (elim b [ true ↦ to | false ↦ o.colour ]) o
-    go true = refl
-    go false = refl
+raised-painted to o = grind arith
 
 pub risen-painted : (keys : List ℕ) (to : Colour) (o : Object) → risen keys to o ≡ with_colour (raised_to keys to o) o
-risen-painted keys to o = go (has ◌==◌ keys o.key)
-  where
-    go : (b : Bool) → cond b (raised to o) o ≡ with_colour (cond b (at_least to o.colour) o.colour) o
-    go true = raised-painted to o
-    go false = refl
+risen-painted keys to o = grind (arith, raised-painted)
 
 pub raised_among-painted : (keys : List ℕ) (to : Colour) (objects : List Object) → raised_among keys to objects ≡ painted (raised_to keys to) objects
 raised_among-painted keys to objects = map-agree _ _ objects (λ o m. risen-painted keys to o)
 
 at_least-twice : (to colour : Colour) → at_least to (at_least to colour) ≡ at_least to colour
-at_least-twice White White = refl
-at_least-twice White Gray = refl
-at_least-twice White Black = refl
-at_least-twice Gray White = refl
-at_least-twice Gray Gray = refl
-at_least-twice Gray Black = refl
-at_least-twice Black White = refl
-at_least-twice Black Gray = refl
-at_least-twice Black Black = refl
+at_least-twice to colour = grind arith
 
 -- raised at one time and at another
 pub raised-twice : (firsts seconds all : List ℕ) (to : Colour) (objects : List Object) →

@@ -1,6 +1,6 @@
 -- OBJECTS STARTED, one after another: what was looked into stays what was, and only what may be marked gets the colour.
 use Rattle.std.specs.Prelude.{IsTrue, is_some, slice_get}
-use Rattle.std.proofs.Common.{◌≡◌, ℕ, zero, suc, ◌+◌, ◌<◌, ◌≤◌, ◌==◌, Bool, true, false, not, cond, ◌||◌, ◌&&◌, List, [], ◌∷◌, ◌++◌, Option, Some, None, option_map, refl, sym, ◌∙◌, ap, subst, inl, inr, ◌⊎◌, ⊎_elim, arith, count_by}
+use Rattle.std.proofs.Common.{◌≡◌, ℕ, zero, suc, ◌+◌, ◌<◌, ◌≤◌, ◌==◌, Bool, true, false, not, cond, ◌||◌, ◌&&◌, List, [], ◌∷◌, ◌++◌, Option, Some, None, refl, sym, ◌∙◌, ap, subst, inl, inr, ◌⊎◌, ⊎_elim, arith, count_by}
 use Rattle.std.proofs.lemmas.Bool.{and_from, and_parts, or_cases, true≢false, false≢true, eq-eqb, eqb-true}
 use Rattle.std.proofs.lemmas.Bool.Decides.{eqb_tells}
 use Rattle.std.proofs.lemmas.List.{map-id}
@@ -20,7 +20,7 @@ use Rattle.cc_script.proofs.Wholeness.{there-raised}
 use Rattle.cc_weakmaps.specs.Entries.{KeyedEntry}
 use Rattle.cc_weakmaps.specs.Index.{has_object}
 use Rattle.cc_marking.specs.Joints.{Joint, joints, joints_of}
-use Rattle.cc_marking.specs.Levels.{has_at_least, is_at_least}
+use Rattle.cc_marking.specs.Levels.{has_at_least}
 use Rattle.cc_marking.specs.Looking.{with_all_started, with_all_given, with_given, with_given_of, with_joint, with_joints}
 use Rattle.cc_marking.proofs.Joints.{entry-joint}
 use Rattle.cc_marking.proofs.Levels.{at_least-cases, at_least-kept, at_least-risen}
@@ -29,11 +29,7 @@ use Rattle.cc_marking.proofs.Raising.{raised-twice}
 -- a list has what its two parts have
 pub has-append : (xs ys : List ℕ) (key : ℕ) → has ◌==◌ (xs ++ ys) key ≡ (has ◌==◌ xs key || has ◌==◌ ys key)
 has-append [] ys key = refl
-has-append (x ∷ xs) ys key = ap (λ b. x == key || b) (has-append xs ys key) ∙ go (x == key)
-  where
-    go : (b : Bool) → (b || (has ◌==◌ xs key || has ◌==◌ ys key)) ≡ ((b || has ◌==◌ xs key) || has ◌==◌ ys key)
-    go true = refl
-    go false = refl
+has-append (x ∷ xs) ys key = grind (arith, has-append xs ys key)
 
 module _ (to : Colour) where
   -- an object has the colour, and was looked into
@@ -80,29 +76,17 @@ module _ (to : Colour) where
 
   -- what is not lower, and is there, has the colour; what is lower has not
   enough-at_least : (objects : List Object) (key : ℕ) → is_lower to (object_at objects key) ≡ false → IsTrue (is_there objects key) → IsTrue (has_at_least to objects key)
-  enough-at_least objects key = go (object_at objects key)
-    where
-      go : (o : Option Object) → is_lower to o ≡ false → IsTrue (is_some o) → IsTrue (is_at_least to (option_map (λ (z : Object). z.colour) o))
-      go None e there = absurd (false≢true there)
-      go (Some o) e there = ap not e
+  enough-at_least objects key = grind (arith, false≢true)
 
   lower-less : (objects : List Object) (key : ℕ) → is_lower to (object_at objects key) ≡ true → has_at_least to objects key ≡ false
-  lower-less objects key = go (object_at objects key)
-    where
-      go : (o : Option Object) → is_lower to o ≡ true → is_at_least to (option_map (λ (z : Object). z.colour) o) ≡ false
-      go None e = refl
-      go (Some o) e = ap not e
+  lower-less objects key = grind arith
 
   lower-there : (objects : List Object) (key : ℕ) → is_lower to (object_at objects key) ≡ true → IsTrue (is_there objects key)
   lower-there objects key e = let f = lower-some to (object_at objects key) e in ap is_some f.1
 
   -- the one object at a key, as a list
   changed-among : (objects : List Object) (key : ℕ) → change_object objects key (raised to) ≡ raised_among (key ∷ []) to objects
-  changed-among objects key = map-agree _ _ objects (λ o m. ap (λ b. cond b (raised to o) o) (eqb-sym o.key key ∙ same (key == o.key)))
-    where
-      same : (b : Bool) → b ≡ (b || false)
-      same true = refl
-      same false = refl
+  changed-among objects key = grind (arith, map-agree, eqb-sym)
 
   has-one : (key j : ℕ) → IsTrue (has ◌==◌ (key ∷ []) j) → key ≡ j
   has-one key j h = ⊎_elim (λ e. eqb-true key j e) (λ f. absurd (false≢true f)) (or_cases (key == j) false h)
@@ -122,53 +106,17 @@ module _ (to : Colour) where
       one-more j h = ap (λ os. has_at_least to os j) one-raised ∙ at_least-kept (key ∷ []) to to (not_below-self to) m.objects j h
 
       one-here : IsTrue (has_at_least to risen_one.objects key)
-      one-here =
-          ap (λ os. has_at_least to os key) one-raised
-          ∙ at_least-risen (key ∷ []) to to (not_below-self to) m.objects key (lower-there m.objects key low)
-          (has-there ◌==◌ number-exact (key ∷ []) key (inl refl))
+      one-here = grind (arith, one-raised, at_least-risen, not_below-self, lower-there, has-there, number-exact)
 
       one-cases : (j : ℕ) → IsTrue (has_at_least to risen_one.objects j) → IsTrue (has_at_least to m.objects j) ⊎ (key ≡ j)
-      one-cases j h = ⊎_elim (λ a. inl a) (λ b. inr (has-one key j b))
-          (at_least-cases (key ∷ []) to to (not_below-self to) m.objects j (subst (λ os. IsTrue (has_at_least to os j)) one-raised h))
+      one-cases j h = grind (arith, has-one, at_least-cases, not_below-self, one-raised)
 
       -- what waits has the colour, so the one that has not does not wait
       one-absent : IsTidy m → ¬ (Among key m.waiting)
       one-absent tidy n = true≢false (sym (tidy.risen key n) ∙ lower-less m.objects key low)
 
       one-looked : (j : ℕ) → looked risen_one j ≡ looked m j
-      one-looked j = go (has_at_least to m.objects j) refl (has_at_least to risen_one.objects j) refl (key == j) refl
-        where
-          waits : (b : Bool) → (key == j) ≡ b → not (has ◌==◌ (m.waiting ++ key ∷ []) j) ≡ not (has ◌==◌ m.waiting j || (b || false))
-          waits b e = ap not (has-append m.waiting (key ∷ []) j ∙ ap (λ c. has ◌==◌ m.waiting j || (c || false)) e)
-
-          other : (b : Bool) → not (b || false) ≡ not b
-          other true = refl
-          other false = refl
-
-          this : (b : Bool) → not (b || true) ≡ false
-          this true = refl
-          this false = refl
-
-          nothing : (b : Bool) → (b && false) ≡ false
-          nothing true = refl
-          nothing false = refl
-
-          go : (a : Bool) → has_at_least to m.objects j ≡ a → (b : Bool) → has_at_least to risen_one.objects j ≡ b → (c : Bool) → (key == j) ≡ c → looked risen_one j ≡ looked m j
-          go a f b g true h =
-              let same : key ≡ j = eqb-true key j h in
-              let less : has_at_least to m.objects j ≡ false = subst (λ z. has_at_least to m.objects z ≡ false) same (lower-less m.objects key low) in
-              ap (λ z. has_at_least to risen_one.objects j && z) (waits true h ∙ this (has ◌==◌ m.waiting j))
-              ∙ (nothing (has_at_least to risen_one.objects j) ∙ sym (ap (λ z. z && not (has ◌==◌ m.waiting j)) less))
-          go true f b g false h =
-              ap (λ z. z && not (has ◌==◌ risen_one.waiting j)) (one-more j f ∙ sym f)
-              ∙ ap (λ z. has_at_least to m.objects j && z) (waits false h ∙ other (has ◌==◌ m.waiting j))
-          go false f true g false h = ⊎_elim
-              (λ had. absurd (true≢false (sym had ∙ f)))
-              (λ same. absurd (true≢false (sym (eq-eqb key j same) ∙ h)))
-              (one-cases j g)
-          go false f false g false h =
-              ap (λ z. z && not (has ◌==◌ risen_one.waiting j)) (g ∙ sym f)
-              ∙ ap (λ z. has_at_least to m.objects j && z) (waits false h ∙ other (has ◌==◌ m.waiting j))
+      one-looked j = grind (arith, has-append, eqb-true, lower-less, one-more, true≢false, eq-eqb, one-cases)
 
       one-tidy : IsTidy m → IsTidy risen_one
       one-tidy tidy = record {
@@ -213,12 +161,7 @@ module _ (to : Colour) where
 
     -- has the colour
     pub started-here : IsTrue (is_there m.objects key) → IsTrue (has_at_least to next.objects key)
-    started-here there = go (is_lower to (object_at m.objects key)) refl
-      where
-        go : (b : Bool) → is_lower to (object_at m.objects key) ≡ b → IsTrue (has_at_least to next.objects key)
-        go true low = subst (λ (z : Marking). IsTrue (has_at_least to z.objects key)) (sym (raise_key-lower to key m low)) (one-here low)
-        go false enough = subst (λ (z : Marking). IsTrue (has_at_least to z.objects key)) (sym (raise_key-enough to key m enough))
-            (enough-at_least m.objects key enough there)
+    started-here there = grind (arith, raise_key-lower, one-here, raise_key-enough, enough-at_least)
 
   -- Roots
 
@@ -399,13 +342,7 @@ module _ (to : Colour) where
     }
 
     pub front-waits : looked m key ≡ false
-    front-waits =
-        let waits : has ◌==◌ m.waiting key ≡ true = has-there ◌==◌ number-exact m.waiting key (subst (Among key) (sym front) (inl refl)) in
-        ap (λ b. has_at_least to m.objects key && not b) waits ∙ none (has_at_least to m.objects key)
-      where
-        none : (b : Bool) → (b && false) ≡ false
-        none true = refl
-        none false = refl
+    front-waits = grind (arith, has-there, number-exact)
 
     -- it alone is looked into then
     pub left-looked : (j : ℕ) → looked left j ≡ (looked m j || key == j)

@@ -1,6 +1,6 @@
 -- A MARKING IN STEPS: white objects to black, and then to gray.
 use Rattle.std.specs.Prelude.{IsTrue}
-use Rattle.std.proofs.Common.{◌≡◌, ℕ, ◌==◌, Bool, true, false, cond, ◌||◌, not, ◌&&◌, List, ◌++◌, Option, Some, None, refl, sym, ◌∙◌, ap, subst, ⊎_elim}
+use Rattle.std.proofs.Common.{◌≡◌, ℕ, ◌==◌, Bool, true, false, cond, ◌||◌, not, ◌&&◌, List, ◌++◌, refl, sym, ◌∙◌, ap, subst, arith, ⊎_elim}
 use Rattle.std.proofs.lemmas.Bool.{and_parts, or_cases, or_right, false≢true}
 use Rattle.std.proofs.lemmas.Bool.Decides.{same_from_decides}
 use Rattle.cc_lists.specs.Members.{Among, has}
@@ -10,13 +10,13 @@ use Rattle.cc_lists.proofs.Members.{Among-append, Among-left, Among-right, has-a
 use Rattle.cc_lists.proofs.Numbers.{number-exact}
 use Rattle.cc_names.specs.declared.kind.Colour.{Colour}
 use Rattle.cc_names.specs.declared.kind.Colour.TheVariants.{White, Gray, Black}
-use Rattle.cc_script.specs.Objects.{Object, AreWhole, colour_at, is_below, with_colour, whitened, raised_among, colour_by, coloured_by}
+use Rattle.cc_script.specs.Objects.{Object, AreWhole, is_below, with_colour, whitened, raised_among, colour_by, coloured_by}
 use Rattle.cc_script.specs.Staying.{StayThere}
 use Rattle.cc_script.specs.Walking.{slot_edges, edges}
 use Rattle.cc_weakmaps.specs.Entries.{KeyedEntry}
 use Rattle.cc_marking.specs.Marking.{AreEntriesThere, IsMarkedFrom, keys_marked, black_keys, marked_keys, marked_from}
 use Rattle.cc_marking.specs.Joints.{joints, rules_of}
-use Rattle.cc_marking.specs.Levels.{AreFollowed, AreOrdered, has_at_least, is_at_least, is_due, keys_at_least}
+use Rattle.cc_marking.specs.Levels.{AreFollowed, AreOrdered, has_at_least, is_due, keys_at_least}
 use Rattle.cc_marking.proofs.There.{AreThere, StayThere-raised, StayThere-whitened}
 use Rattle.cc_marking.proofs.Painting.{painted, painted-alike, painted-twice}
 use Rattle.cc_marking.proofs.Raising.{at_least, edges-raised, raised_to, raised_among-painted}
@@ -65,9 +65,7 @@ module _ (objects : List Object) (white : List Object) (cleared : white ≡ whit
 
   -- none of them is due
   pub AreFollowed-white : (to : Colour) → is_below White to ≡ true → (entries : List KeyedEntry) → AreFollowed to white entries
-  AreFollowed-white to above entries j m =
-      ap (λ b. (b && has_at_least to white j.key) && not (has_at_least to white j.value))
-      (ap (λ os. has_at_least to os j.the_map) cleared ∙ white-not_at_least to above objects j.the_map)
+  AreFollowed-white to above entries e m = grind (arith, white-not_at_least)
 
 module _ (objects : List Object) (entries : List KeyedEntry) (blacks : List ℕ) (white now : List Object) (cleared : white ≡ whitened objects)
     (blackened : now ≡ raised_among (keys_marked white entries (keys_at_least Black white ++ blacks)) Black white) where
@@ -93,10 +91,7 @@ module _ (objects : List Object) (entries : List KeyedEntry) (blacks : List ℕ)
 
   -- THE GRAY ONES. What has a mark before them is black;
   gray_before : (key : ℕ) → Among key (keys_at_least Gray now) → Among key black
-  gray_before key m = ⊎_elim
-      (λ had. absurd (false≢true (sym (white-not_at_least Gray refl objects key) ∙ subst (λ os. IsTrue (has_at_least Gray os key)) cleared had)))
-      (has-among ◌==◌ number-exact black key)
-      (at_least-cases black Black Gray refl white key (subst (λ os. IsTrue (has_at_least Gray os key)) risen_black (listed-at_least Gray now key m)))
+  gray_before key m = grind (arith, false≢true, white-not_at_least, has-among, number-exact, at_least-cases, risen_black, listed-at_least)
 
   -- and what is black has a mark.
   before_gray : AreWhole objects → AreEntriesThere objects entries → AreThere blacks objects → (key : ℕ) → Among key black → Among key (keys_at_least Gray now)
@@ -165,17 +160,8 @@ module _ (objects : List Object) (entries : List KeyedEntry) (blacks : List ℕ)
 
     -- THE MARKING
     pub marked-by_steps : (end : List Object) → end ≡ raised_among gray Gray now → end ≡ marked_from blacks grays entries objects
-    marked-by_steps end grayed =
-        grayed
-        ∙ (ap (raised_among gray Gray) (risen_black ∙ ap (raised_among black Black) cleared)
-        ∙ colours-in_steps black gray (marked_keys objects entries blacks grays) objects marked-either)
+    marked-by_steps end grayed = grind (arith, risen_black, colours-in_steps, marked-either)
 
 -- what is black is at least gray
 pub black-gray : (objects : List Object) (key : ℕ) → IsTrue (has_at_least Black objects key) → IsTrue (has_at_least Gray objects key)
-black-gray objects key = go (colour_at objects key)
-  where
-    go : (o : Option Colour) → IsTrue (is_at_least Black o) → IsTrue (is_at_least Gray o)
-    go None h = absurd (false≢true h)
-    go (Some White) h = absurd (false≢true h)
-    go (Some Gray) h = refl
-    go (Some Black) h = refl
+black-gray objects key = grind (arith, false≢true)

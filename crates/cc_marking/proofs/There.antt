@@ -1,6 +1,6 @@
 -- WHAT ROOTS AND ENTRIES NAME IS THERE STILL where objects were made white or raised.
 use Rattle.std.specs.Prelude.{IsTrue}
-use Rattle.std.proofs.Common.{◌≡◌, ℕ, List, ◌∙◌, ap}
+use Rattle.std.proofs.Common.{◌≡◌, ℕ, List, ◌∙◌, ap, arith}
 use Rattle.cc_lists.specs.Members.{Among}
 use Rattle.cc_names.specs.declared.kind.Colour.{Colour}
 use Rattle.cc_script.specs.Objects.{Object, is_there, whitened, raised_among}
@@ -25,9 +25,4 @@ module _ (old new : List Object) (stay : StayThere old new) where
   AreThere-stay keys there key m = stay key (there key m)
 
   pub AreEntriesThere-stay : (entries : List KeyedEntry) → AreEntriesThere old entries → AreEntriesThere new entries
-  AreEntriesThere-stay entries there e m = record {
-    the_map = stay e.the_map (there e m).the_map;
-    key = stay e.key (there e m).key;
-    value = stay e.value (there e m).value;
-    delegate = λ d is. stay d ((there e m).delegate d is);
-  }
+  AreEntriesThere-stay entries there e m = grind arith

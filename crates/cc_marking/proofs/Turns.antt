@@ -1,17 +1,15 @@
 -- TURNS OF THE LOOPS of a marking: over roots, over the entries of an object, and what is left to be done after each.
 use Rattle.std.specs.Prelude.{slice_get}
-use Rattle.std.proofs.Common.{◌≡◌, ℕ, zero, suc, ◌+◌, ◌<◌, ◌≤◌, Bool, true, false, ◌&&◌, List, [], ◌∷◌, length, Option, Some, None, option_map, refl, sym, ◌∙◌, ap, subst, inr, arith, count_by}
-use Rattle.cc_lists.specs.Members.{Among}
+use Rattle.std.proofs.Common.{◌≡◌, ℕ, zero, suc, ◌+◌, ◌<◌, ◌≤◌, Bool, true, false, List, [], ◌∷◌, length, Option, Some, None, option_map, refl, sym, ◌∙◌, ap, arith, count_by}
 use Rattle.cc_names.specs.declared.kind.Colour.{Colour}
 use Rattle.cc_script.specs.Objects.{AreWhole, is_there, places_at}
-use Rattle.cc_script.specs.Marking.{Marking, raise_key, raise_each, to_do}
+use Rattle.cc_script.specs.Marking.{Marking, raise_each, to_do}
 use Rattle.cc_script.specs.Underway.{Underway, marks_of, started, with_first_looked_into}
 use Rattle.cc_script.proofs.Raising.{raise_key-spends, raise_each-spends}
 use Rattle.cc_weakmaps.specs.Entries.{KeyedEntry}
 use Rattle.cc_weakmaps.specs.Index.{has_object, IsPlaceOf, place_below}
 use Rattle.cc_weakmaps.proofs.Below.{below-last}
-use Rattle.cc_marking.specs.Joints.{Joint, joints_of}
-use Rattle.cc_marking.specs.Levels.{has_at_least}
+use Rattle.cc_marking.specs.Joints.{Joint}
 use Rattle.cc_marking.specs.Looking.{with_all_started, with_all_given, with_given, with_given_of, with_joint, with_joints}
 use Rattle.cc_marking.proofs.Looked.{count_below, count-all, count-next, count-none}
 use Rattle.cc_marking.proofs.There.{AreThere}
@@ -25,14 +23,7 @@ pub record IsStarting (all : List ℕ) (u : Underway) (left : List ℕ) (v : Und
 
 pub starting-next : (all : List ℕ) (u : Underway) (before left : List ℕ) (key : ℕ) (v w : Underway) → before ≡ key ∷ left → w ≡ started key v →
     ((k : ℕ) → is_there w.objects k ≡ is_there v.objects k) → (AreWhole v.objects → AreWhole w.objects) → IsStarting all u before v → IsStarting all u left w
-starting-next all u before left key v w taken next there whole h = record {
-  started =
-      ap (with_all_started u.to left) (ap marks_of next ∙ ap (λ (c : Colour). raise_key c key (marks_of v)) h.colour)
-      ∙ (sym (ap (λ ks. with_all_started u.to ks (marks_of v)) taken) ∙ h.started);
-  colour = ap (λ (z : Underway). z.to) next ∙ h.colour;
-  live = λ k n. there k ∙ h.live k (subst (Among k) (sym taken) (inr n));
-  whole = whole h.whole;
-}
+starting-next all u before left key v w taken next there whole h = grind (arith)
 
 -- none is left
 pub starting-done : (all : List ℕ) (u : Underway) (left : List ℕ) (v : Underway) → left ≡ [] → IsStarting all u left v → marks_of v ≡ with_all_started u.to all (marks_of u)
@@ -63,18 +54,7 @@ values-next to es object (suc n) i e m f at = go (slice_get es n) refl (λ g. va
 
 pub values-none : (to : Colour) (es : List KeyedEntry) (object n : ℕ) (m : Marking) → place_below es object n ≡ None → with_all_given to es object n m ≡ m
 values-none to es object zero m e = refl
-values-none to es object (suc n) m e = go (slice_get es n) (values-none to es object n m) e
-  where
-    go : (o : Option KeyedEntry) → (place_below es object n ≡ None → with_all_given to es object n m ≡ m) →
-        ◌≡◌ {A = Option ℕ} (elim (option_map (has_object object) o) [ None ↦ place_below es object n | Some b ↦ elim b [ true ↦ Some n | false ↦ place_below es object n ] ]) None →
-        with_all_given to es object n (with_given_of to object o m) ≡ m
-    go None ih f = ih f
-    go (Some d) ih f = each (has_object object d) f
-      where
-        each : (b : Bool) → ◌≡◌ {A = Option ℕ} (elim b [ true ↦ Some n | false ↦ place_below es object n ]) None →
-            with_all_given to es object n (elim b [ true ↦ with_given to d m | false ↦ m ]) ≡ m
-        each true g = absurd (cc)
-        each false g = ih g
+values-none to es object (suc n) m e = grind (arith, values-none to es object n m)
 
 -- the looks at the entries of an object that are left lead where all do, and take as many steps
 pub record IsLooking (to : Colour) (es : List KeyedEntry) (object : ℕ) (u : Underway) (before : ℕ) (v : Underway) (now : ℕ) (place : Option ℕ) : Type 0 where
@@ -88,15 +68,7 @@ pub record IsLooking (to : Colour) (es : List KeyedEntry) (object : ℕ) (u : Un
 
 module _ (to : Colour) (es : List KeyedEntry) (object : ℕ) (u : Underway) (before : ℕ) where
   pub looking-begins : (place : Option ℕ) → place ≡ place_below es object (length es) → AreWhole u.objects → IsLooking to es object u before u before place
-  looking-begins place e whole = record {
-    n = length es;
-    last = e;
-    valued = refl;
-    steps = ap (λ n. before + n) (count-all es object);
-    colour = refl;
-    there = λ k. refl;
-    whole = whole;
-  }
+  looking-begins place e whole = search (count-all)
 
   -- the place is one of the object
   pub looking-place : (v : Underway) (now : ℕ) (place : Option ℕ) (i : ℕ) → place ≡ Some i → IsLooking to es object u before v now place → IsPlaceOf es object i
@@ -106,23 +78,12 @@ module _ (to : Colour) (es : List KeyedEntry) (object : ℕ) (u : Underway) (bef
   pub looking-next : (v : Underway) (now : ℕ) (place : Option ℕ) (i : ℕ) → place ≡ Some i → (e : KeyedEntry) (w : Underway) (next : Option ℕ) → slice_get es i ≡ Some e → next ≡ place_below es object i →
       marks_of w ≡ with_given to e (marks_of v) → w.to ≡ v.to → ((k : ℕ) → is_there w.objects k ≡ is_there v.objects k) → AreWhole w.objects →
       IsLooking to es object u before v now place → IsLooking to es object u before w (now + 1) next
-  looking-next v now place i is e w next at further valued colour there whole h = record {
-    n = i;
-    last = further;
-    valued = ap (with_all_given to es object i) valued ∙ (sym (values-next to es object h.n i e (marks_of v) (sym h.last ∙ is) at) ∙ h.valued);
-    steps = let so_far = h.steps in let one = count-next es object h.n i (sym h.last ∙ is) in omega (arith, so_far, one);
-    colour = colour ∙ h.colour;
-    there = λ k. there k ∙ h.there k;
-    whole = whole;
-  }
+  looking-next v now place i is e w next at further valued colour there whole h = grind (arith, values-next, count-next)
 
   -- all were
   pub looking-done : (v : Underway) (now : ℕ) (place : Option ℕ) → place ≡ None → IsLooking to es object u before v now place →
       (marks_of v ≡ with_all_given to es object (length es) (marks_of u)) × (now ≡ before + count_by (has_object object) es)
-  looking-done v now place is h = (
-    sym (values-none to es object h.n (marks_of v) (sym h.last ∙ is)) ∙ h.valued,
-    let so_far = h.steps in let none = count-none es object h.n (sym h.last ∙ is) in omega (arith, so_far, none),
-  )
+  looking-done v now place is h = grind (arith, values-none, count-none)
 
 -- WHERE NONE WAITS nothing is looked into
 pub none-looked : (to : Colour) (m : Marking) → m.waiting ≡ [] → with_first_looked_into to m ≡ m
@@ -131,23 +92,14 @@ none-looked to m none = ap (λ (ks : List ℕ). elim ks [ [] ↦ m | key ∷ res
 -- WHAT IS LEFT TO BE DONE
 
 joint-spends : (to : Colour) (j : Joint) (m : Marking) → to_do to (with_joint to j m) ≤ to_do to m
-joint-spends to j m = each (has_at_least to m.objects j.the_map && has_at_least to m.objects j.key)
-  where
-    each : (b : Bool) → to_do to (elim b [ true ↦ raise_key to j.value m | false ↦ m ]) ≤ to_do to m
-    each true = raise_key-spends to j.value m
-    each false = omega arith
+joint-spends to j m = grind (arith, raise_key-spends)
 
 joints-spend : (to : Colour) (js : List Joint) (m : Marking) → to_do to (with_joints to js m) ≤ to_do to m
 joints-spend to [] m = omega arith
 joints-spend to (j ∷ js) m = omega (arith, joints-spend to js (with_joint to j m), joint-spends to j m)
 
 value-spends : (to : Colour) (object : ℕ) (o : Option KeyedEntry) (m : Marking) → to_do to (with_given_of to object o m) ≤ to_do to m
-value-spends to object None m = omega arith
-value-spends to object (Some e) m = go (has_object object e)
-  where
-    go : (b : Bool) → to_do to (elim b [ true ↦ with_given to e m | false ↦ m ]) ≤ to_do to m
-    go true = joints-spend to (joints_of e) m
-    go false = omega arith
+value-spends to object o m = grind (arith, joints-spend)
 
 pub values-spend : (to : Colour) (es : List KeyedEntry) (object n : ℕ) (m : Marking) → to_do to (with_all_given to es object n m) ≤ to_do to m
 values-spend to es object zero m = omega arith
@@ -156,8 +108,4 @@ values-spend to es object (suc n) m = omega (arith, values-spend to es object n 
 -- less, once one more was looked into
 pub turn-spends : (to : Colour) (es : List KeyedEntry) (m : Marking) (key : ℕ) (rest : List ℕ) → m.waiting ≡ key ∷ rest → (n : Marking) →
     n ≡ with_all_given to es key (length es) (raise_each to (places_at m.objects key) (record { objects = m.objects; waiting = rest })) → to_do to n < to_do to m
-turn-spends to es m key rest front n e =
-    let after = raise_each to (places_at m.objects key) (record { objects = m.objects; waiting = rest }) in
-    let last : to_do to n ≡ to_do to (with_all_given to es key (length es) after) = ap (to_do to) e in
-    let waits : length m.waiting ≡ suc (length rest) = ap length front in
-    omega (arith, last, waits, values-spend to es key (length es) after, raise_each-spends to (places_at m.objects key) (record { objects = m.objects; waiting = rest }))
+turn-spends to es m key rest front n e = grind (arith, values-spend, raise_each-spends)

@@ -1,7 +1,7 @@
 -- A MARKING IN ONE COLOUR, UNDER WAY: what was looked into leads to what has the colour, over slots and over entries, and
 -- each look at an entry leaves one side of it less. Where none waits any more, all that a mark comes to was raised.
 use Rattle.std.specs.Prelude.{IsTrue}
-use Rattle.std.proofs.Common.{◌≡◌, ℕ, ◌+◌, ◌≤◌, ◌==◌, Bool, true, false, not, cond, ◌||◌, ◌&&◌, List, [], ◌∷◌, ◌++◌, length, Option, Some, None, refl, sym, ◌∙◌, ap, subst, inl, inr, ◌⊎◌, ⊎_elim, arith, count_by}
+use Rattle.std.proofs.Common.{◌≡◌, ℕ, ◌+◌, ◌≤◌, ◌==◌, true, false, ◌||◌, List, [], ◌∷◌, ◌++◌, length, Some, refl, sym, ◌∙◌, ap, subst, inl, inr, ◌⊎◌, ⊎_elim, arith, count_by}
 use Rattle.std.proofs.lemmas.Bool.{and_from, cases_Bool, or_cases, true≢false, eqb-true}
 use Rattle.std.proofs.lemmas.Option.{slice_get_within}
 use Rattle.cc_lists.specs.Members.{Among, has}
@@ -9,7 +9,7 @@ use Rattle.cc_lists.proofs.ListWrites.{map-agree}
 use Rattle.cc_lists.proofs.Members.{Among-append, Among-left, Among-right}
 use Rattle.cc_lists.proofs.Places.{among-place}
 use Rattle.cc_names.specs.declared.kind.Colour.{Colour}
-use Rattle.cc_script.specs.Objects.{Object, HaveOwnKeys, object_at, is_there, places_at, places_or_none, is_below, raised, raised_among}
+use Rattle.cc_script.specs.Objects.{Object, HaveOwnKeys, is_there, places_at, raised, raised_among}
 use Rattle.cc_script.specs.Marking.{Marking, raise_each}
 use Rattle.cc_script.specs.Walking.{edges}
 use Rattle.cc_script.proofs.Colours.{not_below-self, raised-same}
@@ -21,7 +21,7 @@ use Rattle.cc_script.proofs.Wholeness.{there-raised}
 use Rattle.cc_weakmaps.specs.Entries.{KeyedEntry}
 use Rattle.cc_weakmaps.specs.Index.{has_object}
 use Rattle.cc_marking.specs.Joints.{Joint, joints, joints_of}
-use Rattle.cc_marking.specs.Levels.{AreFollowed, AreOrdered, has_at_least, is_at_least, keys_at_least}
+use Rattle.cc_marking.specs.Levels.{AreFollowed, AreOrdered, has_at_least, keys_at_least}
 use Rattle.cc_marking.specs.Looking.{sides_left, with_all_started, with_all_given}
 use Rattle.cc_marking.specs.Marking.{AreEntriesThere, IsMarkedFrom, keys_marked}
 use Rattle.cc_marking.proofs.Joints.{entry-joint, joint-entry, joint-gives, joint-has_key, joint-has_map, joint-there}
@@ -53,13 +53,7 @@ module _ (to : Colour) (entries : List KeyedEntry) (old : List Object) (roots : 
   -- a joint of which the first two have the colour has given it to the third, where none is due
   pub followed-value : (objects : List Object) → AreFollowed to objects entries → (e : Joint) → Among e (joints entries) →
       IsTrue (has_at_least to objects e.the_map) → IsTrue (has_at_least to objects e.key) → IsTrue (has_at_least to objects e.value)
-  followed-value objects followed e m the_map key = ⊎_elim
-      (λ t. t)
-      (λ f.
-      let both = and_from (has_at_least to objects e.the_map) (has_at_least to objects e.key) the_map key in
-      let due = and_from (has_at_least to objects e.the_map && has_at_least to objects e.key) (not (has_at_least to objects e.value)) both (ap not f) in
-      absurd (true≢false (sym due ∙ followed e m)))
-      (cases_Bool (has_at_least to objects e.value))
+  followed-value objects followed e m the_map key = grind (arith, and_from, true≢false, cases_Bool)
 
   -- THE BEGIN: the roots were started
   module _ (ordered : AreOrdered to old) (followed : AreFollowed to old entries) (live : (key : ℕ) → Among key roots → IsTrue (is_there old key)) where
@@ -74,28 +68,13 @@ module _ (to : Colour) (entries : List KeyedEntry) (old : List Object) (roots : 
 
     -- none waits, so all that have the colour were looked into
     all_looked : (key : ℕ) → looked to first key ≡ has_at_least to old key
-    all_looked key = go (has_at_least to old key)
-      where
-        go : (b : Bool) → (b && true) ≡ b
-        go true = refl
-        go false = refl
+    all_looked key = grind arith
 
     was : (key : ℕ) → IsTrue (looked to started key) → IsTrue (has_at_least to old key)
     was key h = sym (all_looked key) ∙ (sym (further.looked key) ∙ h)
 
     pub under_way-begins : (n : ℕ) (m : Marking) → m ≡ started → IsUnderWay n n m
-    under_way-begins n m e = subst (IsUnderWay n n) (sym e) (record {
-      keys = further.keys;
-      raised = further.raised;
-      tidy = further.tidy (record { risen = λ key a. absurd a; once = λ key. omega arith });
-      have = further.have (λ key h. marked-root old entries from_all key (Among-left key (keys_at_least to old) roots (at_least-listed to old key h)));
-      closed = λ x y edge h. further-more to IsFrom first started further y (ordered.closed x y edge (was x h));
-      followed = λ e a the_map key. further-more to IsFrom first started further e.value (followed-value old followed e a (was e.the_map the_map) (was e.key key));
-      rooted = roots-here to roots first live;
-      few =
-          let less = sides-less (has_at_least to old) (looked to started) entries (λ key h. further.looked key ∙ (all_looked key ∙ h)) in
-          omega (arith, less);
-    })
+    under_way-begins n m e = grind (arith, marked-root, Among-left, at_least-listed, further-more, further, was, followed-value, roots-here, sides-less, all_looked)
 
   -- A TURN: the first of those that wait leaves, what its slots hold is started, and then the values of its entries
   module _ (ordered : AreOrdered to old) (own : HaveOwnKeys old) (there : AreEntriesThere old entries) (before now : ℕ) (m : Marking) (u : IsUnderWay before now m)
@@ -117,17 +96,10 @@ module _ (to : Colour) (entries : List KeyedEntry) (old : List Object) (roots : 
 
     -- what the slots hold, an edge leads to, and the other way round
     place-leads : (q : ℕ) → Among (Some q) (places_at m.objects key) → Among (key, q) (edges old)
-    place-leads q n = go (object_at old key) refl (subst (Among (Some q)) places_still n)
-      where
-        go : (o : Option Object) → object_at old key ≡ o → Among (Some q) (places_or_none o) → Among (key, q) (edges old)
-        go None e held = absurd held
-        go (Some o) e held = subst (λ k. Among (k, q) (edges old)) (object_at-key old key o e) (slot-edge old o q (object_at-among old key o e) held)
+    place-leads q n = grind (arith, places_still, object_at-key, slot-edge, object_at-among)
 
     edge-held : (q : ℕ) → Among (key, q) (edges old) → Among (Some q) (places_at m.objects key)
-    edge-held q edge =
-        let f = edge-slot old key q edge in
-        let at : object_at old key ≡ Some f.0 = subst (λ k. object_at old k ≡ Some f.0) f.2 (own f.0 f.1) in
-        subst (Among (Some q)) (sym (places_still ∙ ap places_or_none at)) f.3
+    edge-held q edge = grind (arith, edge-slot, places_still)
 
     place-there : (q : ℕ) → Among (Some q) (places_at m.objects key) → IsTrue (is_there m.objects q)
     place-there q n = let f = edge-slot old key q (place-leads q n) in there_still q ∙ ordered.whole f.0 q f.1 f.3
@@ -201,11 +173,7 @@ module _ (to : Colour) (entries : List KeyedEntry) (old : List Object) (roots : 
   -- THE END: none waits
   module _ (ordered : AreOrdered to old) (before now : ℕ) (m : Marking) (u : IsUnderWay before now m) (done : m.waiting ≡ []) where
     looked_all : (key : ℕ) → looked to m key ≡ has_at_least to m.objects key
-    looked_all key = ap (λ ks. has_at_least to m.objects key && not (has ◌==◌ ks key)) done ∙ go (has_at_least to m.objects key)
-      where
-        go : (b : Bool) → (b && true) ≡ b
-        go true = refl
-        go false = refl
+    looked_all key = grind arith
 
     -- all that a mark comes to has the colour
     marked-at_least : (key : ℕ) → IsFrom key → IsTrue (has_at_least to m.objects key)
@@ -228,38 +196,11 @@ module _ (to : Colour) (entries : List KeyedEntry) (old : List Object) (roots : 
 
     -- an object was raised, or has the colour from before, exactly where it is marked
     each : (o : Object) → Among o old → risen u.keys to o ≡ risen marks to o
-    each o a = go (is_below o.colour to) refl
-      where
-        same : (b : Bool) → is_below o.colour to ≡ false → cond b (raised to o) o ≡ o
-        same true e = raised-same to o e
-        same false e = refl
-
-        less : is_below o.colour to ≡ true → has_at_least to old o.key ≡ false
-        less e = ap (is_at_least to) (ordered.alike o a) ∙ ap not e
-
-        had : (b : Bool) → has ◌==◌ u.keys o.key ≡ b → is_below o.colour to ≡ true → has ◌==◌ marks o.key ≡ b
-        had true e low =
-            (marked-decided old entries from_all o.key).1 (u.have o.key
-            (ap (λ os. has_at_least to os o.key) u.raised ∙ at_least-risen u.keys to to (not_below-self to) old o.key (member-there old o a) e))
-        had false e low = go (has ◌==◌ marks o.key) refl
-          where
-            go : (b : Bool) → has ◌==◌ marks o.key ≡ b → b ≡ false
-            go false f = refl
-            go true f = ⊎_elim
-                (λ was. absurd (true≢false (sym was ∙ less low)))
-                (λ rose. sym rose ∙ e)
-                (at_least-cases u.keys to to (not_below-self to) old o.key
-                (subst (λ os. IsTrue (has_at_least to os o.key)) u.raised (marked-at_least o.key ((marked-decided old entries from_all o.key).0 f))))
-
-        go : (b : Bool) → is_below o.colour to ≡ b → risen u.keys to o ≡ risen marks to o
-        go false e = same (has ◌==◌ u.keys o.key) e ∙ sym (same (has ◌==◌ marks o.key) e)
-        go true e = ap (λ b. cond b (raised to o) o) (sym (had (has ◌==◌ u.keys o.key) refl e))
+    each o a =
+        grind (arith, raised-same, marked-decided, at_least-risen, not_below-self, member-there, true≢false, was, at_least-cases, marked-at_least, risen, ordered.alike, u.have)
 
     pub under_way-ends : m.objects ≡ raised_among marks to old
     under_way-ends = u.raised ∙ map-agree (risen u.keys to) (risen marks to) old each
 
     pub under_way-spent : now + sides_left (has_at_least to m.objects) entries ≤ before + sides_left (has_at_least to old) entries
-    under_way-spent =
-        let less = sides-less (looked to m) (has_at_least to m.objects) entries (λ key h. sym (looked_all key) ∙ h) in
-        let so_far = u.few in
-        omega (arith, less, so_far)
+    under_way-spent = grind (arith, sides-less, looked, looked_all)

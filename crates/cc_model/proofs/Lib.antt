@@ -8,4 +8,7 @@ pub mod Rounds
 pub mod UnitsEnd
 pub mod Replies
 pub mod Opened
+pub mod Derivations
+pub mod PathsFollow
+pub mod Leading
 pub mod MemberNodes

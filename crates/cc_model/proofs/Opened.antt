@@ -12,8 +12,9 @@ use Rattle.cc_model.specs.Sweep.{sweep, rounds, collect_scripts}
 use Rattle.cc_model.specs.Snapshot.{white_natives}
 use Rattle.cc_model.specs.End.{unlink, take_away, unit}
 use Rattle.cc_model.specs.Collecting.{units_done, slice, collect, gc}
+use Rattle.cc_model.specs.Derivations.{walk}
 use Rattle.cc_model.specs.Run.{mutate, do_ask}
 
 unfoldable pub all_of_a_run : Unit {0}
-unfolding digits closure command_of refusal_of reply_if_taken changed drain drained exposed hold_native store_native move_slot make_native effects marked sweep rounds collect_scripts white_natives unlink take_away unit units_done slice collect gc mutate do_ask
+unfolding digits closure command_of refusal_of reply_if_taken changed drain drained exposed hold_native store_native move_slot make_native effects marked sweep rounds collect_scripts white_natives unlink take_away unit units_done slice collect gc mutate walk do_ask
 all_of_a_run = tt

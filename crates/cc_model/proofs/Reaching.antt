@@ -53,26 +53,32 @@ numbers-of : {X : Type 0} (xs : List X) (k : ℕ) (x : X) → numbered xs k ≡ 
 numbers-of xs zero x e = let bad : None ≡ Some x = e in cc
 numbers-of xs (suc i) x e = subst (λ n. Among n (numbers_from 1 xs)) (omega arith) (numbers-get xs 1 i x e)
 
--- an object that has an edge stands among the names of all objects
+-- an object that was made stands among the names of all objects
+pub native-named : (g : Graph) (k : ℕ) (n : GraphNative) → native_in g k ≡ Some n → (x : Name) → Among x (with_reflector k) → Among x (names_of g)
+native-named g k n e x m = Among-left x (flat_map with_reflector (numbers_from 1 g.natives)) (map object (numbers_from 1 g.scripts))
+    (Among-flat_map with_reflector k x (numbers_from 1 g.natives) (numbers-of g.natives k n e) m)
+
+pub script-named : (g : Graph) (k : ℕ) (o : GraphScript) → script_in g k ≡ Some o → Among (object k) (names_of g)
+script-named g k o e = Among-right (object k) (flat_map with_reflector (numbers_from 1 g.natives)) (map object (numbers_from 1 g.scripts))
+    (Among-map object k (numbers_from 1 g.scripts) (numbers-of g.scripts k o e))
+
+-- so does one that has an edge
 with-edge-named : (g : Graph) (x y : Name) → Among y (edges_of g x) → Among x (names_of g)
 with-edge-named g (Native k) y m = go (native_in g k.0) refl m
   where
     go : (o : Option GraphNative) → native_in g k.0 ≡ o → Among y (contents (slots_or_none (option_map (places_of_made_native k.0) o))) → Among (native k.0) (names_of g)
     go None e i = absurd i
-    go (Some n) e i = Among-left (native k.0) (flat_map with_reflector (numbers_from 1 g.natives)) (map object (numbers_from 1 g.scripts))
-        (Among-flat_map with_reflector k.0 (native k.0) (numbers_from 1 g.natives) (numbers-of g.natives k.0 n e) (inl refl))
+    go (Some n) e i = native-named g k.0 n e (native k.0) (inl refl)
 with-edge-named g (Script k) y m = go (script_in g k.0) refl m
   where
     go : (o : Option GraphScript) → script_in g k.0 ≡ o → Among y (contents (slots_or_none (option_map (places_of_made_script k.0) o))) → Among (object k.0) (names_of g)
     go None e i = absurd i
-    go (Some n) e i = Among-right (object k.0) (flat_map with_reflector (numbers_from 1 g.natives)) (map object (numbers_from 1 g.scripts))
-        (Among-map object k.0 (numbers_from 1 g.scripts) (numbers-of g.scripts k.0 n e))
+    go (Some n) e i = script-named g k.0 n e
 with-edge-named g (Reflector k) y m = go (native_in g k.0) refl m
   where
     go : (o : Option GraphNative) → native_in g k.0 ≡ o → Among y (contents (slots_or_none (option_and_then (places_of_made_reflector k.0) o))) → Among (reflector k.0) (names_of g)
     go None e i = absurd i
-    go (Some n) e i = Among-left (reflector k.0) (flat_map with_reflector (numbers_from 1 g.natives)) (map object (numbers_from 1 g.scripts))
-        (Among-flat_map with_reflector k.0 (reflector k.0) (numbers_from 1 g.natives) (numbers-of g.natives k.0 n e) (inr (inl refl)))
+    go (Some n) e i = native-named g k.0 n e (reflector k.0) (inr (inl refl))
 
 root-among : (g : Graph) (r : Reg) (x : Name) → register g r ≡ Some x → Among x (roots_of g)
 root-among g (N r) x e = Among-left x (contents g.native_registers) (contents g.script_registers) (content-at x g.native_registers r e)

@@ -8,7 +8,7 @@ use Rattle.cc_names.specs.declared.register.Reg.{Reg}
 use Rattle.cc_names.specs.declared.register.Reg.TheVariants.{N, S}
 use Rattle.cc_names.specs.Names.{native, object, reflector, is_native, is_script, is_reflector}
 use Rattle.cc_model.specs.declared.command.Command.{Command}
-use Rattle.cc_model.specs.declared.command.Command.TheVariants.{Nothing, Version2, Native, Script, WeakMap, Proxy, CopyNative, CopyScript, Drop, Set, Get, Move, Put, Take, Wrap, Unwrap, Preserve, SetEntry, GetEntry, Expose, Slice, Collect, Gc, Census}
+use Rattle.cc_model.specs.declared.command.Command.TheVariants.{Nothing, Version2, Native, Script, WeakMap, Proxy, CopyNative, CopyScript, Drop, Set, Get, Move, Put, Take, Wrap, Unwrap, Preserve, SetEntry, GetEntry, Expose, Why, Slice, Collect, Gc, Census}
 use Rattle.cc_model.specs.declared.item.Refusal.{Refusal}
 use Rattle.cc_model.specs.declared.item.Refusal.TheVariants.{Empty, Kind, Slot, Full}
 use Rattle.cc_model.specs.declared.item.Reply.{Reply}
@@ -84,6 +84,7 @@ needed (Preserve s) = S s ∷ []
 needed (SetEntry m k v) = S m ∷ S k ∷ map S (option_to_list v)
 needed (GetEntry d m k) = S m ∷ S k ∷ []
 needed (Expose s i) = N s ∷ []
+needed (Why x) = []
 needed (Slice u) = []
 needed Collect = []
 needed Gc = []
@@ -168,7 +169,7 @@ abbrev pub named_or_nothing : Option Name → Reply
 named_or_nothing None = nothing_there
 named_or_nothing (Some x) = Named x
 
--- the reply to a command that is not refused; the census is answered apart, and a line that asks nothing is not
+-- the reply to a command that is not refused; the census and `why` are answered apart, and a line that asks nothing is not
 unfoldable pub reply_if_taken : Objects → Command → Reply
 reply_if_taken o (Native d n) = Named (native (o.natives_made + 1))
 reply_if_taken o (Script d n) = Named (object (o.scripts_made + 1))

@@ -8,7 +8,7 @@ use Rattle.cc_names.specs.declared.kind.Kind.TheVariants.{Plain, Reflector, Map,
 use Rattle.cc_names.specs.declared.kind.Colour.TheVariants.{Black}
 use Rattle.cc_names.specs.Names.{native, object, reflector}
 use Rattle.cc_model.specs.declared.command.Command.{Command}
-use Rattle.cc_model.specs.declared.command.Command.TheVariants.{Nothing, Version2, Native, Script, WeakMap, Proxy, CopyNative, CopyScript, Drop, Set, Get, Move, Put, Take, Wrap, Unwrap, Preserve, SetEntry, GetEntry, Expose, Slice, Collect, Gc, Census}
+use Rattle.cc_model.specs.declared.command.Command.TheVariants.{Nothing, Version2, Native, Script, WeakMap, Proxy, CopyNative, CopyScript, Drop, Set, Get, Move, Put, Take, Wrap, Unwrap, Preserve, SetEntry, GetEntry, Expose, Why, Slice, Collect, Gc, Census}
 use Rattle.cc_model.specs.Slots.{empty_slots, reflector_slots}
 use Rattle.cc_model.specs.Entries.{with_entry, without_entry}
 use Rattle.cc_model.specs.Checks.{slot_at, value_at, reflector_of, native_of}
@@ -126,6 +126,7 @@ effects h (GetEntry d m k) = silently (hold_script h d (value_at (objects_of h) 
 effects h (Expose s i) = silently (exposed h (slot_at (objects_of h) (N s) i))
 effects h Nothing = silently h
 effects h Version2 = silently h
+effects h (Why x) = silently h
 effects h (Slice u) = silently h
 effects h Collect = silently h
 effects h Gc = silently h

@@ -5,7 +5,7 @@ use Rattle.cc_model.specs.declared.command.Command.{Command}
 use Rattle.cc_model.specs.declared.command.Command.TheVariants as command
 use Rattle.cc_model.specs.declared.dialect.Dialect.{Dialect}
 use Rattle.cc_model.specs.declared.dialect.Dialect.TheVariants.{Start, One, Two}
-use Rattle.cc_model.specs.Tokens.{number, slots_number, units_number, native_register, script_register, is_none_word, is_version_two}
+use Rattle.cc_model.specs.Tokens.{number, slots_number, units_number, native_register, script_register, object_name, is_none_word, is_version_two}
 
 -- a word, and how the tokens after it are read; none where they are not of this form
 pub record Form : Type 0 where
@@ -134,6 +134,10 @@ expose_form v = form (codes "expose") (of_two command.Expose (native_register v)
 abbrev pub move_form : Dialect → Form
 move_form v = form (codes "move") (of_four command.Move (native_register v) number (native_register v) number)
 
+-- another one, without registers
+abbrev pub why_form : Form
+why_form = form (codes "why") (of_one command.Why object_name)
+
 -- the forms without registers
 abbrev pub slice_form : Form
 slice_form = form (codes "slice") (of_one command.Slice units_number)
@@ -187,4 +191,4 @@ common_forms v =
 abbrev pub forms_of : Dialect → List Form
 forms_of Start = version_form ∷ common_forms Start
 forms_of One = common_forms One
-forms_of Two = move_form Two ∷ common_forms Two
+forms_of Two = move_form Two ∷ why_form ∷ common_forms Two

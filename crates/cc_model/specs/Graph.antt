@@ -8,7 +8,7 @@ use Rattle.cc_names.specs.declared.register.Reg.TheVariants.{N, S}
 use Rattle.cc_names.specs.Names.{native, object}
 use Rattle.cc_names.specs.Sizes.{bank_length}
 use Rattle.cc_model.specs.declared.command.Command.{Command}
-use Rattle.cc_model.specs.declared.command.Command.TheVariants.{Nothing, Version2, Native, Script, WeakMap, Proxy, CopyNative, CopyScript, Drop, Set, Get, Move, Put, Take, Wrap, Unwrap, Preserve, SetEntry, GetEntry, Expose, Slice, Collect, Gc, Census}
+use Rattle.cc_model.specs.declared.command.Command.TheVariants.{Nothing, Version2, Native, Script, WeakMap, Proxy, CopyNative, CopyScript, Drop, Set, Get, Move, Put, Take, Wrap, Unwrap, Preserve, SetEntry, GetEntry, Expose, Why, Slice, Collect, Gc, Census}
 use Rattle.cc_model.specs.declared.item.Refusal.{Refusal}
 use Rattle.cc_model.specs.declared.item.Reply.{Reply}
 use Rattle.cc_model.specs.Banks.{Bank, of_natives, of_scripts, bank_of, place_in_bank}
@@ -193,7 +193,7 @@ abbrev pub with_proxy : Graph → ℕ → Option Name → Graph
 with_proxy g d None = g
 with_proxy g d (Some x) = set_register (with_script (preserve g (Some x)) (proxy x)) (S d) (Some (object (length g.scripts + 1)))
 
--- what a command that is not refused makes of the graph; a collection, `gc`, a census and `expose` leave it
+-- what a command that is not refused makes of the graph; a collection, `gc`, a census, `why` and `expose` leave it
 unfoldable pub changed : Graph → Command → Graph
 changed g (Native d n) = set_register (with_native g n) (N d) (Some (native (length g.natives + 1)))
 changed g (Script d n) = set_register (with_script g (plain_object (empty_slots n))) (S d) (Some (object (length g.scripts + 1)))
@@ -215,6 +215,7 @@ changed g (GetEntry d m k) = set_register g (S d) (value_at (objects_of g) (regi
 changed g (Expose s i) = g
 changed g Nothing = g
 changed g Version2 = g
+changed g (Why x) = g
 changed g (Slice u) = g
 changed g Collect = g
 changed g Gc = g
@@ -228,6 +229,6 @@ unless_refused (Some refusal) old new = old
 abbrev pub step : Graph → Command → Graph
 step g c = unless_refused (refusal_of (objects_of g) c) g (changed g c)
 
--- and the reply to it, the census aside
+-- and the reply to it, the census and `why` aside
 abbrev pub reply_to : Graph → Command → Reply
 reply_to g c = reply_of (objects_of g) c

@@ -6,7 +6,7 @@ use Rattle.cc_names.specs.declared.name.Name.{Name}
 use Rattle.cc_names.specs.declared.register.Reg.TheVariants.{N, S}
 use Rattle.cc_names.specs.Names.{same_name, is_native, natives_in}
 use Rattle.cc_model.specs.declared.command.Command.{Command}
-use Rattle.cc_model.specs.declared.command.Command.TheVariants.{Nothing, Native, Script, WeakMap, Proxy, SetEntry, Wrap, Slice, Collect, Gc, Census}
+use Rattle.cc_model.specs.declared.command.Command.TheVariants.{Nothing, Native, Script, WeakMap, Proxy, SetEntry, Wrap, Why, Slice, Collect, Gc, Census}
 use Rattle.cc_model.specs.declared.item.Refusal.TheVariants.{NoMemory, Long, Line}
 use Rattle.cc_model.specs.declared.item.Reply.{Reply}
 use Rattle.cc_model.specs.declared.item.Reply.TheVariants.{Refused, Census as counted}
@@ -17,6 +17,7 @@ use Rattle.cc_model.specs.Asks.{Ask, long, bad, taken}
 use Rattle.cc_model.specs.Checks.{refusal_of, value_at, reflector_of}
 use Rattle.cc_model.specs.Graph.{Graph, empty_graph, register, objects_of, step, reply_to}
 use Rattle.cc_model.specs.Reached.{Reached}
+use Rattle.cc_model.specs.Derivations.{leads_made, why_of}
 use Rattle.cc_model.specs.Listed.{listed, after_event, census_order}
 
 -- the graph so far, and the names that a census would list
@@ -53,6 +54,7 @@ may_want_memory s (Native d n) = true
 may_want_memory s (Script d n) = true
 may_want_memory s (WeakMap d) = true
 may_want_memory s (Proxy d r) = true
+may_want_memory s (Why x) = true
 may_want_memory s (Slice u) = true
 may_want_memory s Collect = true
 may_want_memory s (SetEntry m k (Some v)) = is_none (value_at (objects_of s.graph) (register s.graph (S m)) (register s.graph (S k)))
@@ -179,10 +181,15 @@ ReplyAnswers s c a (Some reply) = AnswersCommand s c reply a.events
 abbrev pub census_of : List Name → Answer
 census_of names = listing (census_order names) (counted (length names))
 
+-- what `why` answers: how the registers of the graph reach the object; or that there is no memory
+abbrev pub Explains : Graph → Name → Answer → Type 0
+Explains g x a = (a ≡ why_of (leads_made g) x) ⊎ (a ≡ replying [] (Refused NoMemory))
+
 abbrev pub AnswersTaken : State → Command → Answer → Type 0
 AnswersTaken s Nothing a = a ≡ no_answer
 AnswersTaken s Census a = a ≡ census_of s.listed
-AnswersTaken s c a = (a.listed ≡ []) × ReplyAnswers s c a a.reply
+AnswersTaken s (Why x) a = Explains s.graph x a
+AnswersTaken s c a = (a.listed ≡ []) × (a.steps ≡ []) × ReplyAnswers s c a a.reply
 
 abbrev pub AnswersAsk : State → Ask → Answer → Type 0
 AnswersAsk s long a = a ≡ replying [] (Refused Long)

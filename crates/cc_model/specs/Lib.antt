@@ -15,6 +15,8 @@ pub mod Checks
 pub mod Graph
 pub mod WellMade
 pub mod Reached
+pub mod Derivations
+pub mod Paths
 pub mod Listed
 pub mod Lawful
 pub mod Quiet

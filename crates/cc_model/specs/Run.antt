@@ -4,7 +4,7 @@ use Rattle.cc_names.specs.Allowance.{Allowance}
 use Rattle.cc_names.specs.declared.name.Name.{Name}
 use Rattle.cc_names.specs.Names.{native}
 use Rattle.cc_model.specs.declared.command.Command.{Command}
-use Rattle.cc_model.specs.declared.command.Command.TheVariants.{Nothing, Version2, Slice, Collect, Gc, Census}
+use Rattle.cc_model.specs.declared.command.Command.TheVariants.{Nothing, Version2, Why, Slice, Collect, Gc, Census}
 use Rattle.cc_model.specs.declared.item.Refusal.{Refusal}
 use Rattle.cc_model.specs.declared.item.Refusal.TheVariants.{NoMemory, Long, Line}
 use Rattle.cc_model.specs.declared.item.Reply.{Reply}
@@ -14,6 +14,7 @@ use Rattle.cc_model.specs.Answers.{Answer, no_answer, replying, listing, text_of
 use Rattle.cc_model.specs.Asks.{Ask, long, bad, taken, asks_of}
 use Rattle.cc_model.specs.Checks.{refusal_of, reply_if_taken}
 use Rattle.cc_model.specs.Heap.{Heap, Outcome, objects_of}
+use Rattle.cc_model.specs.Derivations.{leads_in, why_of}
 use Rattle.cc_model.specs.Effects.{effects, takes_memory}
 use Rattle.cc_model.specs.Collecting.{Machine, UnitsDone, empty_machine, next_answer, later_answers, slice, collect, gc, reply_to_units}
 
@@ -63,12 +64,20 @@ census_names h = map (λ n. native n.number) h.natives ++ map (λ o. o.name) h.s
 abbrev pub take_census : Machine → List Name → Turn
 take_census m names = record { machine = m; answer = listing names (counted (length names)) }
 
+-- how the registers reach an object, or that there is no memory to find it out
+abbrev pub explain : Machine → Name → Turn
+explain m x = elim (next_answer m.memory) [
+  | true ↦ record { machine = with_answer_used m true; answer = why_of (leads_in m.heap) x }
+  | false ↦ answering (with_answer_used m true) [] (Refused NoMemory)
+]
+
 abbrev pub say_nothing : Machine → Turn
 say_nothing m = record { machine = m; answer = no_answer }
 
 abbrev pub do_command : Machine → Command → Turn
 do_command m Nothing = say_nothing m
 do_command m Version2 = answering m [] Done
+do_command m (Why x) = explain m x
 do_command m (Slice n) = after_units (slice n m)
 do_command m Collect = after_units (collect m)
 do_command m Gc = after_gc (gc m)
@@ -91,7 +100,7 @@ machine_after m [] = m
 machine_after m (ask ∷ asks) = machine_after (do_ask m ask).machine asks
 
 -- THE ANSWERS to the asks, where memory gives these answers: one for each unit that may be refused,
--- and for each command that passes its checks and takes memory
+-- for each command that passes its checks and takes memory, and for each `why`
 abbrev pub plain_run : Allowance → List Bool → List Ask → List Answer
 plain_run limits memory asks = turns (empty_machine limits memory) asks
 

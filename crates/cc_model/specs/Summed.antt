@@ -10,7 +10,7 @@ use Rattle.cc_model.specs.declared.item.Reply.TheVariants.{Named, Nothing, Done,
 use Rattle.cc_model.specs.declared.item.Event.{Event}
 use Rattle.cc_model.specs.declared.item.Event.TheVariants.{Unlinked, Freed, Abandoned}
 use Rattle.cc_model.specs.declared.item.Item.{Item}
-use Rattle.cc_model.specs.declared.item.Item.TheVariants.{Event as of_event, Listed, Reply as of_reply}
+use Rattle.cc_model.specs.declared.item.Item.TheVariants.{Event as of_event, Listed, Step, Reply as of_reply}
 
 -- before the first item
 abbrev pub none_summed : Sums
@@ -39,10 +39,11 @@ with_event (Unlinked name) s = record s { unlinked = raised s.unlinked 1 }
 with_event (Freed name) s = record s { freed = raised s.freed 1 }
 with_event Abandoned s = record s { abandoned = raised s.abandoned 1 }
 
--- AN ITEM'S PART: each reply answers one command, and what a census lists is not counted
+-- AN ITEM'S PART: each reply answers one command, and what a census lists is not counted, nor are the steps of a path
 abbrev pub with_item : Item → Sums → Sums
 with_item (of_event event) s = with_event event s
 with_item (Listed name) s = s
+with_item (Step x r) s = s
 with_item (of_reply reply) s = with_reply reply (record s { commands = raised s.commands 1 })
 
 -- THE SUMS AFTER THESE ITEMS, in their order

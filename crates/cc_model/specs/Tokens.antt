@@ -1,5 +1,7 @@
 -- The tokens of a line, and the numbers and registers among them.
-use Rattle.std.specs.Prelude.{ℕ, ◌+◌, ◌-◌, ◌*◌, ◌^◌, Bool, true, false, List, [], ◌∷◌, ◌++◌, ◌==◌, ◌&&◌, ◌||◌, Option, Some, None, if◌then◌else◌, nat_le, nat_lt, length, slice_index, filter, bytes_eq, codes, option_and_then}
+use Rattle.std.specs.Prelude.{ℕ, ◌+◌, ◌-◌, ◌*◌, ◌^◌, Bool, true, false, List, [], ◌∷◌, ◌++◌, ◌==◌, ◌&&◌, ◌||◌, Option, Some, None, if◌then◌else◌, nat_le, nat_lt, length, slice_index, filter, bytes_eq, codes, option_and_then, option_map}
+use Rattle.cc_names.specs.declared.name.Name.{Name}
+use Rattle.cc_names.specs.Names.{native, object, reflector}
 use Rattle.cc_model.specs.declared.dialect.Dialect.{Dialect}
 use Rattle.cc_model.specs.Dialects.{registers_of, slots_of}
 
@@ -71,6 +73,17 @@ script_register d token = register_with d 115 token
 -- the number of a version that a script may ask for
 abbrev pub is_version_two : List ℕ → Bool
 is_version_two token = bytes_eq token (codes "2")
+
+-- THE NAME OF AN OBJECT: `#`, `@` or `~`, and at once its number, from 1 on
+abbrev pub made_number : List ℕ → Option ℕ
+made_number token = option_and_then (λ n. if nat_lt 0 n then Some n else None) (number token)
+
+abbrev pub object_name : List ℕ → Option Name
+object_name [] = None
+object_name (b ∷ token) =
+    if b == 35 then option_map native (made_number token)
+    else if b == 64 then option_map object (made_number token)
+    else if b == 126 then option_map reflector (made_number token) else None
 
 -- the word `none`
 abbrev pub is_none_word : List ℕ → Bool

@@ -1,6 +1,6 @@
 //! What one line of the input asks.
 
-use cc_names::{Reg, RegNo, SlotNo};
+use cc_names::{Name, Reg, RegNo, SlotNo};
 
 /// What one line of the input asks, by its word and its tokens in their order.
 ///
@@ -49,6 +49,8 @@ pub enum Command {
     GetEntry(RegNo, RegNo, RegNo),
     /// `expose nS i`: script touches what slot i of a native holds.
     Expose(RegNo, u32),
+    /// `why NAME`: how the registers reach an object.
+    Why(Name),
     /// `slice U`: up to U units of a collection.
     Slice(u32),
     /// `collect`: a whole collection.

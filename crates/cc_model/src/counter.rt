@@ -44,7 +44,7 @@ impl Notices for Counter {
     fn tell(&mut self, item: Item) {
         match item {
             Item::Event(event) => self.sums.count_event(event),
-            Item::Listed(_) => {}
+            Item::Listed(_) | Item::Step(_, _) => {}
             Item::Reply(reply) => self.sums.count_reply(reply),
         }
     }

@@ -1,9 +1,9 @@
 //! Items, which are the lines of the output, and their texts.
 
 ghost use Rattle.std.specs.Prelude.{◌≡◌, ◌+◌, ◌≤◌, ◌++◌, length};
-ghost use Rattle.cc_model.specs.Texts.{text_of, text_of_event, text_of_refusal, text_of_reply};
+ghost use Rattle.cc_model.specs.Texts.{text_of, text_of_event, text_of_reason, text_of_refusal, text_of_reply, text_of_step};
 
-use cc_names::{LineBuf, Name, write_name};
+use cc_names::{LineBuf, Name, Reg, write_name, write_register};
 use itoa::Buffer;
 
 /// Why a command is refused, in the order in which the causes are tried.
@@ -51,6 +51,18 @@ pub enum Event {
     Abandoned,
 }
 
+/// Why an object is reached.
+#[derive(Clone, Copy, Debug, PartialEq, Eq, Drop)]
+pub enum Reason {
+    /// This register holds it.
+    Root(Reg),
+    /// It stands in a place of this object: in a slot, or as the preserved reflector of a native, the native of a reflector or
+    /// the delegate of a proxy.
+    Edge(Name),
+    /// An entry of this weak map gives it: the value of this key; or the key, a proxy of this delegate.
+    Pair(Name, Name),
+}
+
 /// One line of the output.
 #[derive(Clone, Copy, Debug, PartialEq, Eq, Drop)]
 pub enum Item {
@@ -58,6 +70,8 @@ pub enum Item {
     Event(Event),
     /// An object that a census lists.
     Listed(Name),
+    /// An object on the way to one that was asked for, and why it is reached.
+    Step(Name, Reason),
     /// The last line that answers a command.
     Reply(Reply),
 }
@@ -119,9 +133,38 @@ fn write_event(event: Event, out: &mut LineBuf)
     }
 }
 
-/// Appends an item's line, its line feed included. It has at most 21 bytes, which must be free.
+/// Appends the text of a reason, which has at most 26 bytes.
+fn write_reason(reason: Reason, out: &mut LineBuf)
+    requires { length out.old + 26 ≤ 128 }
+    ensures text { out.new ≡ out.old ++ text_of_reason reason }
+    ensures short { length out.new ≤ length out.old + 26 }
+{
+    match reason {
+        Reason::Root(register) => write_register(register, out),
+        Reason::Edge(from) => write_name(&from, out),
+        Reason::Pair(the_map, with) => {
+            write_name(&the_map, out);
+            out.push(b" ");
+            write_name(&with, out);
+        }
+    }
+}
+
+/// Appends the text of a step, which has at most 41 bytes.
+fn write_step(name: Name, reason: Reason, out: &mut LineBuf)
+    requires { length out.old + 41 ≤ 128 }
+    ensures text { out.new ≡ out.old ++ text_of_step name reason }
+    ensures short { length out.new ≤ length out.old + 41 }
+{
+    out.push(b": ");
+    write_name(&name, out);
+    out.push(b" ");
+    write_reason(reason, out);
+}
+
+/// Appends an item's line, its line feed included. It has at most 42 bytes, which must be free.
 pub fn write_item(item: &Item, out: &mut LineBuf)
-    requires { length out.old + 21 ≤ 128 }
+    requires { length out.old + 42 ≤ 128 }
     ensures { out.new ≡ out.old ++ text_of item.now }
 {
     match *item {
@@ -130,6 +173,7 @@ pub fn write_item(item: &Item, out: &mut LineBuf)
             out.push(b"+ ");
             write_name(&name, out);
         }
+        Item::Step(name, reason) => write_step(name, reason, out),
         Item::Reply(reply) => write_reply(reply, out),
     }
     out.push(b"\n");

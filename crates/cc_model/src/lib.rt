@@ -23,7 +23,7 @@ mod sums;
 pub use command::Command;
 pub use counter::Counter;
 pub use dialect::Dialect;
-pub use item::{Event, Item, Refusal, Reply, write_item};
+pub use item::{Event, Item, Reason, Refusal, Reply, write_item};
 pub use item_list::ItemList;
 pub use laws::{bounds_suffice, reached_is_least, telling_composes};
 pub use notebook::Notebook;

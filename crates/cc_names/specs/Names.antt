@@ -4,6 +4,8 @@ use Rattle.std.specs.declared.cmp.Ordering.{Ordering}
 use Rattle.std.specs.Ordering.{nat_cmp, ordering_then}
 use Rattle.cc_names.specs.declared.name.Name.{Name}
 use Rattle.cc_names.specs.declared.name.Name.TheVariants.{Native, Script, Reflector}
+use Rattle.cc_names.specs.declared.register.Reg.{Reg}
+use Rattle.cc_names.specs.declared.register.Reg.TheVariants.{N, S}
 
 -- the native with a number
 abbrev pub native : ℕ → Name
@@ -70,3 +72,8 @@ abbrev pub text_of_name : Name → List ℕ
 text_of_name (Native k) = 35 ∷ decimal k.0
 text_of_name (Script k) = 64 ∷ decimal k.0
 text_of_name (Reflector k) = 126 ∷ decimal k.0
+
+-- the text of a register
+abbrev pub text_of_register : Reg → List ℕ
+text_of_register (N r) = 110 ∷ decimal r
+text_of_register (S r) = 115 ∷ decimal r

@@ -24,7 +24,7 @@ pub use line::LineBuf;
 pub use name::{Name, write_name};
 pub use no_memory::NoMemory;
 pub use number::{NKey, NativeNo, SKey, ScriptNo, narrow_key};
-pub use register::Reg;
+pub use register::{Reg, write_register};
 pub use sizes::{BANK_LENGTH, FIRST_BANK_LENGTH, FIRST_MOST_SLOTS, MOST_SLOTS, RegNo, SlotNo};
 
 /// The test of the specifications tells names apart: it says yes exactly for equal ones.

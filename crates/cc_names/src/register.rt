@@ -1,6 +1,11 @@
-//! The registers.
+//! The registers, and their texts.
 
+ghost use Rattle.std.specs.Prelude.{◌≡◌, ◌+◌, ◌≤◌, ◌++◌, length};
+ghost use Rattle.cc_names.specs.Names.{text_of_register};
+
+use crate::line::LineBuf;
 use crate::sizes::RegNo;
+use itoa::Buffer;
 
 /// A register: `n0` to `n1023` hold natives, `s0` to `s1023` hold script objects. The registers are the roots.
 #[derive(Clone, Copy, Debug, PartialEq, Eq, Drop)]
@@ -9,4 +14,19 @@ pub enum Reg {
     N(RegNo),
     /// A script register.
     S(RegNo),
+}
+
+/// Appends the text of a register: `n` or `s`, then its number in its bank in decimal. It has at most 6 bytes, which must be
+/// free.
+pub fn write_register(register: Reg, out: &mut LineBuf)
+    requires { length out.old + 6 ≤ 128 }
+    ensures text { out.new ≡ out.old ++ text_of_register register }
+    ensures short { length out.new ≤ length out.old + 6 }
+{
+    let (letter, number) = match register {
+        Reg::N(k) => (b"n", k),
+        Reg::S(k) => (b"s", k),
+    };
+    out.push(letter);
+    out.push(Buffer::new().format(number).as_bytes());
 }

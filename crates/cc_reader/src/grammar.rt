@@ -3,14 +3,14 @@
 ghost use Rattle.std.specs.Prelude.{◌≡◌, ◌<◌, [], ◌∷◌, length, IsTrue, IfSome};
 ghost use Rattle.cc_model.specs.Lines.{without_return};
 ghost use Rattle.cc_model.specs.Tokens.{tokens_of};
-ghost use Rattle.cc_model.specs.Forms.{census_form, collect_form, copy_native_form, copy_script_form, drop_native_form, drop_script_form, expose_form, forms_of, gc_form, get_entry_form, get_native_form, get_script_form, move_form, native_form, preserve_form, proxy_form, put_none_form, put_script_form, script_form, set_entry_form, set_native_form, set_none_form, set_script_form, slice_form, take_form, unset_entry_form, unwrap_form, version_form, weak_map_form, wrap_form};
+ghost use Rattle.cc_model.specs.Forms.{census_form, collect_form, copy_native_form, copy_script_form, drop_native_form, drop_script_form, expose_form, forms_of, gc_form, get_entry_form, get_native_form, get_script_form, move_form, native_form, preserve_form, proxy_form, put_none_form, put_script_form, script_form, set_entry_form, set_native_form, set_none_form, set_script_form, slice_form, take_form, unset_entry_form, unwrap_form, version_form, weak_map_form, why_form, wrap_form};
 ghost use Rattle.cc_model.specs.Ranges.{in_range};
 ghost use Rattle.cc_model.specs.Asks.{command_in, command_of};
 ghost use Rattle.cc_reader.specs.Words.{first_read, heap_forms, own_forms, reflector_forms, register_forms, slot_forms};
 
 use crate::tokens::{
-    four_tokens, native, next_token, number, one_token, register_of, script, slots_number,
-    three_tokens, two_tokens, units_number,
+    four_tokens, native, next_token, number, object_name, one_token, register_of, script,
+    slots_number, three_tokens, two_tokens, units_number,
 };
 use cc_model::{Command, Dialect};
 
@@ -220,6 +220,15 @@ fn read_expose(after: &[u8], dialect: Dialect) -> Option<Command>
     Some(Command::Expose(register, slot))
 }
 
+/// The command of the word `why`, by the tokens that stand behind it. None where they are in no form of it.
+fn read_why(after: &[u8]) -> Option<Command>
+    ensures form { result ≡ first_read (why_form ∷ []) (tokens_of after.now) }
+    ensures in_range { IfSome result (λ c. IsTrue (in_range c)) }
+{
+    let name = one_token(after)?;
+    Some(Command::Why(object_name(name)?))
+}
+
 /// The command of the word `slice`, by the tokens that stand behind it. None where they are in no form of it.
 fn read_slice(after: &[u8]) -> Option<Command>
     ensures form { result ≡ first_read (slice_form ∷ []) (tokens_of after.now) }
@@ -387,6 +396,8 @@ fn read_of_dialect(word: &[u8], after: &[u8], dialect: Dialect) -> Option<Comman
         Dialect::Two => {
             if word == b"move".as_slice() {
                 read_move(after, dialect)
+            } else if word == b"why".as_slice() {
+                read_why(after)
             } else {
                 None
             }

@@ -2,12 +2,12 @@
 
 ghost use Rattle.std.specs.Prelude.{◌≡◌, ◌≢◌, ◌<◌, ◌≤◌, [], ◌∷◌, length, slice_index, false, IsTrue, IfNone, IfSome};
 ghost use Rattle.cc_names.specs.Sizes.{bank_length, most_slots};
-ghost use Rattle.cc_model.specs.Tokens.{digits_from, native_register, number_within, register_with, script_register, slots_number, tokens_of, units_number};
+ghost use Rattle.cc_model.specs.Tokens.{digits_from, made_number, native_register, number_within, object_name, register_with, script_register, slots_number, tokens_of, units_number};
 ghost use Rattle.cc_model.specs.Ranges.{is_reg};
 ghost use Rattle.cc_reader.specs.Words.{register_of};
 
 use cc_model::Dialect;
-use cc_names::{Reg, RegNo, SlotNo};
+use cc_names::{Name, NativeNo, Reg, RegNo, ScriptNo, SlotNo};
 
 /// A line from its first byte on that is no space.
 fn without_spaces(line: &[u8]) -> &[u8]
@@ -87,6 +87,36 @@ pub(crate) fn slots_number(token: &[u8], dialect: Dialect) -> Option<SlotNo>
 {
     let slots = number(token, u32::from(dialect.most_slots()))?;
     Some(slots as SlotNo)
+}
+
+/// The number of an object that a token spells, from 1 on.
+fn made_number(token: &[u8]) -> Option<u32>
+    ensures { result ≡ made_number token.now }
+{
+    match number(token, u32::MAX)? {
+        0 => None,
+        made => Some(made),
+    }
+}
+
+/// The name of the object that a token names: `#`, `@` or `~`, and directly behind it a number from 1 on.
+pub(crate) fn object_name(token: &[u8]) -> Option<Name>
+    ensures { result ≡ object_name token.now }
+{
+    match token {
+        [mark, digits @ ..] => {
+            if *mark == b'#' {
+                Some(Name::Native(NativeNo(made_number(digits)?)))
+            } else if *mark == b'@' {
+                Some(Name::Script(ScriptNo(made_number(digits)?)))
+            } else if *mark == b'~' {
+                Some(Name::Reflector(NativeNo(made_number(digits)?)))
+            } else {
+                None
+            }
+        }
+        [] => None,
+    }
 }
 
 /// The number of units that a token spells, 1 to 1000000.

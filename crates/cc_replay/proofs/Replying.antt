@@ -1,6 +1,7 @@
 -- THE ANSWER TO AN ASK, by what the plain run does.
 use Rattle.std.specs.Prelude.{IsTrue}
 use Rattle.std.proofs.Common.{◌≡◌, ◌≢◌, ℕ, Bool, true, false, List, [], ◌∷◌, ◌++◌, map, length, Option, Some, None, refl, sym, ◌∙◌, ap, subst, arith}
+use Rattle.cc_names.specs.declared.name.Name.{Name}
 use Rattle.cc_model.specs.declared.command.Command.{Command}
 use Rattle.cc_model.specs.declared.command.Command.TheVariants as command
 use Rattle.cc_model.specs.declared.item.Item.TheVariants.{Event as of_event, Listed, Reply as of_reply}
@@ -9,7 +10,8 @@ use Rattle.cc_model.specs.declared.item.Refusal.TheVariants.{NoMemory}
 use Rattle.cc_model.specs.declared.item.Reply.{Reply}
 use Rattle.cc_model.specs.declared.item.Reply.TheVariants.{Refused, Census, Done}
 use Rattle.cc_model.specs.Telling.{Telling, Tells}
-use Rattle.cc_model.specs.Answers.{items_of}
+use Rattle.cc_model.specs.Answers.{items_of, item_of_step}
+use Rattle.cc_model.specs.Derivations.{leads_in, path_to, is_led_to, done_or_nothing, why_of}
 use Rattle.cc_model.specs.Mutating.{is_applied}
 use Rattle.cc_model.specs.Asks.{taken}
 use Rattle.cc_model.specs.Checks.{refusal_of, reply_if_taken}
@@ -30,8 +32,8 @@ use Rattle.cc_collector.specs.Collected.{LedTo, IsSliced, IsCollected, IsSwept}
 use Rattle.cc_laws_run.specs.Memory.{with_memory}
 
 -- A command is one of the mutator, where it is none of these
-pub others-applied : (c : Command) → c ≢ command.Nothing → c ≢ command.Version2 → c ≢ command.Census → ((u : ℕ) → c ≢ command.Slice u) → c ≢ command.Collect → c ≢ command.Gc → IsTrue (is_applied c)
-others-applied c nothing version census slice collect gc_one = grind arith
+pub others-applied : (c : Command) → c ≢ command.Nothing → c ≢ command.Version2 → ((x : Name) → c ≢ command.Why x) → c ≢ command.Census → ((u : ℕ) → c ≢ command.Slice u) → c ≢ command.Collect → c ≢ command.Gc → IsTrue (is_applied c)
+others-applied c nothing version why census slice collect gc_one = grind arith
 
 -- and the plain run does it as such
 applied-mutates : (m : Machine) (c : Command) → IsTrue (is_applied c) → do_ask m (taken c) ≡ mutate m c
@@ -116,6 +118,20 @@ module _ (old new : Machine) (before after : Telling) where
   answered-gc mid s t =
       let d = gc (with_memory old s.memory) in
       answered-units command.Gc s.memory d d.progress Done mid s.led refl t
+
+-- `why`, where there is memory
+pub answered-why : (m : Machine) (x : Name) (before mid after : Telling) → Tells before mid (map item_of_step (path_to (leads_in m.heap) x)) →
+    Tells mid after (of_reply (done_or_nothing (is_led_to (leads_in m.heap) x)) ∷ []) → IsAnswered m m (taken (command.Why x)) before after
+unfolding do_ask
+answered-why m x before mid after steps t =
+    by_turn m m before after (command.Why x) [] (record { machine = with_memory m []; answer = why_of (leads_in m.heap) x }) refl refl refl
+    (Tells-trans before mid after (map item_of_step (path_to (leads_in m.heap) x)) (of_reply (done_or_nothing (is_led_to (leads_in m.heap) x)) ∷ []) steps t)
+
+-- and where there is none
+pub answered-no_memory : (m : Machine) (x : Name) (before after : Telling) → Tells before after (of_reply (Refused NoMemory) ∷ []) →
+    IsAnswered m m (taken (command.Why x)) before after
+unfolding do_ask
+answered-no_memory m x before after t = by_turn m m before after (command.Why x) (false ∷ []) (answering (with_memory m []) [] (Refused NoMemory)) refl refl refl t
 
 -- the census
 pub answered-census : (m : Machine) (before mid after : Telling) → Tells before mid (map Listed (census_names m.heap)) →

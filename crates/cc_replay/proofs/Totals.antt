@@ -11,14 +11,14 @@ use Rattle.cc_model.specs.declared.item.Reply.{Reply}
 use Rattle.cc_model.specs.declared.item.Reply.TheVariants.{Census}
 use Rattle.cc_model.specs.declared.item.Event.{Event}
 use Rattle.cc_model.specs.declared.item.Item.{Item}
-use Rattle.cc_model.specs.declared.item.Item.TheVariants.{Event as of_event, Listed, Reply as of_reply}
+use Rattle.cc_model.specs.declared.item.Item.TheVariants.{Event as of_event, Listed, Step, Reply as of_reply}
 use Rattle.cc_model.specs.declared.command.Command.{Command}
 use Rattle.cc_model.specs.declared.command.Command.TheVariants as command
 use Rattle.cc_model.specs.declared.command.Command.TheVariants.{CopyNative, CopyScript, Get, Take, Wrap, Unwrap, GetEntry, Expose}
 use Rattle.cc_model.specs.Summed.{summed, with_item}
 use Rattle.cc_model.specs.Checks.{Objects, refused_or, reply_if_taken, named_or_nothing}
 use Rattle.cc_model.specs.Lawful.{State, AnswersAsk, IsLawfulFrom, RepliesWith, ReplyAnswers, next}
-use Rattle.cc_model.specs.Answers.{Answer, items_of, all_items_of}
+use Rattle.cc_model.specs.Answers.{Answer, Step as a_step, item_of_step, items_of, all_items_of}
 use Rattle.cc_model.specs.Asks.{Ask, long, bad, taken}
 use Rattle.cc_made.specs.Asked.{is_command}
 use Rattle.cc_replay.specs.Summaries.{sums_of}
@@ -27,6 +27,7 @@ use Rattle.cc_replay.specs.Summaries.{sums_of}
 abbrev is_reply : Item → Bool
 is_reply (of_event event) = false
 is_reply (Listed name) = false
+is_reply (Step x r) = false
 is_reply (of_reply reply) = true
 
 abbrev is_count : Reply → Bool
@@ -36,6 +37,7 @@ is_count reply = false
 abbrev is_census : Item → Bool
 is_census (of_event event) = false
 is_census (Listed name) = false
+is_census (Step x r) = false
 is_census (of_reply reply) = is_count reply
 
 -- the replies of all kinds but a census
@@ -74,9 +76,9 @@ none-counted : {X : Type 0} (p : Item → Bool) (f : X → Item) → ((x : X) �
 none-counted p f never [] = refl
 none-counted p f never (x ∷ xs) = omega (arith, count_by-cons p (f x) (map f xs), ap {B = ℕ} (λ (b : Bool). cond b 1 0) (never x), none-counted p f never xs)
 
-in-reply : (p : Item → Bool) → ((e : Event) → p (of_event e) ≡ false) → ((x : Name) → p (Listed x) ≡ false) → (a : Answer) →
+in-reply : (p : Item → Bool) → ((e : Event) → p (of_event e) ≡ false) → ((x : Name) → p (Listed x) ≡ false) → ((s : a_step) → p (item_of_step s) ≡ false) → (a : Answer) →
     count_by p (items_of a) ≡ count_by p (map of_reply (option_to_list a.reply))
-in-reply p no_event no_name a = grind (arith, count_by-append, none-counted)
+in-reply p no_event no_name no_step a = grind (arith, count_by-append, none-counted)
 
 -- a reply that the graph gives counts nothing
 named-no_count : (x : Option Name) → is_count (named_or_nothing x) ≡ false
@@ -118,8 +120,9 @@ one-answer s long a is l = absurd (false≢true is)
 one-answer s bad a is l = absurd (false≢true is)
 one-answer s (taken command.Nothing) a is l = absurd (false≢true is)
 one-answer s (taken command.Version2) a is l = absurd (false≢true is)
+one-answer s (taken (command.Why x)) a is l = absurd (false≢true is)
 one-answer s (taken command.Census) a is l = one-by a (Census (length s.listed)) 1 (ap (λ (b : Answer). b.reply) l) refl
-one-answer s (taken c) a is l = one-command s c a a.reply refl l.1
+one-answer s (taken c) a is l = one-command s c a a.reply refl l.2
 
 all-answers : (s : State) (asks : List Ask) (answers : List Answer) → list_all is_command asks ≡ true → IsLawfulFrom s asks answers →
     (count_by is_reply (all_items_of answers) ≡ length asks) × (count_by is_census (all_items_of answers) ≡ count_by asks_census asks)

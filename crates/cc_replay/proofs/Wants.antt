@@ -5,7 +5,7 @@ use Rattle.cc_lists.proofs.Counting.{count_by-append, count_by-cons, count_by-ma
 use Rattle.cc_model.specs.declared.sums.Sums.{Sums}
 use Rattle.cc_model.specs.declared.item.Reply.{Reply}
 use Rattle.cc_model.specs.declared.item.Item.{Item}
-use Rattle.cc_model.specs.declared.item.Item.TheVariants.{Event as of_event, Listed, Reply as of_reply}
+use Rattle.cc_model.specs.declared.item.Item.TheVariants.{Event as of_event, Listed, Step, Reply as of_reply}
 use Rattle.cc_model.specs.Summed.{summed, with_item}
 use Rattle.cc_model.specs.Lawful.{is_abandonment, is_without_memory}
 use Rattle.cc_model.specs.Answers.{Answer, items_of, all_items_of}
@@ -17,11 +17,13 @@ use Rattle.cc_replay.specs.Summaries.{sums_of}
 abbrev pub is_unmet : Item → Bool
 is_unmet (of_event event) = false
 is_unmet (Listed name) = false
+is_unmet (Step x r) = false
 is_unmet (of_reply reply) = is_without_memory reply
 
 abbrev is_given_up : Item → Bool
 is_given_up (of_event event) = is_abandonment event
 is_given_up (Listed name) = false
+is_given_up (Step x r) = false
 is_given_up (of_reply reply) = false
 
 -- a count that was raised is not zero

@@ -25,8 +25,9 @@ use cc_collector::{Collector, Steps};
 use cc_heaps::Heaps;
 use cc_model::{Command, Dialect, Item, Notices, Refusal, Reply};
 use cc_mutator::apply;
-use cc_names::NoMemory;
+use cc_names::{Name, NoMemory};
 use cc_outside::Source;
+use cc_paths::why;
 use cc_reader::{Line, Lines, ReadStop, parse};
 use std::alloc::Global;
 use std::marker::Brand;
@@ -104,8 +105,21 @@ fn answer_mutator<N: Notices>(
     out.tell(Item::Reply(reply));
 }
 
+/// Answers `why`: tells how the registers reach the object, or that none does.
+fn answer_why<N: Notices>(alloc: Global, name: &Name, heaps: &Heaps, out: &mut N)
+    requires order { IsInOrder [] heaps.now }
+    ensures { (c : Option Built) → IsAnswered (machine_of heaps.now.heap c) (machine_of heaps.now.heap c) (taken (command.Why name.now)) (N.telling out.old) (N.telling out.new) }
+{
+    match why(alloc, heaps, name, out) {
+        Ok(true) => out.tell(Item::Reply(Reply::Done)),
+        Ok(false) => out.tell(Item::Reply(Reply::Nothing)),
+        Err(NoMemory) => out.tell(Item::Reply(Reply::Refused(Refusal::NoMemory))),
+    }
+}
+
 /// Answers a command that the grammar gives.
 fn answer_command<N: Notices>(
+    alloc: Global,
     command: Command,
     heaps: &mut Heaps,
     collector: &mut Collector,
@@ -120,6 +134,7 @@ fn answer_command<N: Notices>(
     match command {
         Command::Nothing => {}
         Command::Version2 => out.tell(Item::Reply(Reply::Done)),
+        Command::Why(name) => answer_why(alloc, &name, heaps, out),
         Command::Census => answer_census(heaps, out),
         Command::Slice(units) => {
             answer_slice::<Brand, N>(units, heaps, collector, out, Blank::new(1))
@@ -132,6 +147,7 @@ fn answer_command<N: Notices>(
 
 /// Answers a line of at most 120 bytes, which decides how the next is read.
 fn answer_text<N: Notices>(
+    alloc: Global,
     text: &[u8],
     dialect: &mut Dialect,
     heaps: &mut Heaps,
@@ -146,7 +162,7 @@ fn answer_text<N: Notices>(
     let asked = parse(text, *dialect);
     *dialect = dialect.after(asked);
     match asked {
-        Some(command) => answer_command(command, heaps, collector, out),
+        Some(command) => answer_command(alloc, command, heaps, collector, out),
         None => out.tell(Item::Reply(Reply::Refused(Refusal::Line))),
     }
 }
@@ -162,6 +178,7 @@ enum Next {
 
 /// Reads the next line and answers it.
 fn answer_next<S: Source, N: Notices>(
+    alloc: Global,
     lines: &mut Lines<'_, S>,
     dialect: &mut Dialect,
     heaps: &mut Heaps,
@@ -202,7 +219,7 @@ fn answer_next<S: Source, N: Notices>(
             Ok(Next::Answered)
         }
         Line::Text => {
-            answer_text(lines.text(), dialect, heaps, collector, out);
+            answer_text(alloc, lines.text(), dialect, heaps, collector, out);
             Ok(Next::Answered)
         }
     }
@@ -224,6 +241,7 @@ fn ended_by(next: Result<Next, ReadStop>) -> Option<Status>
 /// Answers each line that is left, to the end of the source, or until a read fails, a write fails or the limit on bytes
 /// is passed.
 fn answer_all<S: Source, N: Reports>(
+    alloc: Global,
     lines: &mut Lines<'_, S>,
     dialect: &mut Dialect,
     heaps: &mut Heaps,
@@ -256,7 +274,7 @@ fn answer_all<S: Source, N: Reports>(
     ensures sink { (N.telling out.new).sink ≡ (N.telling out.old).sink }
 {
     'lines: loop {
-        if let Some(status) = ended_by(answer_next(lines, dialect, heaps, collector, out)) {
+        if let Some(status) = ended_by(answer_next(alloc, lines, dialect, heaps, collector, out)) {
             return status;
         }
         if out.is_broken() {
@@ -310,5 +328,5 @@ pub(crate) fn answer_input<S: Source, N: Reports>(
 {
     let mut dialect = Dialect::Start;
     let mut collector = Collector::new(alloc);
-    answer_all(lines, &mut dialect, heaps, &mut collector, out)
+    answer_all(alloc, lines, &mut dialect, heaps, &mut collector, out)
 }

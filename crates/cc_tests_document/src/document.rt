@@ -6,11 +6,11 @@ use std::alloc::Global;
 use std::test::Fail;
 
 // Variables of the tests.
-const ROOT: Variable = Variable(0);
+const ROOT: Variable = Variable { number: 0 };
 
-const CHILD: Variable = Variable(1);
+const CHILD: Variable = Variable { number: 1 };
 
-const NEXT: Variable = Variable(2);
+const NEXT: Variable = Variable { number: 1023 };
 
 // The child is removed, and no variable holds it.
 fn lets_go(document: &mut Document, out: &mut Notebook) -> bool {
@@ -72,21 +72,29 @@ fn loses_a_branch(document: &mut Document, hundreds: u32, out: &mut Notebook) ->
     root & first & second & lets_go(document, out)
 }
 
+// The last element of the other branch is led to, over all that are above it, and nothing leads to the first of the one that
+// went.
+fn says_why(alloc: Global, document: &Document, out: &mut Notebook) -> bool {
+    let last = document.why(alloc, NativeNo(10_003), out);
+    let gone = document.why(alloc, NativeNo(2), out);
+    (last == Ok(true)) & (gone == Ok(false))
+}
+
 // What is left once such a branch is collected.
-fn keeps_the_other_branch(document: &mut Document, out: &mut Notebook) -> bool {
+fn keeps_the_other_branch(alloc: Global, document: &mut Document, out: &mut Notebook) -> bool {
     let lost = loses_a_branch(document, 50, out);
     let settled = settles(document, out);
     let idle = looks_around(document, out);
     // the root and its reflector, the weak map, the other branch, and for each hundred of it a listener, data and a reflector
     let rest = document.census(out) == 2 + 1 + (1 + 5000) + 3 * 50;
     let second = document.child(ROOT, 1) == Some(NativeNo(5003));
-    lost & settled & idle & rest & second
+    lost & settled & idle & rest & second & says_why(alloc, document, out)
 }
 
 fn loses_half(alloc: Global) -> bool {
     let mut out = Notebook::new(alloc);
     match Document::new(alloc, Limits::new(100_000, 1_000, 0)) {
-        Ok(mut document) => keeps_the_other_branch(&mut document, &mut out),
+        Ok(mut document) => keeps_the_other_branch(alloc, &mut document, &mut out),
         Err(_) => false,
     }
 }
@@ -102,7 +110,7 @@ fn error_is_printed(rt: HostRuntime) -> Result<(), Fail> {
     let text = format!(in rt.alloc(); "{error}; {error:?} of {ROOT:?}")?;
     assert_eq!(rt;
         text.as_str(),
-        "the element has no place for another child; NoPlace of Variable(0)"
+        "the element has no place for another child; NoPlace of Variable { number: 0 }"
     );
     Ok(())
 }

@@ -152,6 +152,67 @@ const LIMITS: [Case; 3] = [
     },
 ];
 
+/// A path of two steps, which the first 61 bytes ask for, and a name that was never made: 68 bytes.
+const PATH: Case = Case {
+    input: b"version 2\nnative n0 1\nnative n1 0\nset n0 0 n1\ndrop n1\nwhy #2\nwhy #3\n",
+    written: b"= ok\n= #1\n= #2\n= ok\n= ok\n: #1 n0\n: #2 #1\n= ok\n= none\n",
+    ..WHOLE
+};
+
+/// A write fails within a path: the steps before it are written, and no other line is answered. A read fails behind it, or too
+/// many bytes come: the path is told whole.
+const PATHS: [Case; 9] = [
+    PATH,
+    Case {
+        gives: 1,
+        takes: 1,
+        ..PATH
+    },
+    Case {
+        write: 6,
+        written: b"= ok\n= #1\n= #2\n= ok\n= ok\n",
+        status: Status::WriteFault,
+        ..PATH
+    },
+    Case {
+        write: 7,
+        written: b"= ok\n= #1\n= #2\n= ok\n= ok\n: #1 n0\n",
+        status: Status::WriteFault,
+        ..PATH
+    },
+    Case {
+        write: 8,
+        written: b"= ok\n= #1\n= #2\n= ok\n= ok\n: #1 n0\n: #2 #1\n",
+        status: Status::WriteFault,
+        ..PATH
+    },
+    Case {
+        write: 9,
+        written: b"= ok\n= #1\n= #2\n= ok\n= ok\n: #1 n0\n: #2 #1\n= ok\n",
+        status: Status::WriteFault,
+        ..PATH
+    },
+    Case {
+        gives: 1,
+        reads: (62, 68),
+        written: b"= ok\n= #1\n= #2\n= ok\n= ok\n: #1 n0\n: #2 #1\n= ok\n",
+        status: Status::ReadFault,
+        ..PATH
+    },
+    Case {
+        gives: 1,
+        reads: (69, 69),
+        status: Status::ReadFault,
+        ..PATH
+    },
+    Case {
+        words: &["ccreplay", "replay", "--bytes", "67"],
+        written: b"= ok\n= #1\n= #2\n= ok\n= ok\n: #1 n0\n: #2 #1\n= ok\n",
+        status: Status::Limit,
+        ..PATH
+    },
+];
+
 /// The source of a case, of which the read of this number fails.
 fn source_of(rt: &(impl Abort + AllocGlobal), case: &Case, read: u64) -> BytesSource {
     let input = case.input.to_vec(rt.alloc()).expect(rt, "memory");
@@ -191,4 +252,9 @@ fn faults_of_the_outside_are_told(rt: HostRuntime) {
     all_run(&rt, &READS);
     all_run(&rt, &WRITES);
     all_run(&rt, &LIMITS);
+}
+
+#[test]
+fn faults_within_a_path_are_told(rt: HostRuntime) {
+    all_run(&rt, &PATHS);
 }

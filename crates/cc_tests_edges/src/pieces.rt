@@ -36,11 +36,14 @@ impl Sink for Pieces {
 /// One drop frees two natives, and a census then lists nothing.
 const LINES: &[u8] = b"native n0 1\nnative n1 0\nset n0 0 n1\ndrop n1\ndrop n0\ncensus\n";
 
+/// A path of two steps.
+const PATH: &[u8] = b"version 2\nnative n0 1\nnative n1 0\nset n0 0 n1\ndrop n1\nwhy #2\nwhy #3\n";
+
 /// Runs the lines into a sink that takes at most so many bytes at a time, and looks at what it was handed.
-fn hands_on(rt: &(impl Abort + AllocGlobal), most: usize, wanted: &[u8])
+fn hands_on(rt: &(impl Abort + AllocGlobal), lines: &[u8], most: usize, wanted: &[u8])
     requires { 1 ≤ most }
 {
-    let mut source = SureSource::new(LINES.to_vec(rt.alloc()).expect(rt, "memory"));
+    let mut source = SureSource::new(lines.to_vec(rt.alloc()).expect(rt, "memory"));
     let mut sink = Pieces {
         most,
         handed: Vec::new(rt.alloc()),
@@ -55,6 +58,7 @@ fn hands_on(rt: &(impl Abort + AllocGlobal), most: usize, wanted: &[u8])
 fn each_line_is_one_piece(rt: HostRuntime) {
     hands_on(
         &rt,
+        LINES,
         100,
         b"= #1\n|= #2\n|= ok\n|= ok\n|- free #1\n|- free #2\n|= ok\n|= census 0\n|",
     );
@@ -64,7 +68,28 @@ fn each_line_is_one_piece(rt: HostRuntime) {
 fn what_a_sink_leaves_of_a_line_is_the_next_piece(rt: HostRuntime) {
     hands_on(
         &rt,
+        LINES,
         6,
         b"= #1\n|= #2\n|= ok\n|= ok\n|- free #1\n| #1\n|- free #2\n| #2\n|= ok\n|= census 0\n|us 0\n|",
+    );
+}
+
+#[test]
+fn each_step_of_a_path_is_one_piece(rt: HostRuntime) {
+    hands_on(
+        &rt,
+        PATH,
+        100,
+        b"= ok\n|= #1\n|= #2\n|= ok\n|= ok\n|: #1 n0\n|: #2 #1\n|= ok\n|= none\n|",
+    );
+}
+
+#[test]
+fn what_a_sink_leaves_of_a_step_is_the_next_piece(rt: HostRuntime) {
+    hands_on(
+        &rt,
+        PATH,
+        6,
+        b"= ok\n|= #1\n|= #2\n|= ok\n|= ok\n|: #1 n0\n|0\n|: #2 #1\n|1\n|= ok\n|= none\n|\n|",
     );
 }

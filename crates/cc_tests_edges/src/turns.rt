@@ -6,6 +6,7 @@ use crate::runs::status_of_run;
 use cc_outside::{Failed, ReadCounts, Sink, Source, WriteCounts};
 use cc_replay::Status;
 use std::cell::Cell;
+use std::process::Abort;
 
 /// What was called so far, in order: a digit 1 for each read, a digit 2 for each write, the first call in front.
 type Log = Cell<u64>;
@@ -66,11 +67,11 @@ impl Sink for Listener<'_> {
     }
 }
 
-#[test]
-fn each_line_is_answered_before_the_next_read(rt: HostRuntime) {
+/// The calls of a run on some lines: of the source, which gives one line at a read, and of the sink.
+fn calls_on(rt: &(impl Abort + AllocGlobal), lines: &[&[u8]]) -> u64 {
     let log = Cell::new(0);
     let mut source = Speaker {
-        lines: &[b"native n0 0\n", b"drop n0\n", b"% note\n", b"gc\n"],
+        lines,
         given: 0,
         reads: ReadCounts::new(),
         log: &log,
@@ -81,6 +82,22 @@ fn each_line_is_answered_before_the_next_read(rt: HostRuntime) {
     };
     let status = status_of_run(rt.alloc(), &["ccreplay", "replay"], &mut source, &mut sink);
     assert!(rt; status == Status::Done);
+    log.get()
+}
+
+#[test]
+fn each_line_is_answered_before_the_next_read(rt: HostRuntime) {
+    let calls = calls_on(&rt, &[b"native n0 0\n", b"drop n0\n", b"% note\n", b"gc\n"]);
     // The drop frees, which is told by a line of its own; the note is not answered; the last read says the end.
-    assert!(rt; log.get() == 12_122_1121);
+    assert!(rt; calls == 12_122_1121);
+}
+
+#[test]
+fn each_step_of_a_path_is_told_before_the_next_read(rt: HostRuntime) {
+    let calls = calls_on(
+        &rt,
+        &[b"version 2\n", b"native n0 0\n", b"why #1\n", b"why #2\n"],
+    );
+    // One step, and that it is done; where there is none, that alone.
+    assert!(rt; calls == 12_12_122_121);
 }

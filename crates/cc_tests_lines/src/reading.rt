@@ -1,7 +1,7 @@
 //! Lines of a source that gives a few bytes at a time, and the command of one of them.
 
 use cc_model::{Command, Dialect};
-use cc_names::Reg;
+use cc_names::{Name, NativeNo, Reg, ScriptNo};
 use cc_outside::BytesSource;
 use cc_reader::{Line, Lines, ReadStop, parse};
 use std::test::Fail;
@@ -80,6 +80,40 @@ fn a_move_is_of_version_2(rt: HostRuntime) {
         "move n1 0 n2 none",
     ] {
         assert_eq!(rt; parse(line.as_bytes(), Dialect::Two), None);
+    }
+}
+
+#[test]
+fn why_is_of_version_2_and_asks_for_one_name(rt: HostRuntime) {
+    for (line, name) in [
+        ("why #1", Name::Native(NativeNo(1))),
+        (
+            " why  @4294967295 \r",
+            Name::Script(ScriptNo(4_294_967_295)),
+        ),
+        ("why ~20", Name::Reflector(NativeNo(20))),
+    ] {
+        let line = line.as_bytes();
+        assert_eq!(rt; parse(line, Dialect::Two), Some(Command::Why(name)));
+        assert_eq!(rt; parse(line, Dialect::One), None);
+        assert_eq!(rt; parse(line, Dialect::Start), None);
+    }
+    for line in [
+        "why",
+        "why 7",
+        "why n7",
+        "why #",
+        "why #0",
+        "why #01",
+        "why #4294967296",
+        "why #-1",
+        "why # 1",
+        "why #1 #2",
+        "why ##1",
+        "why none",
+        "Why #1",
+    ] {
+        assert_eq!(rt; parse(line.as_bytes(), Dialect::Two), None, "{line}");
     }
 }
 

@@ -1,9 +1,11 @@
-//! Tests of whole scripts that are deep or long, of long lines, of summaries of made scripts, and of command lines: by one
-//! function over texts that are made while they are read and written.
+//! Tests of whole scripts that are deep or long, of long paths and long lines, of summaries of made scripts, and of command
+//! lines: by one function over texts that are made while they are read and written.
 #![tactic(auto)]
 
 #[cfg(test)]
 mod lines;
+#[cfg(test)]
+mod paths;
 #[cfg(test)]
 mod shapes;
 #[cfg(test)]

@@ -29,3 +29,27 @@ pub move_exposes_over_slots : Works default_limits ample input.move_exposes_over
     (codes "= ok\n= #1\n= #2\n= #3\n= @1\n= ~2\n= ok\n= ok\n= ok\n= ok\n= ok\n= ok\n= ok\n= ok\n= #4\n= ok\n= ok\n= @1\n- unlink #3\n- free #3\n= ok\n= @1\n= ~2\n= #2\n")
 unfolding all_of_a_run
 move_exposes_over_slots = record { writes = refl; passes = refl; audited = refl }
+
+-- How a register reaches a native, and that none does once the register lets go.
+pub steps_from_a_register : Works default_limits ample input.steps_from_a_register
+    (codes "= ok\n= #1\n= #2\n= ok\n= ok\n: #1 n0\n: #2 #1\n= ok\n- free #1\n- free #2\n= ok\n= none\n")
+unfolding all_of_a_run
+steps_from_a_register = record { writes = refl; passes = refl; audited = refl }
+
+-- A value follows from its map and its key, and a name that was never made follows from nothing.
+pub steps_to_a_value : Works default_limits ample input.steps_to_a_value
+    (codes "= ok\n= @1\n= @2\n= @3\n= ok\n= ok\n: @1 s0\n: @2 s1\n: @3 @1 @2\n= ok\n= none\n")
+unfolding all_of_a_run
+steps_to_a_value = record { writes = refl; passes = refl; audited = refl }
+
+-- An object that some registers hold follows from the first of them, whichever took it first.
+pub first_register_tells : Works default_limits ample input.first_register_tells
+    (codes "= ok\n= #1\n= #1\n= #1\n= @1\n= @1\n= @1\n: #1 n7\n= ok\n: @1 s9\n= ok\n= ok\n= ok\n: #1 n300\n= ok\n: @1 s255\n= ok\n= ok\n= ok\n: #1 n1023\n= ok\n: @1 s1023\n= ok\n")
+unfolding all_of_a_run
+first_register_tells = record { writes = refl; passes = refl; audited = refl }
+
+-- An object that a register holds needs no other step, though a slot of an earlier one holds it too.
+pub register_tells_before_a_slot : Works default_limits ample input.register_tells_before_a_slot
+    (codes "= ok\n= #1\n= #2\n= #3\n= ok\n= ok\n: #2 n1\n= ok\n: #3 n2\n= ok\n= ok\n: #2 n1\n: #3 #2\n= ok\n= ok\n: #1 n0\n: #2 #1\n: #3 #2\n= ok\n")
+unfolding all_of_a_run
+register_tells_before_a_slot = record { writes = refl; passes = refl; audited = refl }

@@ -1,10 +1,12 @@
 -- The test of a lawful transcript says yes exactly where a transcript is lawful.
-use Rattle.std.proofs.Common.{◌≡◌, ◌↔◌, ℕ, Bool, true, false, not, ◌&&◌, ◌==◌, List, [], ◌∷◌, Option, Some, None, is_none, refl, sym, ◌∙◌, ap, subst}
+use Rattle.std.proofs.Common.{◌≡◌, ◌↔◌, ℕ, Bool, true, false, not, ◌&&◌, ◌==◌, List, [], ◌∷◌, Option, Some, None, is_none, refl, sym, ◌∙◌, ap, subst, arith}
 use Rattle.std.specs.Prelude.{IsTrue}
 use Rattle.std.proofs.lemmas.Bool.{not-true, not_from_false, and_parts, and_from, and_right, false≢true, true≢false, eqb-true, eq-eqb}
 use Rattle.cc_lists.specs.Members.{has}
 use Rattle.cc_names.specs.Allowance.{Allowance}
 use Rattle.cc_names.specs.declared.name.Name.{Name}
+use Rattle.cc_names.specs.declared.register.Reg.{Reg}
+use Rattle.cc_names.specs.declared.register.Reg.TheVariants.{N, S}
 use Rattle.cc_names.specs.Names.{same_name}
 use Rattle.cc_names.proofs.NameTests.{same_name-true, same_name-refl}
 use Rattle.cc_model.specs.declared.command.Command.{Command}
@@ -15,7 +17,10 @@ use Rattle.cc_model.specs.declared.item.Reply.{Reply}
 use Rattle.cc_model.specs.declared.item.Reply.TheVariants.{Named, Nothing, Done, Census, Refused}
 use Rattle.cc_model.specs.declared.item.Event.{Event}
 use Rattle.cc_model.specs.declared.item.Event.TheVariants.{Unlinked, Freed, Abandoned}
-use Rattle.cc_model.specs.Answers.{Answer}
+use Rattle.cc_model.specs.declared.item.Reason.{Reason}
+use Rattle.cc_model.specs.declared.item.Reason.TheVariants.{Root, Edge, Pair}
+use Rattle.cc_model.specs.Answers.{Answer, Step}
+use Rattle.cc_model.specs.Derivations.{leads_made, why_of}
 use Rattle.cc_model.specs.Asks.{Ask, long, bad, taken, asks_of}
 use Rattle.cc_model.specs.Checks.{refusal_of}
 use Rattle.cc_model.specs.Graph.{Graph, objects_of, reply_to}
@@ -25,7 +30,7 @@ use Rattle.cc_model.specs.Lawful.{State, start, next, graph_after, may_want_memo
 use Rattle.cc_model.proofs.Reaching.{reached-decided}
 use Rattle.cc_model.proofs.Replies.{is_without_memory-true}
 use Rattle.cc_worked.specs.Examples.{answers_to, IsLawfulRun}
-use Rattle.cc_worked.specs.Verdict.{place_of_refusal, refusal_at, same_reply, same_replies, same_names, has_events, is_answer, wants_memory, replies_with, may_have, is_garbage, may_be, each_may_be, is_rising, answers_command, reply_answers, answers_taken, answers_ask, is_lawful_from, is_lawful, is_quiet, passes_verdict}
+use Rattle.cc_worked.specs.Verdict.{place_of_refusal, refusal_at, same_reply, same_replies, same_names, same_register, same_reason, same_steps, has_events, is_answer, wants_memory, replies_with, may_have, is_garbage, may_be, each_may_be, is_rising, answers_command, reply_answers, answers_taken, answers_ask, is_lawful_from, is_lawful, is_quiet, passes_verdict}
 use Rattle.cc_worked.proofs.Deciding.{both-decided, three-decided, either-decided, not-decided, itself-decided, has-decided, is_none-decided}
 
 -- Equal replies and answers
@@ -91,30 +96,73 @@ same_names-refl (x ∷ xs) = and_from (same_name x x) (same_names xs xs) (same_n
 same_names-decided : (xs ys : List Name) → IsTrue (same_names xs ys) ↔ (xs ≡ ys)
 same_names-decided xs ys = (same_names-true xs ys, λ e. subst (λ z. IsTrue (same_names xs z)) e (same_names-refl xs))
 
+-- The same of registers, reasons and steps.
+same_register-true : (p q : Reg) → same_register p q ≡ true → p ≡ q
+same_register-true (N j) (N k) e = grind (arith, eqb-true)
+same_register-true (S j) (S k) e = grind (arith, eqb-true)
+same_register-true _ _ e = absurd (false≢true e)
+
+same_register-refl : (p : Reg) → same_register p p ≡ true
+same_register-refl (N k) = eq-eqb k k refl
+same_register-refl (S k) = eq-eqb k k refl
+
+same_reason-true : (r q : Reason) → same_reason r q ≡ true → r ≡ q
+same_reason-true (Root p) (Root q) e = ap Root (same_register-true p q e)
+same_reason-true (Edge x) (Edge y) e = ap Edge (same_name-true x y e)
+same_reason-true (Pair x k) (Pair y l) e =
+    let p = and_parts (same_name x y) (same_name k l) e in
+    ap (λ z. Pair z k) (same_name-true x y p.0) ∙ ap (λ z. Pair y z) (same_name-true k l p.1)
+same_reason-true _ _ e = absurd (false≢true e)
+
+same_reason-refl : (r : Reason) → same_reason r r ≡ true
+same_reason-refl (Root p) = same_register-refl p
+same_reason-refl (Edge x) = same_name-refl x
+same_reason-refl (Pair x k) = and_from (same_name x x) (same_name k k) (same_name-refl x) (same_name-refl k)
+
+same_steps-true : (ss ts : List Step) → same_steps ss ts ≡ true → ss ≡ ts
+same_steps-true [] [] e = refl
+same_steps-true (s ∷ ss) (t ∷ ts) e =
+    let k = and_parts (same_name s.0 t.0) (same_reason s.1 t.1 && same_steps ss ts) e in
+    let l = and_parts (same_reason s.1 t.1) (same_steps ss ts) k.1 in
+    ap (λ x. (x, s.1) ∷ ss) (same_name-true s.0 t.0 k.0)
+    ∙ (ap (λ r. (t.0, r) ∷ ss) (same_reason-true s.1 t.1 l.0) ∙ ap (λ us. t ∷ us) (same_steps-true ss ts l.1))
+same_steps-true _ _ e = absurd (false≢true e)
+
+same_steps-refl : (ss : List Step) → same_steps ss ss ≡ true
+same_steps-refl [] = refl
+same_steps-refl (s ∷ ss) = and_from (same_name s.0 s.0) (same_reason s.1 s.1 && same_steps ss ss) (same_name-refl s.0)
+    (and_from (same_reason s.1 s.1) (same_steps ss ss) (same_reason-refl s.1) (same_steps-refl ss))
+
+same_steps-decided : (ss ts : List Step) → IsTrue (same_steps ss ts) ↔ (ss ≡ ts)
+same_steps-decided ss ts = (same_steps-true ss ts, λ e. subst (λ z. IsTrue (same_steps ss z)) e (same_steps-refl ss))
+
 -- A list that has no events is empty.
 has_events-false : (es : List Event) → has_events es ≡ false → es ≡ []
 has_events-false [] e = refl
 has_events-false (x ∷ es) e = absurd (true≢false e)
 
 -- an answer by its parts
-abbrev answer_of : List Event → List Name → Option Reply → Answer
-answer_of es names reply = record { events = es; listed = names; reply = reply }
+abbrev answer_of : List Event → List Name → List Step → Option Reply → Answer
+answer_of es names steps reply = record { events = es; listed = names; steps = steps; reply = reply }
 
 -- The test of an answer without events says yes to that answer alone.
-is_answer-true : (a : Answer) (names : List Name) (reply : Option Reply) → is_answer a names reply ≡ true → a ≡ answer_of [] names reply
-is_answer-true a names reply e =
-    let k = and_parts (not (has_events a.events)) (same_names a.listed names && same_replies a.reply reply) e in
-    let l = and_parts (same_names a.listed names) (same_replies a.reply reply) k.1 in
-    ap (λ z. answer_of z a.listed a.reply) (has_events-false a.events (not-true (has_events a.events) k.0))
-    ∙ (ap (λ z. answer_of [] z a.reply) (same_names-true a.listed names l.0)
-    ∙ ap (λ z. answer_of [] names z) (same_replies-true a.reply reply l.1))
+is_answer-true : (a : Answer) (names : List Name) (steps : List Step) (reply : Option Reply) → is_answer a names steps reply ≡ true → a ≡ answer_of [] names steps reply
+is_answer-true a names steps reply e =
+    let k = and_parts (not (has_events a.events)) (same_names a.listed names && (same_steps a.steps steps && same_replies a.reply reply)) e in
+    let l = and_parts (same_names a.listed names) (same_steps a.steps steps && same_replies a.reply reply) k.1 in
+    let m = and_parts (same_steps a.steps steps) (same_replies a.reply reply) l.1 in
+    ap (λ z. answer_of z a.listed a.steps a.reply) (has_events-false a.events (not-true (has_events a.events) k.0))
+    ∙ (ap (λ z. answer_of [] z a.steps a.reply) (same_names-true a.listed names l.0)
+    ∙ (ap (λ z. answer_of [] names z a.reply) (same_steps-true a.steps steps m.0)
+    ∙ ap (λ z. answer_of [] names steps z) (same_replies-true a.reply reply m.1)))
 
 -- Being an answer without events is decided.
-is_answer-decided : (a : Answer) (names : List Name) (reply : Option Reply) → IsTrue (is_answer a names reply) ↔ (a ≡ answer_of [] names reply)
-is_answer-decided a names reply = (
-  is_answer-true a names reply,
-  (λ e. subst (λ z. IsTrue (is_answer z names reply)) (sym e)
-      (and_from (same_names names names) (same_replies reply reply) (same_names-refl names) (same_replies-refl reply))),
+is_answer-decided : (a : Answer) (names : List Name) (steps : List Step) (reply : Option Reply) → IsTrue (is_answer a names steps reply) ↔ (a ≡ answer_of [] names steps reply)
+is_answer-decided a names steps reply = (
+  is_answer-true a names steps reply,
+  (λ e. subst (λ z. IsTrue (is_answer z names steps reply)) (sym e)
+      (and_from (same_names names names) (same_steps steps steps && same_replies reply reply) (same_names-refl names)
+      (and_from (same_steps steps steps) (same_replies reply reply) (same_steps-refl steps) (same_replies-refl reply)))),
 )
 
 -- The five clauses
@@ -204,21 +252,26 @@ reply_answers-decided : (s : State) (c : Command) (a : Answer) (o : Option Reply
 reply_answers-decided s c a None = ((λ h. false≢true h), (λ b. absurd b))
 reply_answers-decided s c a (Some r) = answers_command-decided s c r a.events
 
--- The answer to a command that is no census is decided.
-plainly-decided : (s : State) (c : Command) (a : Answer) → IsTrue (same_names a.listed [] && reply_answers s c a a.reply) ↔
-    ((a.listed ≡ []) × ReplyAnswers s c a a.reply)
-plainly-decided s c a = both-decided (same_names a.listed []) (reply_answers s c a a.reply) (same_names-decided a.listed []) (reply_answers-decided s c a a.reply)
+-- The answer to a command that is no census and no `why` is decided.
+plainly-decided : (s : State) (c : Command) (a : Answer) → IsTrue (same_names a.listed [] && (same_steps a.steps [] && reply_answers s c a a.reply)) ↔
+    ((a.listed ≡ []) × (a.steps ≡ []) × ReplyAnswers s c a a.reply)
+plainly-decided s c a = three-decided (same_names a.listed []) (same_steps a.steps []) (reply_answers s c a a.reply)
+    (same_names-decided a.listed []) (same_steps-decided a.steps []) (reply_answers-decided s c a a.reply)
 
 -- The answer to a line that is in the grammar is decided.
 answers_taken-decided : (s : State) (c : Command) (a : Answer) → IsTrue (answers_taken s c a) ↔ AnswersTaken s c a
-answers_taken-decided s command.Nothing a = is_answer-decided a [] None
-answers_taken-decided s command.Census a = is_answer-decided a (census_of s.listed).listed (census_of s.listed).reply
+answers_taken-decided s command.Nothing a = is_answer-decided a [] [] None
+answers_taken-decided s command.Census a = is_answer-decided a (census_of s.listed).listed [] (census_of s.listed).reply
+answers_taken-decided s (command.Why x) a =
+    let w = why_of (leads_made s.graph) x in
+    either-decided (is_answer a w.listed w.steps w.reply) (is_answer a [] [] (Some (Refused NoMemory)))
+    (is_answer-decided a w.listed w.steps w.reply) (is_answer-decided a [] [] (Some (Refused NoMemory)))
 answers_taken-decided s c a = plainly-decided s c a
 
 -- The answer to a line is decided.
 answers_ask-decided : (s : State) (ask : Ask) (a : Answer) → IsTrue (answers_ask s ask a) ↔ AnswersAsk s ask a
-answers_ask-decided s long a = is_answer-decided a [] (Some (Refused Long))
-answers_ask-decided s bad a = is_answer-decided a [] (Some (Refused Line))
+answers_ask-decided s long a = is_answer-decided a [] [] (Some (Refused Long))
+answers_ask-decided s bad a = is_answer-decided a [] [] (Some (Refused Line))
 answers_ask-decided s (taken c) a = answers_taken-decided s c a
 
 -- So are the answers to all lines from some state on.

@@ -32,4 +32,9 @@ pub mod Examples22
 pub mod Examples23
 pub mod Examples24
 pub mod Examples25
+pub mod Examples26
+pub mod Examples27
+pub mod Examples28
+pub mod Examples29
+pub mod Examples30
 pub mod Examples

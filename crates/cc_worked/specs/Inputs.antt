@@ -785,3 +785,171 @@ value_lives_by_a_moved_key = codes "version 2\nnative n0 1\nnative n1 0\nweakmap
 -- What a gray script object that moves holds in its slots is black too, and the native that this leads to is kept.
 abbrev pub move_exposes_over_slots : List ℕ
 move_exposes_over_slots = codes "version 2\nnative n0 1\nnative n1 0\nnative n2 2\nscript s1 1\nwrap s0 n1\nput s1 0 s0\nset n0 0 s1\nset n2 0 s0\nset n2 1 n2\ndrop s0\ndrop s1\ndrop n1\ndrop n2\nnative n3 1\ngc\nslice 3\nmove n3 0 n0 0\nslice 10\nget s1 n3 0\ntake s0 s1 0\nunwrap n1 s0\n"
+
+-- How a register reaches a native, and that none does once the register lets go.
+abbrev pub steps_from_a_register : List ℕ
+steps_from_a_register = codes "version 2\nnative n0 1\nnative n1 0\nset n0 0 n1\ndrop n1\nwhy #2\ndrop n0\nwhy #2\n"
+
+-- A value follows from its map and its key, and a name that was never made follows from nothing.
+abbrev pub steps_to_a_value : List ℕ
+steps_to_a_value = codes "version 2\nweakmap s0\nscript s1 0\nscript s2 0\nwset s0 s1 s2\ndrop s2\nwhy @3\nwhy @9\n"
+
+-- An object that some registers hold follows from the first of them, whichever took it first.
+abbrev pub first_register_tells : List ℕ
+first_register_tells = codes "version 2\nnative n1023 0\ncopy n7 n1023\ncopy n300 n1023\nscript s1023 0\ncopy s9 s1023\ncopy s255 s1023\nwhy #1\nwhy @1\ndrop n7\ndrop s9\nwhy #1\nwhy @1\ndrop n300\ndrop s255\nwhy #1\nwhy @1\n"
+
+-- An object that a register holds needs no other step, though a slot of an earlier one holds it too.
+abbrev pub register_tells_before_a_slot : List ℕ
+register_tells_before_a_slot = codes "version 2\nnative n0 1\nnative n1 1\nnative n2 0\nset n0 0 n1\nset n1 0 n2\nwhy #2\nwhy #3\ndrop n2\nwhy #3\ndrop n1\nwhy #3\n"
+
+-- A native that a register holds does not follow from its reflector, which a script register holds.
+abbrev pub native_register_tells_before_a_reflector : List ℕ
+native_register_tells_before_a_reflector = codes "version 2\nnative n9 0\nwrap s0 n9\nwhy #1\nwhy ~1\ndrop n9\nwhy #1\nwhy ~1\n"
+
+-- An object that two others hold follows from the one in the lower slot, whichever was made or written first.
+abbrev pub slots_tell_in_rising_order : List ℕ
+slots_tell_in_rising_order = codes "version 2\nnative n0 256\nnative n1 1\nnative n2 1\nnative n3 0\nset n0 255 n1\nset n0 64 n2\nset n1 0 n3\nset n2 0 n3\ndrop n1\ndrop n2\ndrop n3\nwhy #4\nset n0 64 none\nwhy #4\n"
+
+-- An object that the second of two registers leads to at once does not follow from the longer path of the first.
+abbrev pub nearer_path_tells : List ℕ
+nearer_path_tells = codes "version 2\nnative n0 1\nnative n1 1\nnative n2 1\nnative n3 1\nset n0 0 n1\nset n1 0 n2\nset n3 0 n2\ndrop n1\ndrop n2\nwhy #3\ndrop n3\nwhy #3\n"
+
+-- A path goes from a native over a script object and a reflector to the next native, and on.
+abbrev pub steps_through_both_heaps : List ℕ
+steps_through_both_heaps = codes "version 2\nnative n0 2\nnative n1 1\nnative n2 0\nscript s0 1\nwrap s1 n1\nset n0 1 s0\nput s0 0 s1\nset n1 0 n2\ndrop n1\ndrop n2\ndrop s0\ndrop s1\nwhy #3\nwhy @1\ngc\ncollect\nwhy #3\n"
+
+-- A native leads to its reflector, and over its slots on, once script wrote to it, and not before.
+abbrev pub steps_through_a_preserved_reflector : List ℕ
+steps_through_a_preserved_reflector = codes "version 2\nnative n0 0\nwrap s0 n0\nscript s1 0\ndrop s0\nwhy ~1\nwrap s0 n0\nput s0 3 s1\ndrop s0\ndrop s1\nwhy ~1\nwhy @1\ndrop n0\nwhy ~1\nwhy #1\nwhy @1\n"
+
+-- An object to which a slot of a native leads, and its preserved reflector too, follows from the slot.
+abbrev pub slots_tell_before_the_preserved_reflector : List ℕ
+slots_tell_before_the_preserved_reflector = codes "version 2\nnative n0 1\nwrap s0 n0\nscript s1 1\nscript s2 0\nput s0 0 s2\nput s1 0 s2\nset n0 0 s1\ndrop s0\ndrop s1\ndrop s2\nwhy @2\nset n0 0 none\nwhy @2\n"
+
+-- An object to which a slot of a reflector leads, and its native too, follows from the slot.
+abbrev pub slots_tell_before_the_native : List ℕ
+slots_tell_before_the_native = codes "version 2\nnative n0 1\nwrap s0 n0\nscript s1 1\nscript s2 0\nput s0 3 s1\nput s1 0 s2\nset n0 0 s2\ndrop n0\ndrop s1\ndrop s2\nwhy @2\nput s0 3 none\nwhy @2\n"
+
+-- Of two branches that meet in an entry the steps stand in the order in which they were found, and those that lead elsewhere are left out.
+abbrev pub other_steps_are_left_out : List ℕ
+other_steps_are_left_out = codes "version 2\nscript s0 1\nweakmap s1\nnative n0 1\nscript s2 0\nscript s3 0\nnative n5 0\nscript s5 0\nput s0 0 s1\nset n0 0 s2\nwset s1 s2 s3\ndrop s1\ndrop s2\ndrop s3\nwhy @4\nwhy @5\nwhy #2\n"
+
+-- An entry whose map is found before its key leads to its value from the key on, and what the key itself holds is found before that.
+abbrev pub entry_waits_for_its_key : List ℕ
+entry_waits_for_its_key = codes "version 2\nweakmap s0\nscript s5 1\nscript s6 1\nscript s1 1\nscript s2 0\nput s5 0 s6\nput s6 0 s1\nwset s0 s1 s2\ndrop s6\ndrop s1\ndrop s2\nwhy @5\ntake s6 s5 0\ntake s1 s6 0\nwget s2 s0 s1\nput s1 0 s2\ndrop s6\ndrop s1\ndrop s2\nwhy @5\n"
+
+-- A value that a slot of its key holds too follows from map and key where the map is found first, and from the slot where the key is.
+abbrev pub entry_tells_before_a_slot_of_its_key : List ℕ
+entry_tells_before_a_slot_of_its_key = codes "version 2\nweakmap s1\nscript s2 1\nscript s3 0\nput s2 0 s3\nwset s1 s2 s3\ndrop s3\nwhy @3\ncopy s5 s1\ndrop s1\nwhy @3\n"
+
+-- A value of two entries follows from the one that was set first; a replaced value leaves an entry its place, and what is set again goes last.
+abbrev pub entries_tell_in_their_order : List ℕ
+entries_tell_in_their_order = codes "version 2\nweakmap s0\nscript s1 0\nscript s2 0\nscript s3 0\nwset s0 s2 s2\nwset s0 s1 s3\nwset s0 s2 s3\ndrop s3\nwhy @4\nwget s3 s0 s2\nwset s0 s2 none\nwset s0 s2 s3\ndrop s3\nwhy @4\n"
+
+-- The value of an entry is the key of the next one, whichever of them was set first.
+abbrev pub chain_of_entries : List ℕ
+chain_of_entries = codes "version 2\nweakmap s0\nscript s1 0\nscript s2 0\nscript s3 0\nscript s4 0\nwset s0 s2 s3\nwset s0 s1 s2\nwset s0 s3 s4\ndrop s2\ndrop s3\ndrop s4\nwhy @5\ndrop s1\nwhy @5\n"
+
+-- A proxy leads to its delegate and over this on, and a delegate does not lead back to its proxy.
+abbrev pub steps_through_a_delegate : List ℕ
+steps_through_a_delegate = codes "version 2\nscript s1 1\nscript s3 0\nput s1 0 s3\nproxy s2 s1\ndrop s1\ndrop s3\nwhy @1\nwhy @2\nproxy s4 s2\ndrop s2\nwhy @2\nscript s5 0\nproxy s6 s5\ndrop s6\nwhy @5\nwhy @6\n"
+
+-- A proxy that is a key follows from its map and its delegate, and its value from the map and the proxy; nothing does when the delegate goes.
+abbrev pub steps_to_a_proxy_key : List ℕ
+steps_to_a_proxy_key = codes "version 2\nweakmap s0\nscript s1 0\nproxy s2 s1\nscript s3 0\nwset s0 s2 s3\ndrop s2\ndrop s3\nwhy @3\nwhy @4\ndrop s1\nwhy @2\nwhy @3\nwhy @4\ngc\nwhy @4\n"
+
+-- A delegate that is found after the map leads from there on to the key and the value, where no other object led to it before.
+abbrev pub delegate_found_last : List ℕ
+delegate_found_last = codes "version 2\nweakmap s0\nscript s5 1\nscript s1 0\nproxy s2 s1\nscript s3 0\nscript s7 1\nput s5 0 s1\nwset s0 s2 s3\nput s7 0 s3\ndrop s1\ndrop s2\ndrop s3\nwhy @5\nwhy @4\ndrop s7\nwhy @5\n"
+
+-- A proxy of a proxy key follows from this and the map, also where its own entry was set first.
+abbrev pub chain_of_proxy_keys : List ℕ
+chain_of_proxy_keys = codes "version 2\nweakmap s0\nscript s1 0\nproxy s2 s1\nproxy s3 s2\nscript s4 0\nwset s0 s3 s4\nwset s0 s2 s0\ndrop s2\ndrop s3\ndrop s4\nwhy @5\n"
+
+-- A map that is its own key, or for which its key stands, is told once and named twice.
+abbrev pub map_is_key_and_delegate : List ℕ
+map_is_key_and_delegate = codes "version 2\nweakmap s0\nscript s1 0\nwset s0 s0 s1\nproxy s2 s0\nscript s3 0\nwset s0 s2 s3\ndrop s1\ndrop s2\ndrop s3\nwhy @1\nwhy @2\nwhy @3\nwhy @4\n"
+
+-- Neither a value alone leads to its key, nor a key to its map, nor a map alone to anything.
+abbrev pub entry_does_not_lead_back : List ℕ
+entry_does_not_lead_back = codes "version 2\nweakmap s0\nscript s1 0\nscript s2 1\nwset s0 s1 s2\nput s2 0 s1\ndrop s1\ndrop s2\nwhy @2\nwhy @3\nwget s1 s0 s1\nweakmap s3\nscript s4 0\nwset s3 s4 s4\ndrop s3\nwhy @4\nwhy @5\n"
+
+-- Each native of a cycle follows from the one before it, from the register on, and none does when the register lets go, though all are there.
+abbrev pub cycle_of_natives_is_told_once : List ℕ
+cycle_of_natives_is_told_once = codes "version 2\nnative n0 1\nnative n1 1\nnative n2 1\nset n0 0 n1\nset n1 0 n2\nset n2 0 n0\ndrop n0\ndrop n2\nwhy #1\nwhy #2\nwhy #3\ndrop n1\nwhy #1\nwhy #2\nwhy #3\ncensus\ncollect\nwhy #2\n"
+
+-- A value that leads back to its key is told once, and by nothing when map and key are let go.
+abbrev pub cycle_through_an_entry_is_told_once : List ℕ
+cycle_through_an_entry_is_told_once = codes "version 2\nnative n0 0\nwrap s1 n0\nweakmap s0\nscript s2 1\nput s2 0 s1\nwset s0 s1 s2\ndrop s1\ndrop s2\nwhy @2\nwhy ~1\ndrop n0\nwhy @2\nwhy #1\ngc\ncollect\nwhy ~1\ngc\nwhy ~1\n"
+
+-- A reflector that nothing holds follows from nothing, before it is swept and after that, and from its register when it is made again.
+abbrev pub swept_reflector_follows_from_nothing : List ℕ
+swept_reflector_follows_from_nothing = codes "version 2\nnative n0 0\nwhy ~1\nwrap s0 n0\nwhy ~1\ndrop s0\nwhy ~1\ngc\nwhy ~1\nwhy #1\nwrap s3 n0\nwhy ~1\n"
+
+-- A name that no object has yet, of each kind and up to the greatest number, follows from nothing.
+abbrev pub names_never_made_follow_from_nothing : List ℕ
+names_never_made_follow_from_nothing = codes "version 2\nwhy #1\nwhy @1\nwhy ~1\nnative n0 0\nscript s0 0\nwhy #2\nwhy @2\nwhy ~1\nwhy ~2\nwhy #4294967295\nwhy @4294967295\nwhy ~4294967295\nwhy #1\nwhy @1\n"
+
+-- A name beyond the limit is asked for as any other that was never made.
+abbrev pub limit_leaves_names_that_were_never_made : List ℕ
+limit_leaves_names_that_were_never_made = codes "version 2\nnative n0 0\nnative n1 0\nwhy #2\nwhy #1\nwhy @2\n"
+
+-- It is asked for with one name, whose number is at least 1, and with nothing else.
+abbrev pub forms_of_why_are_few : List ℕ
+forms_of_why_are_few = codes "version 2\nnative n0 0\nscript s0 0\nwrap s1 n0\nwhy\nwhy 7\nwhy #0\nwhy @0\nwhy ~0\nwhy n0\nwhy s0\nwhy none\nwhy #\nwhy @\nwhy ~\nwhy # 1\nwhy #1 #1\nwhy #1 1\nwhy ##1\nwhy #@1\nwhy #01\nwhy #00\nwhy #-1\nwhy #+1\nwhy #1,\nwhy #n0\nwhy #4294967296\nwhy @4294967296\nwhy ~4294967296\nwhy #10000000000000000000001\nwhy %1\nwhy $1\nwhy A1\nwhy }\nWhy #1\nWHY #1\nwhy" ++ replicate 1 9 ++ codes "#1\nwhy #1" ++ replicate 1 9 ++ codes "\nwhy#1\nwhyy #1\nwh #1\n  why   #1  \nwhy @1\nwhy ~1" ++ replicate 1 13 ++ codes "\n"
+
+-- Version 1 has no such word.
+abbrev pub version_one_has_no_why : List ℕ
+version_one_has_no_why = codes "native n0 0\nwhy #1\nwhy @1\nversion 2\nwhy #1\n"
+
+-- It does not ask for version 2, and makes the script one of version 1 as any other line that is not in its grammar.
+abbrev pub why_before_version_two : List ℕ
+why_before_version_two = codes "why #1\nversion 2\nnative n256 0\n"
+
+-- It takes no unit of a collection that runs, and tells what the registers reach at that moment: of a cycle that they let go, nothing.
+abbrev pub why_between_slices : List ℕ
+why_between_slices = codes "version 2\nnative n0 1\nnative n1 1\nset n0 0 n1\nset n1 0 n0\ndrop n1\nwhy #2\nslice 1\nwhy #2\ndrop n0\nwhy #2\nwhy #1\ncollect\ndrop n0\nnative n2 1\nnative n3 1\nset n2 0 n3\nset n3 0 n2\ndrop n2\ndrop n3\nwhy #3\nslice 1\nwhy #3\nslice 1\nwhy #4\nslice 1\nwhy #3\nslice 1\nwhy #3\nwhy #4\n"
+
+-- A native that a running collection has as a candidate follows from nothing when it is freed, and one that is made in its place from its own register.
+abbrev pub why_of_a_freed_candidate : List ℕ
+why_of_a_freed_candidate = codes "version 2\nnative n0 0\ncopy n1 n0\ndrop n1\nslice 1\nwhy #1\ndrop n0\nwhy #1\nnative n5 1\nnative n6 0\nset n5 0 n6\ndrop n6\nwhy #1\nwhy #2\nwhy #3\nslice 1\nwhy #3\nslice 1\nwhy #1\nwhy #3\n"
+
+-- A native that was unlinked, and that a reflector which nothing holds keeps, follows from nothing.
+abbrev pub unlinked_native_follows_from_nothing : List ℕ
+unlinked_native_follows_from_nothing = codes "version 2\nnative n0 1\nwrap s0 n0\nset n0 0 s0\ndrop s0\ndrop n0\ngc\ncollect\nwhy #1\nwhy ~1\ngc\nwhy #1\n"
+
+-- A gray reflector to which a path goes stays gray, so the next collection takes its cycle.
+abbrev pub why_exposes_nothing : List ℕ
+why_exposes_nothing = codes "version 2\nnative n0 1\nwrap s0 n0\nset n0 0 s0\ndrop s0\ngc\nwhy ~1\ndrop n0\ncollect\ngc\ncensus\n"
+
+-- A native to which a path goes stays suspected where it was and becomes suspected nowhere else: the collection has one node and takes three units.
+abbrev pub why_touches_nothing : List ℕ
+why_touches_nothing = codes "version 2\nnative n0 1\nset n0 0 n0\nnative n1 1\nnative n2 0\nset n1 0 n2\ndrop n2\ncollect\ncopy n3 n0\ndrop n3\ndrop n0\nwhy #1\nwhy #2\nwhy #3\nslice 2\nwhy #3\nslice 1\n"
+
+-- Registers, slots and the listed names are after it what they were before.
+abbrev pub why_changes_no_register_and_no_census : List ℕ
+why_changes_no_register_and_no_census = codes "version 2\nnative n0 1\nwrap s0 n0\nscript s1 0\nput s0 0 s1\nset n0 0 s0\ncensus\nwhy @1\ncensus\nget s2 n0 0\ntake s3 s2 0\nwhy @1\n"
+
+-- It is answered between gc, collect and gc and behind them, and a census then lists what is there.
+abbrev pub why_in_a_row_of_collections : List ℕ
+why_in_a_row_of_collections = codes "version 2\nnative n0 1\nscript s0 0\nset n0 0 s0\ndrop s0\nnative n1 1\nset n1 0 n1\ndrop n1\ngc\nwhy @1\ncollect\nwhy #2\ngc\nwhy @1\ncensus\n"
+
+-- Where memory is refused no step is told, and the next one tells them all.
+abbrev pub refused_why_tells_nothing : List ℕ
+refused_why_tells_nothing = codes "version 2\nnative n0 1\nnative n1 0\nset n0 0 n1\ndrop n1\nwhy #2\nwhy #2\n"
+
+-- A name that follows from nothing takes memory as any other, once, and a line that is not in the grammar takes none.
+abbrev pub why_takes_memory_for_each_name : List ℕ
+why_takes_memory_for_each_name = codes "version 2\nnative n0 0\nwhy #9\nwhy #0\nwhy #1\nwhy @1\nwhy @1\nnative n1 0\n"
+
+-- A collection that runs is not abandoned where memory is refused, and ends after as many units as it would have taken.
+abbrev pub refused_why_leaves_the_collection : List ℕ
+refused_why_leaves_the_collection = codes "version 2\nnative n0 1\nset n0 0 n0\ndrop n0\nslice 1\nwhy #1\nslice 1\nwhy #1\nslice 1\nwhy #1\n"
+
+-- It is not answered where its line feed is one byte more than may be read.
+abbrev pub why_of_one_byte_too_many : List ℕ
+why_of_one_byte_too_many = codes "version 2\nnative n0 0\nwhy #1\nwhy #1\n"
+
+-- It is answered in a last line that no line feed ends.
+abbrev pub why_without_a_line_feed : List ℕ
+why_without_a_line_feed = codes "version 2\nnative n0 0\nwhy #1"

@@ -3,6 +3,7 @@ pub mod Inputs
 pub mod Verdict
 pub mod Transcripts
 pub mod WrongReplies
+pub mod WrongPaths
 pub mod WrongEvents
 pub mod Garbage
 pub mod Right

@@ -1,11 +1,13 @@
 -- RIGHT TRANSCRIPTS, at the limits of what is lawful.
 use Rattle.std.specs.Prelude.{[], ◌∷◌, ◌++◌, codes, replicate}
+use Rattle.cc_names.specs.declared.register.Reg.TheVariants.{N, S}
 use Rattle.cc_names.specs.Names.{native, object, reflector}
 use Rattle.cc_model.specs.declared.item.Refusal.TheVariants.{Long, Line, NoMemory}
+use Rattle.cc_model.specs.declared.item.Reason.TheVariants.{Root, Edge, Pair}
 use Rattle.cc_model.specs.declared.item.Reply.TheVariants.{Refused, Nothing as nothing_there}
 use Rattle.cc_model.specs.declared.item.Event.TheVariants.{Unlinked, Freed, Abandoned}
 use Rattle.cc_model.specs.Answers.{no_answer, replying}
-use Rattle.cc_worked.specs.Transcripts.{Transcript, answered, made, lists, ok, done_after, refused, without_memory}
+use Rattle.cc_worked.specs.Transcripts.{Transcript, answered, made, lists, ok, path, done_after, refused, without_memory}
 
 -- What makes an object or an entry may be refused memory, and then nothing was made.
 abbrev pub memory_may_be_refused : Transcript
@@ -69,3 +71,18 @@ version_two_behind_a_comment = answered (codes "% c\n\nversion 2\nnative n1023 2
 abbrev pub census_in_order : Transcript
 census_in_order = answered (codes "script s0 0\nnative n0 0\nwrap s1 n0\ndrop s1\ngc\nscript s1 0\nwrap s2 n0\ncensus\n")
     (made (object 1) ∷ made (native 1) ∷ made (reflector 1) ∷ ok ∷ done_after (Freed (reflector 1) ∷ []) ∷ made (object 2) ∷ made (reflector 1) ∷ lists (native 1 ∷ object 1 ∷ object 2 ∷ reflector 1 ∷ []) ∷ [])
+
+-- The steps of a path stand in the order in which they were found.
+abbrev pub path_in_order : Transcript
+path_in_order = answered (codes "version 2\nweakmap s0\nscript s1 0\nproxy s2 s1\nscript s3 0\nnative n0 1\nset n0 0 s1\nwset s0 s2 s3\ndrop s1\ndrop s2\ndrop s3\nwhy @4\n")
+    (ok ∷ made (object 1) ∷ made (object 2) ∷ made (object 3) ∷ made (object 4) ∷ made (native 1) ∷ ok ∷ ok ∷ ok ∷ ok ∷ ok ∷ path ((native 1, Root (N 0)) ∷ (object 1, Root (S 0)) ∷ (object 2, Edge (native 1)) ∷ (object 3, Pair (object 1) (object 2)) ∷ (object 4, Pair (object 1) (object 3)) ∷ []) ∷ [])
+
+-- A path may be refused memory, also where there is none.
+abbrev pub path_may_be_refused_memory : Transcript
+path_may_be_refused_memory = answered (codes "version 2\nnative n0 0\nwhy #1\nwhy #2\nwhy #1\nwhy #2\n")
+    (ok ∷ made (native 1) ∷ without_memory ∷ without_memory ∷ path ((native 1, Root (N 0)) ∷ []) ∷ replying [] nothing_there ∷ [])
+
+-- What stays for a while follows from nothing all the same.
+abbrev pub garbage_follows_from_nothing : Transcript
+garbage_follows_from_nothing = answered (codes "version 2\nnative n0 0\ndrop n0\nwhy #1\nslice 1\nwhy #1\ngc\nwhy #1\n")
+    (ok ∷ made (native 1) ∷ ok ∷ replying [] nothing_there ∷ done_after (Unlinked (native 1) ∷ []) ∷ replying [] nothing_there ∷ done_after (Freed (native 1) ∷ []) ∷ replying [] nothing_there ∷ [])

@@ -5,7 +5,7 @@ use Rattle.cc_model.specs.declared.item.Refusal.{Refusal}
 use Rattle.cc_model.specs.declared.item.Refusal.TheVariants.{NoMemory}
 use Rattle.cc_model.specs.declared.item.Reply.TheVariants.{Named, Done, Census, Refused}
 use Rattle.cc_model.specs.declared.item.Event.{Event}
-use Rattle.cc_model.specs.Answers.{Answer, replying, listing}
+use Rattle.cc_model.specs.Answers.{Answer, Step, replying, listing, explaining}
 use Rattle.cc_model.specs.Asks.{Ask, asks_of}
 use Rattle.cc_model.specs.Lawful.{IsLawful}
 use Rattle.cc_model.specs.Quiet.{IsQuiet}
@@ -42,9 +42,13 @@ without_memory = refused NoMemory
 abbrev pub lists : List Name → Answer
 lists names = listing names (Census (length names))
 
+-- steps, and that they lead there
+abbrev pub path : List Step → Answer
+path steps = explaining steps Done
+
 -- events, and no reply
 abbrev pub only : List Event → Answer
-only events = record { events = events; listed = []; reply = None }
+only events = record { events = events; listed = []; steps = []; reply = None }
 
 -- Right and wrong
 

@@ -4,16 +4,21 @@ use Rattle.std.specs.List.{list_all}
 use Rattle.cc_lists.specs.Members.{has}
 use Rattle.cc_names.specs.Allowance.{Allowance}
 use Rattle.cc_names.specs.declared.name.Name.{Name}
+use Rattle.cc_names.specs.declared.register.Reg.{Reg}
+use Rattle.cc_names.specs.declared.register.Reg.TheVariants.{N, S}
 use Rattle.cc_names.specs.Names.{same_name}
 use Rattle.cc_model.specs.declared.command.Command.{Command}
-use Rattle.cc_model.specs.declared.command.Command.TheVariants.{Nothing, Census}
+use Rattle.cc_model.specs.declared.command.Command.TheVariants.{Nothing, Why, Census}
 use Rattle.cc_model.specs.declared.item.Refusal.{Refusal}
 use Rattle.cc_model.specs.declared.item.Refusal.TheVariants.{Long, Line, Empty, Kind, Slot, Full, NoMemory}
 use Rattle.cc_model.specs.declared.item.Reply.{Reply}
 use Rattle.cc_model.specs.declared.item.Reply.TheVariants.{Named, Nothing as nothing_there, Done, Census as counted, Refused}
 use Rattle.cc_model.specs.declared.item.Event.{Event}
 use Rattle.cc_model.specs.declared.item.Event.TheVariants.{Unlinked, Freed, Abandoned}
-use Rattle.cc_model.specs.Answers.{Answer, no_answer, replying}
+use Rattle.cc_model.specs.Answers.{Answer, Step, no_answer, replying}
+use Rattle.cc_model.specs.declared.item.Reason.{Reason}
+use Rattle.cc_model.specs.declared.item.Reason.TheVariants.{Root, Edge, Pair}
+use Rattle.cc_model.specs.Derivations.{leads_made, why_of}
 use Rattle.cc_model.specs.Asks.{Ask, long, bad, taken, asks_of}
 use Rattle.cc_model.specs.Checks.{refusal_of}
 use Rattle.cc_model.specs.Graph.{Graph, objects_of, reply_to}
@@ -59,17 +64,33 @@ same_names [] [] = true
 same_names (x ∷ xs) (y ∷ ys) = same_name x y && same_names xs ys
 same_names _ _ = false
 
+abbrev pub same_register : Reg → Reg → Bool
+same_register (N j) (N k) = j == k
+same_register (S j) (S k) = j == k
+same_register _ _ = false
+
+abbrev pub same_reason : Reason → Reason → Bool
+same_reason (Root p) (Root q) = same_register p q
+same_reason (Edge x) (Edge y) = same_name x y
+same_reason (Pair x k) (Pair y l) = same_name x y && same_name k l
+same_reason _ _ = false
+
+abbrev pub same_steps : List Step → List Step → Bool
+same_steps [] [] = true
+same_steps (s ∷ ss) (t ∷ ts) = same_name s.0 t.0 && (same_reason s.1 t.1 && same_steps ss ts)
+same_steps _ _ = false
+
 abbrev pub has_events : List Event → Bool
 has_events [] = false
 has_events (e ∷ es) = true
 
--- whether an answer is one of these names and this reply, without events
-abbrev pub is_answer : Answer → List Name → Option Reply → Bool
-is_answer a names reply = not (has_events a.events) && (same_names a.listed names && same_replies a.reply reply)
+-- whether an answer is one of these names, these steps and this reply, without events
+abbrev pub is_answer : Answer → List Name → List Step → Option Reply → Bool
+is_answer a names steps reply = not (has_events a.events) && (same_names a.listed names && (same_steps a.steps steps && same_replies a.reply reply))
 
 -- whether two answers without events are the same
 abbrev pub is_same_answer : Answer → Answer → Bool
-is_same_answer a b = is_answer a b.listed b.reply
+is_same_answer a b = is_answer a b.listed b.steps b.reply
 
 -- The answer to a command
 
@@ -115,7 +136,8 @@ reply_answers s c a (Some reply) = answers_command s c reply a.events
 abbrev pub answers_taken : State → Command → Answer → Bool
 answers_taken s Nothing a = is_same_answer a no_answer
 answers_taken s Census a = is_same_answer a (census_of s.listed)
-answers_taken s c a = same_names a.listed [] && reply_answers s c a a.reply
+answers_taken s (Why x) a = is_same_answer a (why_of (leads_made s.graph) x) || is_same_answer a (replying [] (Refused NoMemory))
+answers_taken s c a = same_names a.listed [] && (same_steps a.steps [] && reply_answers s c a a.reply)
 
 abbrev pub answers_ask : State → Ask → Answer → Bool
 answers_ask s long a = is_same_answer a (replying [] (Refused Long))

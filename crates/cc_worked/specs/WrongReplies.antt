@@ -281,7 +281,7 @@ census_tells_another_number = answered (codes "native n0 0\ncensus\n") (made (na
 -- A census does not end without that number.
 abbrev pub census_tells_no_number : Transcript
 census_tells_no_number = answered (codes "native n0 0\ncensus\n")
-    (made (native 1) ∷ record { events = []; listed = native 1 ∷ []; reply = None } ∷ [])
+    (made (native 1) ∷ record { events = []; listed = native 1 ∷ []; steps = []; reply = None } ∷ [])
 
 -- A census frees nothing.
 abbrev pub freed_by_a_census : Transcript

@@ -13,7 +13,7 @@
 //! transcript that is written by hand has a theorem: that it is right, or that its last answer is not, while all else in
 //! it is. The wrong ones have one fault each, and there is one for each clause of both definitions; the right ones stand
 //! at the limits of what the clauses allow. `specs/Transcripts.antt` has the words for them; `WrongReplies`,
-//! `WrongEvents`, `Garbage` and `Right` beside it have the transcripts, each under a name that says its fault.
+//! `WrongPaths`, `WrongEvents`, `Garbage` and `Right` beside it have the transcripts, each under a name that says its fault.
 //!
 //! Each function has an empty body, and is a law that its clauses state.
 #![tactic(auto)]
@@ -33,7 +33,7 @@ pub use worked::{examples_are_lawful, examples_are_quiet, examples_write_their_l
 pub use wrong::{
     false_wants_of_memory_are_refused, misplaced_answers_are_refused,
     wrong_abandonments_are_refused, wrong_censuses_are_refused, wrong_events_are_refused,
-    wrong_replies_are_refused,
+    wrong_paths_are_refused, wrong_replies_are_refused,
 };
 
 #[cfg(test)]

@@ -1,7 +1,7 @@
 //! Transcripts that are right, at the limits of what is lawful.
 
 ghost use Rattle.cc_worked.specs.Transcripts.{IsRight};
-ghost use Rattle.cc_worked.specs.Right.{memory_may_be_refused, reflector_may_be_refused_again, refused_collections_abandon, gc_abandons_first, two_collections_end, garbage_stays_for_a_while, value_goes_with_its_key, proxy_may_be_refused_memory, proxy_key_goes_with_its_delegate, lines_that_ask_nothing, move_frees_what_the_slot_held, version_two_behind_a_comment, census_in_order};
+ghost use Rattle.cc_worked.specs.Right.{memory_may_be_refused, reflector_may_be_refused_again, refused_collections_abandon, gc_abandons_first, two_collections_end, garbage_stays_for_a_while, value_goes_with_its_key, proxy_may_be_refused_memory, proxy_key_goes_with_its_delegate, lines_that_ask_nothing, move_frees_what_the_slot_held, version_two_behind_a_comment, census_in_order, path_in_order, path_may_be_refused_memory, garbage_follows_from_nothing};
 
 /// What the clauses just allow is right.
 pub fn right_transcripts_pass()
@@ -18,4 +18,7 @@ pub fn right_transcripts_pass()
     ensures move_frees_what_the_slot_held { IsRight move_frees_what_the_slot_held }
     ensures version_two_behind_a_comment { IsRight version_two_behind_a_comment }
     ensures census_in_order { IsRight census_in_order }
+    ensures path_in_order { IsRight path_in_order }
+    ensures path_may_be_refused_memory { IsRight path_may_be_refused_memory }
+    ensures garbage_follows_from_nothing { IsRight garbage_follows_from_nothing }
 {}

@@ -13,6 +13,7 @@ fn laws_can_be_called() {
     wrong_replies_are_refused();
     false_wants_of_memory_are_refused();
     wrong_censuses_are_refused();
+    wrong_paths_are_refused();
     wrong_events_are_refused();
     wrong_abandonments_are_refused();
     unquiet_censuses_are_refused();

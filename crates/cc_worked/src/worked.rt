@@ -3,7 +3,7 @@
 ghost use Rattle.std.specs.Prelude.{◌≡◌, ◌++◌, codes};
 ghost use Rattle.cc_model.specs.Run.{plain_text};
 ghost use Rattle.cc_worked.specs.Examples.{IsLawfulRun, IsQuietRun, ample, default_limits, refused_at};
-ghost use Rattle.cc_worked.specs.Inputs.{cascade_of_two, collect_refused_at_a_node, cycle_through_a_proxy_key, cycle_through_a_reflector, cycle_through_an_entry, delegate_read_after_its_mapping_was_noted, entry_does_not_keep_its_key, gc_sweeps_three_rounds, last_register_and_last_slot_move, moved_forth_and_back_between_slices, moved_to_a_native_that_is_yet_to_be_traversed, native_lives_by_a_moved_reflector, native_lives_by_an_exposed_reflector, proxy_key_lives_as_long_as_map_and_delegate, read_between_slices, refusals_and_odd_lines, self_cycle_is_collected, self_cycle_outlives_its_register, touched_between_slices, two_cycle_takes_four_units, value_lives_by_a_moved_key, value_lives_by_its_mapping};
+ghost use Rattle.cc_worked.specs.Inputs.{cascade_of_two, collect_refused_at_a_node, cycle_through_a_proxy_key, cycle_through_a_reflector, cycle_through_an_entry, cycle_through_an_entry_is_told_once, delegate_read_after_its_mapping_was_noted, entry_does_not_keep_its_key, gc_sweeps_three_rounds, last_register_and_last_slot_move, moved_forth_and_back_between_slices, moved_to_a_native_that_is_yet_to_be_traversed, native_lives_by_a_moved_reflector, native_lives_by_an_exposed_reflector, proxy_key_lives_as_long_as_map_and_delegate, read_between_slices, refusals_and_odd_lines, refused_why_leaves_the_collection, self_cycle_is_collected, self_cycle_outlives_its_register, steps_through_both_heaps, steps_to_a_proxy_key, steps_to_a_value, swept_reflector_follows_from_nothing, touched_between_slices, two_cycle_takes_four_units, value_lives_by_a_moved_key, value_lives_by_its_mapping, why_between_slices, why_of_a_freed_candidate};
 
 /// What these examples write.
 pub fn examples_write_their_lines()
@@ -20,6 +20,12 @@ pub fn examples_write_their_lines()
     ensures moved_to_a_native_that_is_yet_to_be_traversed { plain_text default_limits ample moved_to_a_native_that_is_yet_to_be_traversed
         ≡ codes "= ok\n= #1\n= #2\n= ok\n= ok\n= #1\n= ok\n= #2\n= ok\n= ok\n= #2\n= #1\n= ok\n= #2\n= #1\n+ #1\n+ #2\n= census 2\n"
         ++ codes "= ok\n= ok\n= ok\n= ok\n- unlink #1\n- unlink #2\n- free #1\n- free #2\n= ok\n" }
+    ensures steps_to_a_proxy_key { plain_text default_limits ample steps_to_a_proxy_key
+        ≡ codes "= ok\n= @1\n= @2\n= @3\n= @4\n= ok\n= ok\n= ok\n: @1 s0\n: @2 s1\n: @3 @1 @2\n= ok\n: @1 s0\n"
+        ++ codes ": @2 s1\n: @3 @1 @2\n: @4 @1 @3\n= ok\n= ok\n= none\n= none\n= none\n- free @2\n- free @3\n- free @4\n= ok\n= none\n" }
+    ensures steps_through_both_heaps { plain_text default_limits ample steps_through_both_heaps
+        ≡ codes "= ok\n= #1\n= #2\n= #3\n= @1\n= ~2\n= ok\n= ok\n= ok\n= ok\n= ok\n= ok\n= ok\n: #1 n0\n: @1 #1\n"
+        ++ codes ": ~2 @1\n: #2 ~2\n: #3 #2\n= ok\n: #1 n0\n: @1 #1\n= ok\n= ok\n= ok\n: #1 n0\n: @1 #1\n: ~2 @1\n: #2 ~2\n: #3 #2\n= ok\n" }
 {}
 
 /// The plain run of each of these examples is a transcript of an object graph from which nothing is freed.
@@ -46,6 +52,14 @@ pub fn examples_are_lawful()
     ensures value_lives_by_a_moved_key { IsLawfulRun default_limits ample value_lives_by_a_moved_key }
     ensures refusals_and_odd_lines { IsLawfulRun default_limits ample refusals_and_odd_lines }
     ensures collect_refused_at_a_node { IsLawfulRun default_limits (refused_at 3) collect_refused_at_a_node }
+    ensures steps_to_a_value { IsLawfulRun default_limits ample steps_to_a_value }
+    ensures steps_through_both_heaps { IsLawfulRun default_limits ample steps_through_both_heaps }
+    ensures steps_to_a_proxy_key { IsLawfulRun default_limits ample steps_to_a_proxy_key }
+    ensures cycle_through_an_entry_is_told_once { IsLawfulRun default_limits ample cycle_through_an_entry_is_told_once }
+    ensures swept_reflector_follows_from_nothing { IsLawfulRun default_limits ample swept_reflector_follows_from_nothing }
+    ensures why_between_slices { IsLawfulRun default_limits ample why_between_slices }
+    ensures why_of_a_freed_candidate { IsLawfulRun default_limits ample why_of_a_freed_candidate }
+    ensures refused_why_leaves_the_collection { IsLawfulRun default_limits (refused_at 3) refused_why_leaves_the_collection }
 {}
 
 /// The censuses of these examples stand behind `gc`, `collect` and `gc`, and list exactly what is reached.

@@ -4,6 +4,7 @@
 
 ghost use Rattle.cc_worked.specs.Transcripts.{IsUnlawfulAtItsEnd};
 ghost use Rattle.cc_worked.specs.WrongReplies.{missing_answer, answer_to_nothing_asked, no_reply, names_listed_by_a_drop, long_line_called_bad, bad_line_called_long, event_under_a_long_line, event_under_a_bad_line, blank_line_is_answered, comment_is_answered, event_under_a_blank_line, version_two_is_refused, version_two_is_taken_twice, version_two_is_taken_behind_a_long_line, wide_register_is_taken_in_version_one, wide_register_is_refused_in_version_two, another_reply, number_used_again, number_left_out, number_taken_without_memory, slot_is_read_as_empty, refused_without_cause, done_in_place_of_a_refusal, refused_for_another_cause, taken_out_entry_is_read, entry_of_another_map_is_taken_out, entry_of_another_key_is_taken_out, slot_of_a_proxy_is_read, proxy_is_taken_for_a_map, moved_native_is_not_named, moved_native_is_read_where_it_was, native_moved_onto_itself_is_lost, copy_of_a_native_wants_memory, copy_of_a_script_object_wants_memory, drop_wants_memory, set_wants_memory, get_wants_memory, put_wants_memory, take_wants_memory, wrap_of_a_listed_reflector_wants_memory, unwrap_wants_memory, preserve_wants_memory, replaced_entry_wants_memory, taken_out_entry_wants_memory, wget_wants_memory, expose_wants_memory, gc_wants_memory, move_wants_memory, version_wants_memory, refused_wrap_wants_memory, refused_wset_wants_memory, refused_proxy_wants_memory, full_in_place_of_want_of_memory, census_leaves_one_out, census_lists_what_was_freed, census_lists_what_was_not_made, census_lists_script_objects_first, census_lists_in_falling_order, census_lists_a_reflector_in_its_old_place, census_lists_a_wrapped_reflector_last, census_lists_a_reflector_twice, census_tells_another_number, census_tells_no_number, freed_by_a_census};
+ghost use Rattle.cc_worked.specs.WrongPaths.{steps_in_another_order, members_in_another_order, first_step_is_left_out, last_step_is_left_out, step_of_the_key_is_left_out, all_steps_are_left_out, step_goes_on, step_leads_elsewhere, step_is_told_twice, follows_from_the_second_register, follows_from_the_other_bank, follows_from_the_second_holder, follows_from_itself, key_is_told_for_the_map, value_follows_from_its_map, value_follows_without_its_key, proxy_key_follows_from_its_value, reached_object_follows_from_nothing, path_to_nothing, unreached_object_is_found, swept_reflector_is_found, name_never_made_is_refused, why_answers_with_a_name, path_without_a_reply, path_without_memory, names_listed_by_why, step_told_by_a_drop, step_told_by_a_census, step_under_a_blank_line, step_under_a_bad_line, number_zero_follows_from_nothing, path_in_version_one, path_is_refused_in_version_two, freed_by_why, freed_by_why_of_itself, why_abandons};
 ghost use Rattle.cc_worked.specs.WrongEvents.{freed_by_a_refused_command, freed_without_memory, freed_before_it_was_made, freed_twice, freed_again, freed_while_a_register_holds_it, freed_while_a_slot_holds_it, freed_while_its_reflector_is_held, preserved_reflector_is_freed, reflector_with_an_emptied_slot_is_freed, reflector_that_is_a_key_is_freed, value_is_freed_while_map_and_key_are_held, reflector_that_is_a_delegate_is_freed, delegate_is_freed_while_its_proxy_is_held, proxy_key_is_freed_while_map_and_delegate_are_held, value_of_a_proxy_key_is_freed_while_map_and_delegate_are_held, script_object_is_freed_by_a_drop, script_object_is_freed_by_a_slice, script_object_is_freed_by_a_collect, reflector_is_freed_by_a_collect, unlinked_before_it_was_made, unlinked_after_it_was_freed, unlinked_while_held, unlinked_by_a_drop, unlinked_by_the_making_of_another, moved_native_is_freed, unlinked_by_a_move, script_object_is_unlinked, reflector_is_unlinked, unlinked_in_falling_order, unlinked_twice, unlinked_in_falling_order_by_gc, unlinked_in_three_runs, refused_slice_abandons_nothing, refused_collect_abandons_nothing, refused_slice_abandons_twice, refused_collect_abandons_twice, freed_after_the_abandonment, slice_abandons_and_is_done, collect_abandons_and_is_done, gc_abandons_twice, gc_abandons_late, drop_abandons};
 
 /// Each line has one answer, of the form that the line wants.
@@ -84,6 +85,46 @@ pub fn wrong_censuses_are_refused()
     ensures census_tells_another_number { IsUnlawfulAtItsEnd census_tells_another_number }
     ensures census_tells_no_number { IsUnlawfulAtItsEnd census_tells_no_number }
     ensures freed_by_a_census { IsUnlawfulAtItsEnd freed_by_a_census }
+{}
+
+/// The path to an object is told by its steps, each with its reason and in its place, and by nothing else.
+pub fn wrong_paths_are_refused()
+    ensures steps_in_another_order { IsUnlawfulAtItsEnd steps_in_another_order }
+    ensures members_in_another_order { IsUnlawfulAtItsEnd members_in_another_order }
+    ensures first_step_is_left_out { IsUnlawfulAtItsEnd first_step_is_left_out }
+    ensures last_step_is_left_out { IsUnlawfulAtItsEnd last_step_is_left_out }
+    ensures step_of_the_key_is_left_out { IsUnlawfulAtItsEnd step_of_the_key_is_left_out }
+    ensures all_steps_are_left_out { IsUnlawfulAtItsEnd all_steps_are_left_out }
+    ensures step_goes_on { IsUnlawfulAtItsEnd step_goes_on }
+    ensures step_leads_elsewhere { IsUnlawfulAtItsEnd step_leads_elsewhere }
+    ensures step_is_told_twice { IsUnlawfulAtItsEnd step_is_told_twice }
+    ensures follows_from_the_second_register { IsUnlawfulAtItsEnd follows_from_the_second_register }
+    ensures follows_from_the_other_bank { IsUnlawfulAtItsEnd follows_from_the_other_bank }
+    ensures follows_from_the_second_holder { IsUnlawfulAtItsEnd follows_from_the_second_holder }
+    ensures follows_from_itself { IsUnlawfulAtItsEnd follows_from_itself }
+    ensures key_is_told_for_the_map { IsUnlawfulAtItsEnd key_is_told_for_the_map }
+    ensures value_follows_from_its_map { IsUnlawfulAtItsEnd value_follows_from_its_map }
+    ensures value_follows_without_its_key { IsUnlawfulAtItsEnd value_follows_without_its_key }
+    ensures proxy_key_follows_from_its_value { IsUnlawfulAtItsEnd proxy_key_follows_from_its_value }
+    ensures reached_object_follows_from_nothing { IsUnlawfulAtItsEnd reached_object_follows_from_nothing }
+    ensures path_to_nothing { IsUnlawfulAtItsEnd path_to_nothing }
+    ensures unreached_object_is_found { IsUnlawfulAtItsEnd unreached_object_is_found }
+    ensures swept_reflector_is_found { IsUnlawfulAtItsEnd swept_reflector_is_found }
+    ensures name_never_made_is_refused { IsUnlawfulAtItsEnd name_never_made_is_refused }
+    ensures why_answers_with_a_name { IsUnlawfulAtItsEnd why_answers_with_a_name }
+    ensures path_without_a_reply { IsUnlawfulAtItsEnd path_without_a_reply }
+    ensures path_without_memory { IsUnlawfulAtItsEnd path_without_memory }
+    ensures names_listed_by_why { IsUnlawfulAtItsEnd names_listed_by_why }
+    ensures step_told_by_a_drop { IsUnlawfulAtItsEnd step_told_by_a_drop }
+    ensures step_told_by_a_census { IsUnlawfulAtItsEnd step_told_by_a_census }
+    ensures step_under_a_blank_line { IsUnlawfulAtItsEnd step_under_a_blank_line }
+    ensures step_under_a_bad_line { IsUnlawfulAtItsEnd step_under_a_bad_line }
+    ensures number_zero_follows_from_nothing { IsUnlawfulAtItsEnd number_zero_follows_from_nothing }
+    ensures path_in_version_one { IsUnlawfulAtItsEnd path_in_version_one }
+    ensures path_is_refused_in_version_two { IsUnlawfulAtItsEnd path_is_refused_in_version_two }
+    ensures freed_by_why { IsUnlawfulAtItsEnd freed_by_why }
+    ensures freed_by_why_of_itself { IsUnlawfulAtItsEnd freed_by_why_of_itself }
+    ensures why_abandons { IsUnlawfulAtItsEnd why_abandons }
 {}
 
 /// A command frees and unlinks only what is listed and reached no more, and only what this command may free or unlink.

@@ -1,7 +1,7 @@
 //! `ccdocument` is a program over a document: it builds one, listens, removes a part whose elements, listeners and data
 //! hold each other through both heaps, goes on with frames of a collection between its changes, and writes after each step
 //! what is there. Before the collection nothing leads to the removed part, and all of it is there still; afterwards it is
-//! gone, and nothing else.
+//! gone, and nothing else. Then an element is removed for which another one still listens, and the program asks why it is there.
 #![tactic(auto)]
 
 ghost use Rattle.std.specs.Prelude.{◌<◌};
@@ -15,15 +15,15 @@ use std::alloc::Global;
 use std::fmt;
 
 // What the program works on.
-const PAGE: Variable = Variable(0);
+const PAGE: Variable = Variable { number: 0 };
 
-const MENU: Variable = Variable(1);
+const MENU: Variable = Variable { number: 1 };
 
-const FIRST: Variable = Variable(2);
+const FIRST: Variable = Variable { number: 2 };
 
-const SECOND: Variable = Variable(3);
+const SECOND: Variable = Variable { number: 3 };
 
-const TEXT: Variable = Variable(4);
+const TEXT: Variable = Variable { number: 4 };
 
 /// How many units of a collection are done in a frame.
 const UNITS: u32 = 5;
@@ -247,12 +247,73 @@ fn end(rt: &impl Print, alloc: Global, document: &mut Document) -> Result<()> {
     count(rt, alloc, document)
 }
 
+/// The last text listens for the first child of the page, which is removed then. A variable still holds it.
+fn remove_under_a_listener(
+    document: &mut Document,
+    told: &mut Notebook,
+) -> Result<(), DocumentError> {
+    document.visit_child(FIRST, PAGE, 0, told);
+    listen(document, TEXT, FIRST, told)?;
+    document.remove(PAGE, FIRST, told)
+}
+
+/// Tells why an element is there. Whether anything leads to it.
+fn why(
+    alloc: Global,
+    document: &Document,
+    element: Link,
+    steps: &mut Notebook,
+) -> Result<bool, NoMemory> {
+    match element.0 {
+        Some(number) => document.why(alloc, number, steps),
+        None => Ok(false),
+    }
+}
+
+/// Writes why an element is there.
+fn explain(rt: &impl Print, alloc: Global, document: &Document, element: Link) -> Result<()> {
+    let mut steps = Notebook::new(alloc);
+    println!(rt; "why is {element} there?")?;
+    if !why(alloc, document, element, &mut steps)? {
+        println!(rt; "  nothing leads to it")?;
+    }
+    tell(rt, &steps)
+}
+
+/// Settles the document, and writes why an element is there.
+fn settle_and_explain(
+    rt: &impl Print,
+    alloc: Global,
+    document: &mut Document,
+    element: Link,
+) -> Result<()> {
+    let mut told = Notebook::new(alloc);
+    settle(document, &mut told)?;
+    println!(rt; "the document is settled")?;
+    tell(rt, &told)?;
+    explain(rt, alloc, document, element)
+}
+
+/// Removes an element for which another one listens, and asks why it is there: while that listens, and afterwards.
+fn ask(rt: &impl Print, alloc: Global, document: &mut Document) -> Result<()> {
+    let mut told = Notebook::new(alloc);
+    remove_under_a_listener(document, &mut told)?;
+    let removed = read_links(document, FIRST).element;
+    document.let_go(FIRST, &mut told);
+    println!(rt; "text {removed} is removed, and the last text listens for it")?;
+    settle_and_explain(rt, alloc, document, removed)?;
+    listen(document, TEXT, PAGE, &mut told)?;
+    println!(rt; "the last text listens for the page in its place")?;
+    settle_and_explain(rt, alloc, document, removed)
+}
+
 /// The document from its start to its end.
 fn run(rt: &impl Print, alloc: Global, document: &mut Document) -> Result<()> {
     start(rt, alloc, document)?;
     remove_menu(rt, alloc, document)?;
     go_on(rt, alloc, document)?;
-    end(rt, alloc, document)
+    end(rt, alloc, document)?;
+    ask(rt, alloc, document)
 }
 
 fn main(rt: HostRuntime) -> Result<()> {

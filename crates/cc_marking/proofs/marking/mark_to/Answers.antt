@@ -1,14 +1,13 @@
-use Rattle.std.proofs.Common.{◌≡◌, [], ◌∷◌, length, drop, sym, ◌∙◌, ap, subst}
-use Rattle.cc_names.specs.declared.kind.Colour.{Colour}
+use Rattle.std.proofs.Common.{◌≡◌, [], ◌∷◌, length, drop, sym, ◌∙◌, ap, subst, arith}
 use Rattle.cc_script.specs.Objects.{AreWhole, is_there, places_at}
 use Rattle.cc_script.specs.Marking.{Marking, raise_each}
-use Rattle.cc_script.specs.Underway.{Underway, marks_of, with_first_looked_into}
+use Rattle.cc_script.specs.Underway.{Underway, marks_of}
 use Rattle.cc_script.proofs.Popping.{front-popped, none-popped}
 use Rattle.cc_script.proofs.Underway.{first-looked}
 use Rattle.cc_script.proofs.Wholeness.{there-raised}
-use Rattle.cc_marking.specs.Looking.{with_all_started, with_all_given}
+use Rattle.cc_marking.specs.Looking.{with_all_given}
 use Rattle.cc_marking.proofs.There.{AreEntriesThere-stay}
-use Rattle.cc_marking.proofs.Turns.{none-looked, turn-spends}
+use Rattle.cc_marking.proofs.Turns.{turn-spends}
 use Rattle.cc_marking.proofs.Underway.{IsUnderWay, under_way-begins, under_way-turns, under_way-ends, under_way-spent}
 use Rattle.cc_marking.proofs.marking.mark_to.Given as given
 use Rattle.cc_marking.proofs.marking.mark_to.Goals as goal
@@ -17,12 +16,7 @@ pub start_each-requires-clause-whole : goal.start_each-requires-clause-whole
 start_each-requires-clause-whole g c = subst (λ (u : Underway). AreWhole u.objects) (sym c.start_marking-marking.ensures.marking) c.requires.ordered.whole
 
 pub loop-key-init : goal.loop-key-init
-loop-key-init g c = (
-  under_way-begins c.args.to c.args.weak.now c.args.scripts.now (g.R.Roots.left c.args.roots.now) c.requires.ordered c.requires.followed c.requires.live c.args.steps.now (marks_of c.start_each.new.marking)
-      (c.start_each.ensures.started ∙ ap (λ (u : Underway). with_all_started u.to (g.R.Roots.left c.args.roots.now) (marks_of u)) c.start_marking-marking.ensures.marking),
-  c.start_each.ensures.colour ∙ ap (λ (u : Underway). u.to) c.start_marking-marking.ensures.marking,
-  c.start_each.ensures.whole,
-)
+loop-key-init g c = grind (arith, under_way-begins, g.R.Roots.left)
 
 -- the first of those that wait
 module _ (g : given.Over) (c : goal.After-mark_entries g) where
@@ -36,10 +30,7 @@ module _ (g : given.Over) (c : goal.After-mark_entries g) where
   slotted = raise_each c.args.to (places_at m.objects c.in-Some.key.0) (record { objects = m.objects; waiting = drop 1 m.waiting })
 
   slotted-is : marks_of c.next_marked.new.self ≡ slotted
-  slotted-is =
-      ap marks_of c.in-Some.ensures.looked
-      ∙ (ap (λ (to : Colour). with_first_looked_into to m) c.loop-key.invariant.1
-      ∙ first-looked c.args.to m c.in-Some.key.0 (drop 1 m.waiting) front)
+  slotted-is = grind (arith, first-looked, front)
 
   valued-is : marks_of c.mark_entries.new.marking ≡ with_all_given c.args.to c.args.weak.now c.in-Some.key.0 (length c.args.weak.now) slotted
   valued-is = c.mark_entries.ensures.given ∙ ap (with_all_given c.args.to c.args.weak.now c.in-Some.key.0 (length c.args.weak.now)) slotted-is
@@ -69,10 +60,7 @@ module _ (g : given.Over) (c : goal.After-end_marking g) where
   emptied = none-popped c.loop-key.marking.waiting c.in_default.ensures.first
 
   end-is : c.end_marking.new.self ≡ c.loop-key.marking.objects
-  end-is =
-      c.end_marking.ensures
-      ∙ (ap (λ (u : Underway). u.objects) c.in_default.ensures.looked
-      ∙ ap (λ (z : Marking). z.objects) (none-looked c.loop-key.marking.to (marks_of c.loop-key.marking) emptied))
+  end-is = search (emptied)
 
 pub returns-clause-raised : goal.returns-clause-raised
 returns-clause-raised g c =

@@ -22,6 +22,9 @@ returns-in-Nothing-clause-counts g c = counts_few c.args.heaps.now c.args.collec
 pub returns-in-Version2-clause-counts : goal.returns-in-Version2-clause-counts
 returns-in-Version2-clause-counts g c = counts_few c.args.heaps.now c.args.collector.now c.requires.runs
 
+pub returns-in-Why-clause-counts : goal.returns-in-Why-clause-counts
+returns-in-Why-clause-counts g c = counts_few c.args.heaps.now c.args.collector.now c.requires.runs
+
 pub returns-in-Census-clause-counts : goal.returns-in-Census-clause-counts
 returns-in-Census-clause-counts g c = counts_few c.args.heaps.now c.args.collector.now c.requires.runs
 

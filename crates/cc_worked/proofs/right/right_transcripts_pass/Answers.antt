@@ -1,5 +1,5 @@
 use Rattle.std.specs.Prelude.{refl}
-use Rattle.cc_worked.specs.Right.{memory_may_be_refused, reflector_may_be_refused_again, refused_collections_abandon, gc_abandons_first, two_collections_end, garbage_stays_for_a_while, value_goes_with_its_key, proxy_may_be_refused_memory, proxy_key_goes_with_its_delegate, lines_that_ask_nothing, move_frees_what_the_slot_held, version_two_behind_a_comment, census_in_order}
+use Rattle.cc_worked.specs.Right.{memory_may_be_refused, reflector_may_be_refused_again, refused_collections_abandon, gc_abandons_first, two_collections_end, garbage_stays_for_a_while, value_goes_with_its_key, proxy_may_be_refused_memory, proxy_key_goes_with_its_delegate, lines_that_ask_nothing, move_frees_what_the_slot_held, version_two_behind_a_comment, census_in_order, path_in_order, path_may_be_refused_memory, garbage_follows_from_nothing}
 use Rattle.cc_worked.proofs.Opened.{all_of_a_run}
 use Rattle.cc_worked.proofs.Judged.{right}
 use Rattle.cc_worked.proofs.right.right_transcripts_pass.Goals as goal
@@ -55,3 +55,15 @@ returns-clause-version_two_behind_a_comment c = right version_two_behind_a_comme
 pub returns-clause-census_in_order : goal.returns-clause-census_in_order
 unfolding all_of_a_run
 returns-clause-census_in_order c = right census_in_order refl
+
+pub returns-clause-path_in_order : goal.returns-clause-path_in_order
+unfolding all_of_a_run
+returns-clause-path_in_order c = right path_in_order refl
+
+pub returns-clause-path_may_be_refused_memory : goal.returns-clause-path_may_be_refused_memory
+unfolding all_of_a_run
+returns-clause-path_may_be_refused_memory c = right path_may_be_refused_memory refl
+
+pub returns-clause-garbage_follows_from_nothing : goal.returns-clause-garbage_follows_from_nothing
+unfolding all_of_a_run
+returns-clause-garbage_follows_from_nothing c = right garbage_follows_from_nothing refl

@@ -1,4 +1,4 @@
-use Rattle.cc_worked.proofs.Examples.{cascade_of_two, self_cycle_outlives_its_register, self_cycle_is_collected, two_cycle_takes_four_units, touched_between_slices, read_between_slices, native_lives_by_an_exposed_reflector, cycle_through_a_reflector, gc_sweeps_three_rounds, entry_does_not_keep_its_key, cycle_through_an_entry, value_lives_by_its_mapping, refusals_and_odd_lines, collect_refused_at_a_node, proxy_key_lives_as_long_as_map_and_delegate, cycle_through_a_proxy_key, delegate_read_after_its_mapping_was_noted, last_register_and_last_slot_move, moved_to_a_native_that_is_yet_to_be_traversed, moved_forth_and_back_between_slices, native_lives_by_a_moved_reflector, value_lives_by_a_moved_key}
+use Rattle.cc_worked.proofs.Examples.{cascade_of_two, self_cycle_outlives_its_register, self_cycle_is_collected, two_cycle_takes_four_units, touched_between_slices, read_between_slices, native_lives_by_an_exposed_reflector, cycle_through_a_reflector, gc_sweeps_three_rounds, entry_does_not_keep_its_key, cycle_through_an_entry, value_lives_by_its_mapping, refusals_and_odd_lines, collect_refused_at_a_node, proxy_key_lives_as_long_as_map_and_delegate, cycle_through_a_proxy_key, delegate_read_after_its_mapping_was_noted, last_register_and_last_slot_move, moved_to_a_native_that_is_yet_to_be_traversed, moved_forth_and_back_between_slices, native_lives_by_a_moved_reflector, value_lives_by_a_moved_key, steps_to_a_value, steps_through_both_heaps, steps_to_a_proxy_key, cycle_through_an_entry_is_told_once, swept_reflector_follows_from_nothing, why_between_slices, why_of_a_freed_candidate, refused_why_leaves_the_collection}
 use Rattle.cc_worked.proofs.Working.{works-lawful}
 use Rattle.cc_worked.proofs.worked.examples_are_lawful.Goals as goal
 
@@ -67,3 +67,27 @@ returns-clause-native_lives_by_a_moved_reflector c = works-lawful native_lives_b
 
 pub returns-clause-value_lives_by_a_moved_key : goal.returns-clause-value_lives_by_a_moved_key
 returns-clause-value_lives_by_a_moved_key c = works-lawful value_lives_by_a_moved_key
+
+pub returns-clause-steps_to_a_value : goal.returns-clause-steps_to_a_value
+returns-clause-steps_to_a_value c = works-lawful steps_to_a_value
+
+pub returns-clause-steps_through_both_heaps : goal.returns-clause-steps_through_both_heaps
+returns-clause-steps_through_both_heaps c = works-lawful steps_through_both_heaps
+
+pub returns-clause-steps_to_a_proxy_key : goal.returns-clause-steps_to_a_proxy_key
+returns-clause-steps_to_a_proxy_key c = works-lawful steps_to_a_proxy_key
+
+pub returns-clause-cycle_through_an_entry_is_told_once : goal.returns-clause-cycle_through_an_entry_is_told_once
+returns-clause-cycle_through_an_entry_is_told_once c = works-lawful cycle_through_an_entry_is_told_once
+
+pub returns-clause-swept_reflector_follows_from_nothing : goal.returns-clause-swept_reflector_follows_from_nothing
+returns-clause-swept_reflector_follows_from_nothing c = works-lawful swept_reflector_follows_from_nothing
+
+pub returns-clause-why_between_slices : goal.returns-clause-why_between_slices
+returns-clause-why_between_slices c = works-lawful why_between_slices
+
+pub returns-clause-why_of_a_freed_candidate : goal.returns-clause-why_of_a_freed_candidate
+returns-clause-why_of_a_freed_candidate c = works-lawful why_of_a_freed_candidate
+
+pub returns-clause-refused_why_leaves_the_collection : goal.returns-clause-refused_why_leaves_the_collection
+returns-clause-refused_why_leaves_the_collection c = works-lawful refused_why_leaves_the_collection

@@ -19,8 +19,8 @@ use Rattle.cc_document.proofs.document.Document.append.Goals as goal
 pub returns-clause-appended : goal.returns-clause-appended
 returns-clause-appended g c = λ k s.
     let t = subst (λ p. Shows p k) (sym c.self.view_is) s in
-    let v = c.args.parent.0 in
-    let w = c.args.child.0 in
+    let v = c.args.parent.number in
+    let w = c.args.child.number in
     let o = objects_of k in
     let place = c.in-Some.place in
     let one = c.write.ensures.shows k t in
@@ -41,8 +41,8 @@ returns-clause-appended g c = λ k s.
 pub invariant_of-self : goal.invariant_of-self
 invariant_of-self g c =
     let s = c.self.invariant.0 in
-    let v = c.args.parent.0 in
-    let w = c.args.child.0 in
+    let v = c.args.parent.number in
+    let w = c.args.child.number in
     let k = appended v c.in-Some.place w s.0 in
     let t = c.write-2.ensures.shows (written w 0 (Some (N v)) s.0) (c.write.ensures.shows s.0 s.1) in
     ((k, t), idle-after c.self.inside.parts c.write-2.new.self s.0 k s.1 t (appended-left s.0 v c.in-Some.place w) c.self.invariant.1)
@@ -52,7 +52,7 @@ returns-clause-tells g c =
     let v = c.self.inside.parts.heaps in
     let w = c.write-2.new.self.heaps in
     let s = c.self.invariant.0 in
-    let t = c.write-2.ensures.shows (written c.args.child.0 0 (Some (N c.args.parent.0)) s.0) (c.write.ensures.shows s.0 s.1) in
+    let t = c.write-2.ensures.shows (written c.args.child.number 0 (Some (N c.args.parent.number)) s.0) (c.write.ensures.shows s.0 s.1) in
     subst (λ (p : Parts). TellsWhatIsFreed p.heaps.heap w.heap (g.N.Notices.telling c.args.out.now) (g.N.Notices.telling c.write-2.new.out)) c.self.view_is
     (tells-then v.heap c.write.new.self.heaps.heap w.heap t.runs.order.sound.well_formed c.write-2.ensures.none_came c.write.ensures.none_came
     (g.N.Notices.telling c.args.out.now) (g.N.Notices.telling c.write.new.out) (g.N.Notices.telling c.write-2.new.out) c.write.ensures.tells c.write-2.ensures.tells)
@@ -64,22 +64,22 @@ returns-clause-makes g c =
 pub returns-then-is_some-clause-stops : goal.returns-then-is_some-clause-stops
 returns-then-is_some-clause-stops g c = λ e is k s.
     let o = objects_of k in
-    let x = element_of (register k (N c.args.parent.0)) in
-    let y = element_of (register k (N c.args.child.0)) in
+    let x = element_of (register k (N c.args.parent.number)) in
+    let y = element_of (register k (N c.args.child.number)) in
     let here = read-some c.element.result x c.is_none.result (c.element.ensures k s) c.is_none.ensures c.if-is_none.false in
     let there = read-some c.element-else-is_none.result y c.is_none-else-is_none.result (c.element-else-is_none.ensures k s) c.is_none-else-is_none.ensures c.if-is_none-2.false in
-    let has : parent_of o (register k (N c.args.child.0)) ≢ None =
-    read-is_some c.parent.result (parent_of o (register k (N c.args.child.0))) c.is_some.result (c.parent.ensures k s) c.is_some.ensures c.if-is_some.true in
-    stopped-alike (StopsAppending o c.args.parent.0 c.args.child.0) (Err HasParent) HasParent refl (both-there x y here there, has) e is
+    let has : parent_of o (register k (N c.args.child.number)) ≢ None =
+    read-is_some c.parent.result (parent_of o (register k (N c.args.child.number))) c.is_some.result (c.parent.ensures k s) c.is_some.ensures c.if-is_some.true in
+    stopped-alike (StopsAppending o c.args.parent.number c.args.child.number) (Err HasParent) HasParent refl (both-there x y here there, has) e is
 
 pub returns-in_default-clause-stops : goal.returns-in_default-clause-stops
 returns-in_default-clause-stops g c = λ e is k s.
     let o = objects_of k in
-    let x = element_of (register k (N c.args.parent.0)) in
-    let y = element_of (register k (N c.args.child.0)) in
+    let x = element_of (register k (N c.args.parent.number)) in
+    let y = element_of (register k (N c.args.child.number)) in
     let here = read-some c.element.result x c.is_none.result (c.element.ensures k s) c.is_none.ensures c.if-is_none.false in
     let there = read-some c.element-else-is_none.result y c.is_none-else-is_none.result (c.element-else-is_none.ensures k s) c.is_none-else-is_none.ensures c.if-is_none-2.false in
-    let alone : parent_of o (register k (N c.args.child.0)) ≡ None =
-    read-none c.parent.result (parent_of o (register k (N c.args.child.0))) c.is_some.result (c.parent.ensures k s) c.is_some.ensures c.if-is_some.false in
-    stopped-alike (StopsAppending o c.args.parent.0 c.args.child.0) (Err NoPlace) NoPlace refl
+    let alone : parent_of o (register k (N c.args.child.number)) ≡ None =
+    read-none c.parent.result (parent_of o (register k (N c.args.child.number))) c.is_some.result (c.parent.ensures k s) c.is_some.ensures c.if-is_some.false in
+    stopped-alike (StopsAppending o c.args.parent.number c.args.child.number) (Err NoPlace) NoPlace refl
     (both-there x y here there, alone, λ place within. c.place.ensures.none c.in_default.is k s place within) e is

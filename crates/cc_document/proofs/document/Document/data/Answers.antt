@@ -6,4 +6,4 @@ use Rattle.cc_document.proofs.document.Document.data.Goals as goal
 pub returns : goal.returns
 returns c = λ g s.
     let t = subst (λ p. Shows p g) (sym c.self.view_is) s in
-    c.data_of.ensures ∙ data-alike c.self.inside.parts.heaps c.self.inside.parts.running g t c.args.of.0
+    c.data_of.ensures ∙ data-alike c.self.inside.parts.heaps c.self.inside.parts.running g t c.args.of.number

@@ -23,20 +23,20 @@ invariant_of-self g c =
     let v = c.self.inside.parts.heaps in
     let w = c.set_native_reg.new.self in
     let b = c.self.inside.parts.running in
-    let k = set_register s.0 (N c.args.variable.0) None in
-    let t = Shows-step v w b (λ h. set_register h (N c.args.variable.0) None)
-    (record { kept = e.kept; stands = e.stands tt }) s.0 s.1 (native_register-document s.0 s.1.document c.args.variable.0 None) in
+    let k = set_register s.0 (N c.args.variable.number) None in
+    let t = Shows-step v w b (λ h. set_register h (N c.args.variable.number) None)
+    (record { kept = e.kept; stands = e.stands tt }) s.0 s.1 (native_register-document s.0 s.1.document c.args.variable.number None) in
     ((k, t), idle-after c.self.inside.parts (parts w b) s.0 k s.1 t (λ r. inl refl) c.self.invariant.1)
 
 pub returns-clause-assigned : goal.returns-clause-assigned
 returns-clause-assigned g c = λ k s.
     let t = subst (λ p. Shows p k) (sym c.self.view_is) s in
     let e = c.set_native_reg.ensures in
-    let within : c.args.variable.0 < bank_length = search rules in (
-      set_register k (N c.args.variable.0) None,
-      Shows-step c.self.inside.parts.heaps c.set_native_reg.new.self c.self.inside.parts.running (λ h. set_register h (N c.args.variable.0) None)
-          (record { kept = e.kept; stands = e.stands tt }) k t (native_register-document k t.document c.args.variable.0 None),
-      assigned-reads k c.args.variable.0 None (omega (arith, within, s.well.registers.0)),
+    let within : c.args.variable.number < bank_length = search rules in (
+      set_register k (N c.args.variable.number) None,
+      Shows-step c.self.inside.parts.heaps c.set_native_reg.new.self c.self.inside.parts.running (λ h. set_register h (N c.args.variable.number) None)
+          (record { kept = e.kept; stands = e.stands tt }) k t (native_register-document k t.document c.args.variable.number None),
+      assigned-reads k c.args.variable.number None (omega (arith, within, s.well.registers.0)),
     )
 
 pub returns-clause-tells : goal.returns-clause-tells
@@ -48,10 +48,10 @@ returns-clause-tells g c =
 pub returns-clause-makes : goal.returns-clause-makes
 returns-clause-makes g c =
     let w = c.set_native_reg.new.self in
-    let within : c.args.variable.0 < bank_length = search rules in
+    let within : c.args.variable.number < bank_length = search rules in
     subst (λ (p : Parts). Makes 0 0 p (parts w c.self.inside.parts.running)) c.self.view_is
     (record {
       running = refl;
-      made = hold_native-made c.self.inside.parts.heaps w c.args.variable.0 None within
+      made = hold_native-made c.self.inside.parts.heaps w c.args.variable.number None within
           (λ y m. absurd m) c.self.invariant.0.1.runs.order c.set_native_reg.ensures.heap;
     })

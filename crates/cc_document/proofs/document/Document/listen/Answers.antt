@@ -21,8 +21,8 @@ pub returns-clause-listens : goal.returns-clause-listens
 returns-clause-listens g c = λ k s.
     let p = c.self.inside.parts in
     let t = subst (λ p. Shows p k) (sym c.self.view_is) s in
-    let v = c.args.to.0 in
-    let w = c.args.about.0 in
+    let v = c.args.to.number in
+    let w = c.args.about.number in
     let a = alike p.heaps p.running k t in
     let h = closed_over w k in
     let one = c.in_ok-close_over.ensures.closed k t in
@@ -41,8 +41,8 @@ returns-clause-listens g c = λ k s.
 pub empty-requires-clause-shown : goal.empty-requires-clause-shown
 empty-requires-clause-shown g c =
     let s = c.self.invariant.0 in
-    let h = closed_over c.args.about.0 s.0 in
-    (written c.args.to.0 1 (Some (S 1)) h, c.hand_over.ensures.shows h (c.in_ok-close_over.ensures.closed s.0 s.1))
+    let h = closed_over c.args.about.number s.0 in
+    (written c.args.to.number 1 (Some (S 1)) h, c.hand_over.ensures.shows h (c.in_ok-close_over.ensures.closed s.0 s.1))
 
 pub invariant_of-self : goal.invariant_of-self
 invariant_of-self g c =
@@ -53,10 +53,10 @@ invariant_of-self g c =
 pub invariant_of-self-2 : goal.invariant_of-self-2
 invariant_of-self-2 g c =
     let s = c.self.invariant.0 in
-    let h = closed_over c.args.about.0 s.0 in
-    let k = listened c.args.to.0 c.args.about.0 s.0 in
-    let t = c.empty.ensures.shows (written c.args.to.0 1 (Some (S 1)) h) (c.hand_over.ensures.shows h (c.in_ok-close_over.ensures.closed s.0 s.1)) in
-    ((k, t), idle-after c.self.inside.parts c.empty.new.self s.0 k s.1 t (listened-left s.0 c.args.to.0 c.args.about.0 s.1.well.registers.1) c.self.invariant.1)
+    let h = closed_over c.args.about.number s.0 in
+    let k = listened c.args.to.number c.args.about.number s.0 in
+    let t = c.empty.ensures.shows (written c.args.to.number 1 (Some (S 1)) h) (c.hand_over.ensures.shows h (c.in_ok-close_over.ensures.closed s.0 s.1)) in
+    ((k, t), idle-after c.self.inside.parts c.empty.new.self s.0 k s.1 t (listened-left s.0 c.args.to.number c.args.about.number s.1.well.registers.1) c.self.invariant.1)
 
 pub returns-in_err-close_over-clause-same : goal.returns-in_err-close_over-clause-same
 returns-in_err-close_over-clause-same g c = on_err_of c.from_residual.result (λ k s.
@@ -72,9 +72,9 @@ returns-clause-tells g c =
     let x = c.self.inside.parts.heaps.heap in
     let y = c.close_over.new.self.heaps.heap in
     let z = c.hand_over.new.self.heaps.heap in
-    let h = closed_over c.args.about.0 s.0 in
+    let h = closed_over c.args.about.number s.0 in
     let one = c.in_ok-close_over.ensures.closed s.0 s.1 in
-    let t = c.empty.ensures.shows (written c.args.to.0 1 (Some (S 1)) h) (c.hand_over.ensures.shows h one) in
+    let t = c.empty.ensures.shows (written c.args.to.number 1 (Some (S 1)) h) (c.hand_over.ensures.shows h one) in
     subst (λ (p : Parts). TellsWhatIsFreed p.heaps.heap c.empty.new.self.heaps.heap before after) c.self.view_is
     (tells-later x z c.empty.new.self.heaps.heap t.runs.order.sound.well_formed c.empty.ensures.none_came before after (grows-stays 0 z c.empty.new.self.heaps.heap c.empty.ensures.grows)
     (tells-after x y z before after one.runs.order.sound.well_formed c.in_ok-close_over.ensures.grows c.hand_over.ensures.tells))
@@ -102,16 +102,16 @@ returns-in_err-close_over-clause-tried g c = on_err_of c.from_residual.result
 
 pub returns-in_err-close_over-clause-empty : goal.returns-in_err-close_over-clause-empty
 returns-in_err-close_over-clause-empty g c = λ k s lacks.
-    let x = element_of (register k (N c.args.to.0)) in
-    let y = element_of (register k (N c.args.about.0)) in
+    let x = element_of (register k (N c.args.to.number)) in
+    let y = element_of (register k (N c.args.about.number)) in
     let here = read-some c.element.result x c.is_none.result (c.element.ensures k s) c.is_none.ensures c.if-is_none.false in
     let there = read-some c.element-else-is_none.result y c.is_none-else-is_none.result (c.element-else-is_none.ensures k s) c.is_none-else-is_none.ensures c.if-is_none-2.false in
     absurd (both-there x y here there lacks)
 
 pub returns-clause-empty : goal.returns-clause-empty
 returns-clause-empty g c = λ k s lacks.
-    let x = element_of (register k (N c.args.to.0)) in
-    let y = element_of (register k (N c.args.about.0)) in
+    let x = element_of (register k (N c.args.to.number)) in
+    let y = element_of (register k (N c.args.about.number)) in
     let here = read-some c.element.result x c.is_none.result (c.element.ensures k s) c.is_none.ensures c.if-is_none.false in
     let there = read-some c.element-else-is_none.result y c.is_none-else-is_none.result (c.element-else-is_none.ensures k s) c.is_none-else-is_none.ensures c.if-is_none-2.false in
     absurd (both-there x y here there lacks)

@@ -27,15 +27,15 @@ invariant_of-self-2 g c =
     let v = c.self.inside.parts.heaps in
     let w = c.new_native.new.self in
     let b = c.self.inside.parts.running in
-    let k = made_in c.args.into.0 s.0 in
-    let t = Shows-step v w b (made_in c.args.into.0)
-    (record { kept = e.kept; stands = e.stands }) s.0 s.1 (made_in-document s.0 s.1.document c.args.into.0) in
-    ((k, t), idle-after c.self.inside.parts (parts w b) s.0 k s.1 t (made_in-left s.0 c.args.into.0) c.self.invariant.1)
+    let k = made_in c.args.into.number s.0 in
+    let t = Shows-step v w b (made_in c.args.into.number)
+    (record { kept = e.kept; stands = e.stands }) s.0 s.1 (made_in-document s.0 s.1.document c.args.into.number) in
+    ((k, t), idle-after c.self.inside.parts (parts w b) s.0 k s.1 t (made_in-left s.0 c.args.into.number) c.self.invariant.1)
 
 pub returns-clause-made : goal.returns-clause-made
 returns-clause-made g c = λ k s.
     let v = c.self.inside.parts.heaps in
-    let r = c.args.into.0 in
+    let r = c.args.into.number in
     let t = subst (λ p. Shows p k) (sym c.self.view_is) s in
     let e = c.in_ok-number.ensures in
     let within : r < bank_length = search rules in
@@ -72,13 +72,13 @@ pub returns-clause-makes : goal.returns-clause-makes
 returns-clause-makes g c =
     let h = c.self.inside.parts.heaps.heap in
     let k = c.new_native.new.self.heap in
-    let within : c.args.into.0 < bank_length = search rules in
+    let within : c.args.into.number < bank_length = search rules in
     let full = c.new_native.ensures.full_always in
     let made = c.in_ok-number.was in
     let room : h.natives_made < h.limits.natives = below h.limits.natives h.natives_made (λ few. let stop = full few in cc) in
     subst (λ (p : Parts). Makes 1 0 p (parts c.new_native.new.self c.self.inside.parts.running)) c.self.view_is
     (record {
       running = refl;
-      made = make_native-made h k c.args.into.0 10 within (omega arith) room
+      made = make_native-made h k c.args.into.number 10 within (omega arith) room
           c.self.invariant.0.1.runs.order.sound c.in_ok-number.ensures.heap;
     })

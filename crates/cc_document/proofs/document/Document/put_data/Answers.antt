@@ -24,8 +24,8 @@ pub returns-clause-has : goal.returns-clause-has
 returns-clause-has c = λ k s.
     let p = c.self.inside.parts in
     let t = subst (λ p. Shows p k) (sym c.self.view_is) s in
-    let v = c.args.of.0 in
-    let w = c.args.about.0 in
+    let v = c.args.of.number in
+    let w = c.args.about.number in
     let a = alike p.heaps p.running k t in
     let h = closed_over w k in
     let one = c.in_ok-close_over.ensures.closed k t in
@@ -44,7 +44,7 @@ returns-clause-has c = λ k s.
 pub empty-requires-clause-shown : goal.empty-requires-clause-shown
 empty-requires-clause-shown c =
     let s = c.self.invariant.0 in
-    let x = c.in-Err.ensures.same (closed_over c.args.about.0 s.0) (c.in_ok-close_over.ensures.closed s.0 s.1) in
+    let x = c.in-Err.ensures.same (closed_over c.args.about.number s.0) (c.in_ok-close_over.ensures.closed s.0 s.1) in
     (x.0, x.1)
 
 pub invariant_of-self : goal.invariant_of-self
@@ -62,16 +62,16 @@ returns-in_err-close_over-clause-same c = on_err_of c.from_residual.result (λ k
 pub invariant_of-self-in-Err : goal.invariant_of-self-in-Err
 invariant_of-self-in-Err c =
     let s = c.self.invariant.0 in
-    let x = c.in-Err.ensures.same (closed_over c.args.about.0 s.0) (c.in_ok-close_over.ensures.closed s.0 s.1) in
+    let x = c.in-Err.ensures.same (closed_over c.args.about.number s.0) (c.in_ok-close_over.ensures.closed s.0 s.1) in
     let t = c.empty.ensures.shows x.0 x.1 in
-    ((without 1 x.0, t), idle-after c.self.inside.parts c.empty.new.self s.0 (without 1 x.0) s.1 t (left-closed s.0 x.0 c.args.about.0 s.1.well.registers.1 x.2.scripts) c.self.invariant.1)
+    ((without 1 x.0, t), idle-after c.self.inside.parts c.empty.new.self s.0 (without 1 x.0) s.1 t (left-closed s.0 x.0 c.args.about.number s.1.well.registers.1 x.2.scripts) c.self.invariant.1)
 
 pub returns-in-Err-clause-stops : goal.returns-in-Err-clause-stops
 returns-in-Err-clause-stops c = λ e is k s.
     let p = c.self.inside.parts in
     let t = subst (λ p. Shows p k) (sym c.self.view_is) s in
-    let v = c.args.of.0 in
-    let w = c.args.about.0 in
+    let v = c.args.of.number in
+    let w = c.args.about.number in
     let a = alike p.heaps p.running k t in
     let h = closed_over w k in
     let one = c.in_ok-close_over.ensures.closed k t in
@@ -88,7 +88,7 @@ pub returns-in-Err-clause-same : goal.returns-in-Err-clause-same
 returns-in-Err-clause-same c = λ k s.
     let p = c.self.inside.parts in
     let t = subst (λ p. Shows p k) (sym c.self.view_is) s in
-    let w = c.args.about.0 in
+    let w = c.args.about.number in
     let a = alike p.heaps p.running k t in
     let h = closed_over w k in
     let one = c.in_ok-close_over.ensures.closed k t in
@@ -105,38 +105,38 @@ returns-in-Err-clause-same c = λ k s.
 pub empty-requires-2-clause-shown : goal.empty-requires-2-clause-shown
 empty-requires-2-clause-shown c =
     let s = c.self.invariant.0 in
-    let h = closed_over c.args.about.0 s.0 in
-    (entered c.args.of.0 h, c.in_default.ensures.entered h (c.in_ok-close_over.ensures.closed s.0 s.1))
+    let h = closed_over c.args.about.number s.0 in
+    (entered c.args.of.number h, c.in_default.ensures.entered h (c.in_ok-close_over.ensures.closed s.0 s.1))
 
 pub invariant_of-self-2 : goal.invariant_of-self-2
 invariant_of-self-2 c =
     let s = c.self.invariant.0 in
-    let h = closed_over c.args.about.0 s.0 in
+    let h = closed_over c.args.about.number s.0 in
     let one = c.in_ok-close_over.ensures.closed s.0 s.1 in
-    let k = with_data c.args.of.0 c.args.about.0 s.0 in
-    let t = c.empty-2.ensures.shows (entered c.args.of.0 h) (c.in_default.ensures.entered h one) in
-    ((k, t), idle-after c.self.inside.parts c.empty-2.new.self s.0 k s.1 t (with_data-left s.0 c.args.of.0 c.args.about.0 s.1.well.registers.1 one.well.registers.1) c.self.invariant.1)
+    let k = with_data c.args.of.number c.args.about.number s.0 in
+    let t = c.empty-2.ensures.shows (entered c.args.of.number h) (c.in_default.ensures.entered h one) in
+    ((k, t), idle-after c.self.inside.parts c.empty-2.new.self s.0 k s.1 t (with_data-left s.0 c.args.of.number c.args.about.number s.1.well.registers.1 one.well.registers.1) c.self.invariant.1)
 
 pub returns-in_err-close_over-clause-empty : goal.returns-in_err-close_over-clause-empty
 returns-in_err-close_over-clause-empty c = λ k s lacks.
-    let x = element_of (register k (N c.args.of.0)) in
-    let y = element_of (register k (N c.args.about.0)) in
+    let x = element_of (register k (N c.args.of.number)) in
+    let y = element_of (register k (N c.args.about.number)) in
     let here = read-some c.element.result x c.is_none.result (c.element.ensures k s) c.is_none.ensures c.if-is_none.false in
     let there = read-some c.element-else-is_none.result y c.is_none-else-is_none.result (c.element-else-is_none.ensures k s) c.is_none-else-is_none.ensures c.if-is_none-2.false in
     absurd (both-there x y here there lacks)
 
 pub returns-in-Err-clause-empty : goal.returns-in-Err-clause-empty
 returns-in-Err-clause-empty c = λ k s lacks.
-    let x = element_of (register k (N c.args.of.0)) in
-    let y = element_of (register k (N c.args.about.0)) in
+    let x = element_of (register k (N c.args.of.number)) in
+    let y = element_of (register k (N c.args.about.number)) in
     let here = read-some c.element.result x c.is_none.result (c.element.ensures k s) c.is_none.ensures c.if-is_none.false in
     let there = read-some c.element-else-is_none.result y c.is_none-else-is_none.result (c.element-else-is_none.ensures k s) c.is_none-else-is_none.ensures c.if-is_none-2.false in
     absurd (both-there x y here there lacks)
 
 pub returns-clause-empty : goal.returns-clause-empty
 returns-clause-empty c = λ k s lacks.
-    let x = element_of (register k (N c.args.of.0)) in
-    let y = element_of (register k (N c.args.about.0)) in
+    let x = element_of (register k (N c.args.of.number)) in
+    let y = element_of (register k (N c.args.about.number)) in
     let here = read-some c.element.result x c.is_none.result (c.element.ensures k s) c.is_none.ensures c.if-is_none.false in
     let there = read-some c.element-else-is_none.result y c.is_none-else-is_none.result (c.element-else-is_none.ensures k s) c.is_none-else-is_none.ensures c.if-is_none-2.false in
     absurd (both-there x y here there lacks)

@@ -20,8 +20,8 @@ use Rattle.cc_document.proofs.document.Document.remove.Goals as goal
 pub returns-clause-removed : goal.returns-clause-removed
 returns-clause-removed g c = λ k s.
     let t = subst (λ p. Shows p k) (sym c.self.view_is) s in
-    let v = c.args.parent.0 in
-    let w = c.args.child.0 in
+    let v = c.args.parent.number in
+    let w = c.args.child.number in
     let o = objects_of k in
     let place = c.in-Some.place in
     let one = c.write.ensures.shows k t in
@@ -42,18 +42,18 @@ returns-clause-removed g c = λ k s.
 pub returns-in_default-clause-stops : goal.returns-in_default-clause-stops
 returns-in_default-clause-stops g c = λ e is k s.
     let o = objects_of k in
-    let x = element_of (register k (N c.args.parent.0)) in
-    let y = element_of (register k (N c.args.child.0)) in
+    let x = element_of (register k (N c.args.parent.number)) in
+    let y = element_of (register k (N c.args.child.number)) in
     let here = read-some c.element.result x c.is_none.result (c.element.ensures k s) c.is_none.ensures c.if-is_none.false in
     let there = read-some c.element-removed.result y c.is_none-else-is_none.result (c.element-removed.ensures k s) c.is_none-else-is_none.ensures c.if-is_none-2.false in
-    stopped-alike (StopsRemoving o c.args.parent.0 c.args.child.0) (Err NoChild) NoChild refl
+    stopped-alike (StopsRemoving o c.args.parent.number c.args.child.number) (Err NoChild) NoChild refl
     (both-there x y here there, λ place within t. c.place.ensures.none c.in_default.is k s place within (t ∙ sym (c.element-removed.ensures k s))) e is
 
 pub invariant_of-self : goal.invariant_of-self
 invariant_of-self g c =
     let s = c.self.invariant.0 in
-    let v = c.args.parent.0 in
-    let w = c.args.child.0 in
+    let v = c.args.parent.number in
+    let w = c.args.child.number in
     let k = removed v c.in-Some.place w s.0 in
     let t = c.write-2.ensures.shows (written w 0 None s.0) (c.write.ensures.shows s.0 s.1) in
     ((k, t), idle-after c.self.inside.parts c.write-2.new.self s.0 k s.1 t (removed-left s.0 v c.in-Some.place w) c.self.invariant.1)
@@ -63,7 +63,7 @@ returns-clause-tells g c =
     let v = c.self.inside.parts.heaps in
     let w = c.write-2.new.self.heaps in
     let s = c.self.invariant.0 in
-    let t = c.write-2.ensures.shows (written c.args.child.0 0 (None) s.0) (c.write.ensures.shows s.0 s.1) in
+    let t = c.write-2.ensures.shows (written c.args.child.number 0 (None) s.0) (c.write.ensures.shows s.0 s.1) in
     subst (λ (p : Parts). TellsWhatIsFreed p.heaps.heap w.heap (g.N.Notices.telling c.args.out.now) (g.N.Notices.telling c.write-2.new.out)) c.self.view_is
     (tells-then v.heap c.write.new.self.heaps.heap w.heap t.runs.order.sound.well_formed c.write-2.ensures.none_came c.write.ensures.none_came
     (g.N.Notices.telling c.args.out.now) (g.N.Notices.telling c.write.new.out) (g.N.Notices.telling c.write-2.new.out) c.write.ensures.tells c.write-2.ensures.tells)

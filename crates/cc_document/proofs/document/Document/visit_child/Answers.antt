@@ -9,6 +9,6 @@ pub invariant_of-self : goal.invariant_of-self
 invariant_of-self g c =
     let s = c.self.invariant.0 in
     let o = objects_of s.0 in
-    let k = gone_to c.args.into.0 (element_of (slot_of o (in_variable o c.args.of.0) (c.args.place + 2))) s.0 in
+    let k = gone_to c.args.into.number (element_of (slot_of o (in_variable o c.args.of.number) (c.args.place + 2))) s.0 in
     let t = c.visit.ensures.shows s.0 s.1 in
     ((k, t), idle-after c.self.inside.parts c.visit.new.self s.0 k s.1 t (λ r. inl refl) c.self.invariant.1)

@@ -28,7 +28,7 @@ returns-in-Err-clause-stops c =
     let v = c.args.self.now.heaps in
     let w = c.make_closure.new.self.heaps in
     let s = c.requires.shown in
-    let r = c.args.about.0 in
+    let r = c.args.about.number in
     let a = alike v b s.0 s.1 in
     let t = c.in_ok-make_closure.ensures.made s.0 s.1 in
     let taken = room-for_script (graph.objects_of s.0) (λ full. c.in_ok-make_closure.ensures.room (rw (a.limits, a.scripts_made) full)) in
@@ -69,23 +69,23 @@ returns-in-Err-clause-same c = λ g s.
 pub close-requires : goal.close-requires
 close-requires c =
     let m = c.in_ok-make_closure.ensures.has in
-    record { shown = (wrapping c.args.about.0 m.0, c.in_default.ensures.wrapped m.0 m.1, new_closure-wrapped m.0 c.args.about.0 m.1.well.registers.1 m.2) }
+    record { shown = (wrapping c.args.about.number m.0, c.in_default.ensures.wrapped m.0 m.1, new_closure-wrapped m.0 c.args.about.number m.1.well.registers.1 m.2) }
 
 pub empty-requires-2-clause-shown : goal.empty-requires-2-clause-shown
 empty-requires-2-clause-shown c =
     let m = c.in_ok-make_closure.ensures.has in
-    let h = wrapping c.args.about.0 m.0 in
+    let h = wrapping c.args.about.number m.0 in
     (closing h, c.close.ensures.shows h (c.in_default.ensures.wrapped m.0 m.1))
 
 pub returns-clause-closed : goal.returns-clause-closed
 returns-clause-closed c = λ g s.
     let m = making_closure g in
-    let h = wrapping c.args.about.0 m in
+    let h = wrapping c.args.about.number m in
     c.empty-2.ensures.shows (closing h) (c.close.ensures.shows h (c.in_default.ensures.wrapped m (c.in_ok-make_closure.ensures.made g s)))
 
 pub returns-clause-has : goal.returns-clause-has
 returns-clause-has c =
     let m = c.in_ok-make_closure.ensures.has in
-    let h = wrapping c.args.about.0 m.0 in
-    let n = new_closure-wrapped m.0 c.args.about.0 m.1.well.registers.1 m.2 in
+    let h = wrapping c.args.about.number m.0 in
+    let n = new_closure-wrapped m.0 c.args.about.number m.1.well.registers.1 m.2 in
     (without 2 (closing h), c.empty-2.ensures.shows (closing h) (c.close.ensures.shows h (c.in_default.ensures.wrapped m.0 m.1)), closure-closed h (record { number = n.number; held = n.held }))

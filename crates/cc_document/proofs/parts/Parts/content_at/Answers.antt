@@ -12,14 +12,14 @@ pub slot-requires-clause-within : goal.slot-requires-clause-within
 slot-requires-clause-within c =
     let s = c.requires.shown in
     let n = c.in_ok-native_reg in
-    let many = slots-of_key c.args.self.now.heaps c.args.self.now.running s.0 s.1 c.args.of.0 n.field-0 n.ensures.name n.ensures.there in
+    let many = slots-of_key c.args.self.now.heaps c.args.self.now.running s.0 s.1 c.args.of.number n.field-0 n.ensures.name n.ensures.there in
     subst (λ (d : Counts). c.args.i < length (slots_of d n.field-0.0)) (sym c.counted.ensures) (subst (λ m. c.args.i < m) (sym many) c.requires.within)
 
 -- what the slot holds, by name
-held : (c : goal.After-slot) → IsHeldAs c.args.self.now.heaps c.slot.result (slot_at (objects_of c.args.self.now.heaps.heap) (N c.args.of.0) c.args.i)
+held : (c : goal.After-slot) → IsHeldAs c.args.self.now.heaps c.slot.result (slot_at (objects_of c.args.self.now.heaps.heap) (N c.args.of.number) c.args.i)
 held c =
     let n = c.in_ok-native_reg in
-    slot-named [] c.args.self.now.heaps c.requires.shown.1.runs.order c.args.of.0 n.field-0 n.ensures.name n.ensures.there c.args.i c.slot.result
+    slot-named [] c.args.self.now.heaps c.requires.shown.1.runs.order c.args.of.number n.field-0 n.ensures.name n.ensures.there c.args.i c.slot.result
     (subst (λ (d : Counts). name_of d c.slot.result ≡ get_or (slots_of d n.field-0.0) c.args.i None) c.counted.ensures c.slot.ensures.name)
     (subst (λ (d : Counts). IsTrue (is_live d c.slot.result)) c.counted.ensures c.slot.ensures.live)
 

@@ -17,7 +17,7 @@ returns-in_err-reflector c =
     let n = c.in_ok-native_reg in
     let none = subst (λ (d : Counts). None ≡ reflector_at d n.field-0.0) c.counted.ensures c.in_err-reflector.ensures in
     ap (option_map (λ (m : NativeNo). m.0)) c.from_residual-in_err-reflector.ensures
-    ∙ sym (data-unwrapped v c.requires.1.runs.order c.args.of.0 n.field-0 n.ensures.name n.ensures.there none)
+    ∙ sym (data-unwrapped v c.requires.1.runs.order c.args.of.number n.field-0 n.ensures.name n.ensures.there none)
 
 pub returns-in_err-data : goal.returns-in_err-data
 returns-in_err-data c =
@@ -27,10 +27,10 @@ returns-in_err-data c =
     let m = c.in_ok-script_reg in
     let r = c.in_ok-reflector.reflector.0 in
     let some = subst (λ (d : Counts). Some r ≡ reflector_at d n.field-0.0) c.counted.ensures c.in_ok-reflector.ensures in
-    let there = wrapper-there v o c.args.of.0 n.field-0 n.ensures.name n.ensures.there r some in
-    let named = wrapper-named v o c.args.of.0 n.field-0 n.ensures.name n.ensures.there r some in
+    let there = wrapper-there v o c.args.of.number n.field-0 n.ensures.name n.ensures.there r some in
+    let named = wrapper-named v o c.args.of.number n.field-0 n.ensures.name n.ensures.there r some in
     let read = value-read [] v o m.field-0.0 r m.ensures.there there None (c.in_err-data.ensures ∙ ap (λ (es : List KeyedEntry). value_in es m.field-0.0 r) c.weak.ensures) in
-    let none : None ≡ value_at (objects_of v.heap) (register v.heap (S 0)) (reflector_of (register v.heap (N c.args.of.0))) =
+    let none : None ≡ value_at (objects_of v.heap) (register v.heap (S 0)) (reflector_of (register v.heap (N c.args.of.number))) =
     read.0 ∙ (ap (λ x. value_at (objects_of v.heap) x (name_at v.scripts r)) m.ensures.name ∙ ap (value_at (objects_of v.heap) (register v.heap (S 0))) named) in
     ap (option_map (λ (i : NativeNo). i.0)) c.from_residual-in_err-data.ensures ∙ ap (spoken_of (objects_of v.heap)) none
 
@@ -42,7 +42,7 @@ spoken_of-requires-clause-live c =
     let m = c.in_ok-script_reg in
     let r = c.in_ok-reflector.reflector.0 in
     let some = subst (λ (d : Counts). Some r ≡ reflector_at d n.field-0.0) c.counted.ensures c.in_ok-reflector.ensures in
-    let there = wrapper-there v o c.args.of.0 n.field-0 n.ensures.name n.ensures.there r some in
+    let there = wrapper-there v o c.args.of.number n.field-0 n.ensures.name n.ensures.there r some in
     (value-read [] v o m.field-0.0 r m.ensures.there there (Some c.in_ok-data.data) (c.in_ok-data.ensures ∙ ap (λ (es : List KeyedEntry). value_in es m.field-0.0 r) c.weak.ensures)).1
 
 pub returns : goal.returns
@@ -53,9 +53,9 @@ returns c =
     let m = c.in_ok-script_reg in
     let r = c.in_ok-reflector.reflector.0 in
     let some = subst (λ (d : Counts). Some r ≡ reflector_at d n.field-0.0) c.counted.ensures c.in_ok-reflector.ensures in
-    let there = wrapper-there v o c.args.of.0 n.field-0 n.ensures.name n.ensures.there r some in
-    let named = wrapper-named v o c.args.of.0 n.field-0 n.ensures.name n.ensures.there r some in
+    let there = wrapper-there v o c.args.of.number n.field-0 n.ensures.name n.ensures.there r some in
+    let named = wrapper-named v o c.args.of.number n.field-0 n.ensures.name n.ensures.there r some in
     let read = value-read [] v o m.field-0.0 r m.ensures.there there (Some c.in_ok-data.data) (c.in_ok-data.ensures ∙ ap (λ (es : List KeyedEntry). value_in es m.field-0.0 r) c.weak.ensures) in
-    let found : name_at v.scripts c.in_ok-data.data.0 ≡ value_at (objects_of v.heap) (register v.heap (S 0)) (reflector_of (register v.heap (N c.args.of.0))) =
+    let found : name_at v.scripts c.in_ok-data.data.0 ≡ value_at (objects_of v.heap) (register v.heap (S 0)) (reflector_of (register v.heap (N c.args.of.number))) =
     read.0 ∙ (ap (λ x. value_at (objects_of v.heap) x (name_at v.scripts r)) m.ensures.name ∙ ap (value_at (objects_of v.heap) (register v.heap (S 0))) named) in
     c.spoken_of.ensures ∙ ap (spoken_of (objects_of v.heap)) found

@@ -18,14 +18,14 @@ pub store_native-requires-clause-within : goal.store_native-requires-clause-with
 store_native-requires-clause-within g c =
     let s = c.requires.shown in
     let n = c.in-Some-Some in
-    subst (λ m. 1 < m) (sym (slots-of_key c.args.self.now.heaps c.args.self.now.running s.0 s.1 c.args.to.0 n.element n.ensures.name n.ensures.there)) (omega arith)
+    subst (λ m. 1 < m) (sym (slots-of_key c.args.self.now.heaps c.args.self.now.running s.0 s.1 c.args.to.number n.element n.ensures.name n.ensures.there)) (omega arith)
 
 pub returns-in-Some-Some-clause-shows : goal.returns-in-Some-Some-clause-shows
 returns-in-Some-Some-clause-shows g c = λ k s.
     let v = c.args.self.now.heaps in
     let e = c.store_native.ensures in
     let n = c.in-Some-Some in
-    Shows-written v c.store_native.new.self c.args.self.now.running c.args.to.0 1 (Some (S 1)) n.element (Some (held.Script n.closure)) n.ensures.name n.ensures.there n.ensures'.name
+    Shows-written v c.store_native.new.self c.args.self.now.running c.args.to.number 1 (Some (S 1)) n.element (Some (held.Script n.closure)) n.ensures.name n.ensures.there n.ensures'.name
     (script-black v c.args.self.now.running k s 1 (Some n.closure) n.ensures'.name n.ensures'.there)
     (record { kept = e.kept; stands = e.stands }) k s
 
@@ -41,5 +41,5 @@ returns-in-Some-Some-clause-makes g c =
     record {
       running = refl;
       made = stored-made v c.store_native.new.self (the_number v n.element.0) 1 (held_name v x)
-          (within-key v c.args.self.now.running c.requires.shown.0 c.requires.shown.1 c.args.to.0 n.element n.ensures.name n.ensures.there 1 (omega arith)) (held-in [] v x order) order c.store_native.ensures.heap;
+          (within-key v c.args.self.now.running c.requires.shown.0 c.requires.shown.1 c.args.to.number n.element n.ensures.name n.ensures.there 1 (omega arith)) (held-in [] v x order) order c.store_native.ensures.heap;
     }

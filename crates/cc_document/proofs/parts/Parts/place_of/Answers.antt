@@ -10,7 +10,7 @@ pub loop-place-preserved : goal.loop-place-preserved
 loop-place-preserved c =
     let v = c.args.self.now.heaps in
     let other : option_map (λ (n : NativeNo). n.0) c.element_at.result ≢ option_map (λ (n : NativeNo). n.0) c.args.child = search rules in
-    below_more (λ q. child_of (objects_of v.heap) (register v.heap (N c.args.parent.0)) q ≢ option_map (λ (n : NativeNo). n.0) c.args.child) c.loop-place.place c.loop-place.invariant
+    below_more (λ q. child_of (objects_of v.heap) (register v.heap (N c.args.parent.number)) q ≢ option_map (λ (n : NativeNo). n.0) c.args.child) c.loop-place.place c.loop-place.invariant
     (λ e. other (c.element_at.ensures ∙ e))
 
 pub returns-clause-none : goal.returns-clause-none

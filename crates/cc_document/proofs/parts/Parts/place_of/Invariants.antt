@@ -6,4 +6,4 @@ use Rattle.cc_document.specs.Words.{child_of}
 use Rattle.cc_document.proofs.parts.Parts.place_of.Given as goal
 
 abbrev pub invariant-loop-place : goal.invariant-loop-place
-invariant-loop-place l = (q : ℕ) → q < l.place → child_of (objects_of l.self.heaps.heap) (register l.self.heaps.heap (N l.parent.0)) q ≢ option_map (λ (n : NativeNo). n.0) l.child
+invariant-loop-place l = (q : ℕ) → q < l.place → child_of (objects_of l.self.heaps.heap) (register l.self.heaps.heap (N l.parent.number)) q ≢ option_map (λ (n : NativeNo). n.0) l.child

@@ -29,12 +29,12 @@ returns-clause-shows g c = λ k s.
     let e = c.set_native_reg.ensures in
     let x = native_name v c.key_at-element.result in
     let reached = subst (IsReached v.heap) (sym c.key_at-element.ensures.name)
-    (element-is_reached v.heap (slot_at (objects_of v.heap) (N c.args.of.0) c.args.i) (slot-is_reached v b k s (N c.args.of.0) c.args.i)) in
-    let same = c.key_at-element.ensures.name ∙ ap (λ y. elements (element_of y)) (slot-alike v b k s c.args.of.0 c.args.i) in
-    subst (λ y. Shows (parts w b) (set_register k (N c.args.into.0) y)) same
-    (Shows-step v w b (λ h. set_register h (N c.args.into.0) x)
+    (element-is_reached v.heap (slot_at (objects_of v.heap) (N c.args.of.number) c.args.i) (slot-is_reached v b k s (N c.args.of.number) c.args.i)) in
+    let same = c.key_at-element.ensures.name ∙ ap (λ y. elements (element_of y)) (slot-alike v b k s c.args.of.number c.args.i) in
+    subst (λ y. Shows (parts w b) (set_register k (N c.args.into.number) y)) same
+    (Shows-step v w b (λ h. set_register h (N c.args.into.number) x)
     (record { kept = e.kept; stands = e.stands reached })
-    k s (native_register-document k s.document c.args.into.0 x))
+    k s (native_register-document k s.document c.args.into.number x))
 
 pub returns-clause-tells : goal.returns-clause-tells
 returns-clause-tells g c = c.set_native_reg.ensures.tells
@@ -43,9 +43,9 @@ pub returns-clause-makes : goal.returns-clause-makes
 returns-clause-makes g c =
     let v = c.args.self.now.heaps in
     let order = c.requires.shown.1.runs.order in
-    let within : c.args.into.0 < bank_length = search rules in
+    let within : c.args.into.number < bank_length = search rules in
     record {
       running = refl;
-      made = hold_native-made v c.set_native_reg.new.self c.args.into.0 (native_name v c.key_at-element.result)
+      made = hold_native-made v c.set_native_reg.new.self c.args.into.number (native_name v c.key_at-element.result)
           within (native-in [] v c.key_at-element.result order) order c.set_native_reg.ensures.heap;
     }

@@ -24,7 +24,7 @@ use Rattle.cc_document.proofs.parts.Parts.wrap_into_register.Goals as goal
 
 pub returns-in_err-reflector-clause-stops : goal.returns-in_err-reflector-clause-stops
 returns-in_err-reflector-clause-stops c =
-    stopped-by (StopsWrapping (objects_of c.args.self.now.heaps.heap) c.args.element.0) c.from_residual.result out_of_memory c.from_residual.ensures.1 tt
+    stopped-by (StopsWrapping (objects_of c.args.self.now.heaps.heap) c.args.element.number) c.from_residual.result out_of_memory c.from_residual.ensures.1 tt
 
 pub wrap-requires-clause-order : goal.wrap-requires-clause-order
 wrap-requires-clause-order c = none-owned c.args.self.now.heaps c.requires.shown.1.runs.order
@@ -38,7 +38,7 @@ returns-clause-wrapped c = λ g s.
     let w = c.wrap.new.heaps in
     let u = c.set_script_reg.new.self in
     let b = c.args.self.now.running in
-    let r = c.args.element.0 in
+    let r = c.args.element.number in
     let key = c.in-Some.key in
     let made = c.in_ok-reflector.ensures in
     let put = c.set_script_reg.ensures in

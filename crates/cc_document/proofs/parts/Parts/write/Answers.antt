@@ -16,7 +16,7 @@ store_native-requires-clause-order g c = none-owned c.args.self.now.heaps c.requ
 pub store_native-requires-clause-within : goal.store_native-requires-clause-within
 store_native-requires-clause-within g c =
     let s = c.requires.shown in
-    subst (λ n. c.args.i < n) (sym (slots-of_key c.args.self.now.heaps c.args.self.now.running s.0 s.1 c.args.of.0 c.in-Some.element c.in-Some.ensures.name c.in-Some.ensures.there)) c.requires.within
+    subst (λ n. c.args.i < n) (sym (slots-of_key c.args.self.now.heaps c.args.self.now.running s.0 s.1 c.args.of.number c.in-Some.element c.in-Some.ensures.name c.in-Some.ensures.there)) c.requires.within
 
 pub returns-in-Some-clause-shows : goal.returns-in-Some-clause-shows
 returns-in-Some-clause-shows g c = λ k s.
@@ -24,7 +24,7 @@ returns-in-Some-clause-shows g c = λ k s.
     let e = c.store_native.ensures in
     let x = c.of_native.result in
     let is : x ≡ held_of_native c.key_in-content.result = c.of_native.ensures in
-    Shows-written v c.store_native.new.self c.args.self.now.running c.args.of.0 c.args.i (register_of c.args.from) c.in-Some.element x c.in-Some.ensures.name c.in-Some.ensures.there
+    Shows-written v c.store_native.new.self c.args.self.now.running c.args.of.number c.args.i (register_of c.args.from) c.in-Some.element x c.in-Some.ensures.name c.in-Some.ensures.there
     (ap (held_name v) is ∙ (held_of_native-name v c.key_in-content.result ∙ c.key_in-content.ensures.name))
     (subst (IsBlackHeld v) (sym is) (native-black v c.key_in-content.result))
     (record { kept = e.kept; stands = e.stands }) k s
@@ -39,7 +39,7 @@ returns-in-Some-clause-makes g c =
     record {
       running = refl;
       made = stored-made v c.store_native.new.self (the_number v c.in-Some.element.0) c.args.i (held_name v c.of_native.result)
-          (within-key v c.args.self.now.running c.requires.shown.0 c.requires.shown.1 c.args.of.0 c.in-Some.element c.in-Some.ensures.name c.in-Some.ensures.there c.args.i c.requires.within) (held-in [] v c.of_native.result order) order c.store_native.ensures.heap;
+          (within-key v c.args.self.now.running c.requires.shown.0 c.requires.shown.1 c.args.of.number c.in-Some.element c.in-Some.ensures.name c.in-Some.ensures.there c.args.i c.requires.within) (held-in [] v c.of_native.result order) order c.store_native.ensures.heap;
     }
 
 pub returns-in-Some-clause-none_came : goal.returns-in-Some-clause-none_came
@@ -47,4 +47,4 @@ returns-in-Some-clause-none_came g c =
     let v = c.args.self.now.heaps in
     let order = c.requires.shown.1.runs.order in
     stored-none_came v c.store_native.new.self (the_number v c.in-Some.element.0) c.args.i (held_name v c.of_native.result)
-    (within-key v c.args.self.now.running c.requires.shown.0 c.requires.shown.1 c.args.of.0 c.in-Some.element c.in-Some.ensures.name c.in-Some.ensures.there c.args.i c.requires.within) (held-in [] v c.of_native.result order) order c.store_native.ensures.heap
+    (within-key v c.args.self.now.running c.requires.shown.0 c.requires.shown.1 c.args.of.number c.in-Some.element c.in-Some.ensures.name c.in-Some.ensures.there c.args.i c.requires.within) (held-in [] v c.of_native.result order) order c.store_native.ensures.heap

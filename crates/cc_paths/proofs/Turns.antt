@@ -1,0 +1,93 @@
+-- TURNS OF THE LOOPS over registers, over places, and over the steps from the last to the first: what is left to be done after
+-- each.
+use Rattle.std.specs.Prelude.{slice_index_or, slice_get}
+use Rattle.std.proofs.Common.{◌≡◌, ℕ, zero, suc, ◌+◌, ◌<◌, ◌≤◌, List, [], ◌∷◌, ◌++◌, length, take, drop, Option, Some, None, refl, sym, ◌∙◌, ap, arith, drop-cons, append_assoc}
+use Rattle.std.specs.Option.{option_to_list}
+use Rattle.std.proofs.lemmas.List.{append-nil}
+use Rattle.cc_names.specs.declared.name.Name.{Name}
+use Rattle.cc_names.specs.declared.register.Reg.{Reg}
+use Rattle.cc_model.specs.declared.item.Reason.TheVariants.{Root, Edge}
+use Rattle.cc_model.specs.Answers.{Step}
+use Rattle.cc_model.specs.Slots.{Slots, contents}
+use Rattle.cc_model.specs.Derivations.{Walk, Needed, needed_for, with_bank, with_edges, with_needed}
+use Rattle.cc_paths.specs.Found.{walk_by, with_content}
+use Rattle.cc_paths.specs.Needed.{told_of}
+
+-- past the end nothing is left
+pub drop-past : {X : Type 0} (xs : List X) (i : ℕ) → length xs ≤ i → drop i xs ≡ []
+drop-past [] zero l = refl
+drop-past [] (suc i) l = refl
+drop-past (x ∷ xs) zero l = absurd (omega (arith, l))
+drop-past (x ∷ xs) (suc i) l = drop-past xs i (omega (arith, l))
+
+pub take-all : {X : Type 0} (xs : List X) (i : ℕ) → length xs ≤ i → take i xs ≡ xs
+take-all [] zero l = refl
+take-all [] (suc i) l = refl
+take-all (x ∷ xs) zero l = absurd (omega (arith, l))
+take-all (x ∷ xs) (suc i) l = ap (λ ys. x ∷ ys) (take-all xs i (omega (arith, l)))
+
+pub drop-one : (slots : Slots) (i : ℕ) → i < length slots → drop i slots ≡ slice_index_or slots i None ∷ drop (i + 1) slots
+drop-one slots i l = let next : suc i ≡ i + 1 = omega arith in drop-cons slots i None l ∙ ap (λ k. slice_index_or slots i None ∷ drop k slots) next
+
+-- Registers
+
+bank-one : (reg : ℕ → Reg) (k : ℕ) (o : Option Name) (rest : Slots) (w : Walk) → with_bank reg k (o ∷ rest) w ≡ with_bank reg (k + 1) rest (with_content w o (Root (reg k)))
+bank-one reg k None rest w = refl
+bank-one reg k (Some x) rest w = refl
+
+pub bank-turn : (reg : ℕ → Reg) (slots : Slots) (i : ℕ) (o : Option Name) (w v : Walk) → i < length slots → o ≡ slice_index_or slots i None → v ≡ with_content w o (Root (reg i)) →
+    with_bank reg (i + 1) (drop (i + 1) slots) v ≡ with_bank reg i (drop i slots) w
+bank-turn reg slots i o w v l same e =
+    ap (with_bank reg (i + 1) (drop (i + 1) slots)) (e ∙ ap (λ p. with_content w p (Root (reg i))) same)
+    ∙ (sym (bank-one reg i (slice_index_or slots i None) (drop (i + 1) slots) w) ∙ ap (λ os. with_bank reg i os w) (sym (drop-one slots i l)))
+
+pub bank-end : (reg : ℕ → Reg) (slots : Slots) (i : ℕ) (w : Walk) → length slots ≤ i → with_bank reg i (drop i slots) w ≡ w
+bank-end reg slots i w l = ap (λ os. with_bank reg i os w) (drop-past slots i l)
+
+-- Places
+
+edges-one : (x : Name) (o : Option Name) (rest : Slots) (w : Walk) → with_edges x (contents (o ∷ rest)) w ≡ with_edges x (contents rest) (with_content w o (Edge x))
+edges-one x None rest w = refl
+edges-one x (Some y) rest w = refl
+
+pub edges-turn : (x : Name) (places : Slots) (i : ℕ) (o : Option Name) (w v : Walk) → i < length places → o ≡ slice_index_or places i None → v ≡ with_content w o (Edge x) →
+    with_edges x (contents (drop (i + 1) places)) v ≡ with_edges x (contents (drop i places)) w
+edges-turn x places i o w v l same e =
+    ap (with_edges x (contents (drop (i + 1) places))) (e ∙ ap (λ p. with_content w p (Edge x)) same)
+    ∙ (sym (edges-one x (slice_index_or places i None) (drop (i + 1) places) w) ∙ ap (λ os. with_edges x (contents os) w) (sym (drop-one places i l)))
+
+pub edges-end : (x : Name) (places : Slots) (i : ℕ) (w : Walk) → length places ≤ i → with_edges x (contents (drop i places)) w ≡ w
+edges-end x places i w l = ap (λ os. with_edges x (contents os) w) (drop-past places i l)
+
+-- The first that waits
+
+drop-first : (n : ℕ) (ss : List Step) (s : Step) (rest : List Step) → drop n ss ≡ s ∷ rest → (take (suc n) ss ≡ take n ss ++ s ∷ []) × (drop (suc n) ss ≡ rest)
+drop-first zero [] s rest e = absurd (cc)
+drop-first zero (t ∷ ss) s rest e = (cc, cc)
+drop-first (suc n) [] s rest e = absurd (cc)
+drop-first (suc n) (t ∷ ss) s rest e = let ih = drop-first n ss s rest e in (ap (λ q. t ∷ q) ih.0, ih.1)
+
+pub walk_by-next : (n : ℕ) (ss : List Step) (s : Step) (rest : List Step) → drop n ss ≡ s ∷ rest → walk_by (n + 1) ss ≡ record { walked = take n ss ++ s ∷ []; waiting = rest }
+walk_by-next n ss s rest e =
+    let next : n + 1 ≡ suc n = omega arith in
+    let k = drop-first n ss s rest e in
+    ap (λ m. walk_by m ss) next ∙ (λ i. record { walked = k.0 i; waiting = k.1 i })
+
+-- The steps from the last to the first
+
+-- the steps that are left, before others
+abbrev pub needed_onto : List Step → Needed → Needed
+needed_onto [] n = n
+needed_onto (s ∷ ss) n = with_needed s (needed_onto ss n)
+
+pub onto-none : (ss : List Step) (xs : List Name) → needed_onto ss (record { steps = []; wanted = xs }) ≡ needed_for ss xs
+onto-none [] xs = refl
+onto-none (s ∷ ss) xs = ap (with_needed s) (onto-none ss xs)
+
+pub onto-last : (ss : List Step) (s : Step) (n : Needed) → needed_onto (ss ++ s ∷ []) n ≡ needed_onto ss (with_needed s n)
+onto-last [] s n = refl
+onto-last (t ∷ ss) s n = ap (with_needed t) (onto-last ss s n)
+
+pub told-last : (ss : List Step) (is : List ℕ) (i : ℕ) → told_of ss (is ++ i ∷ []) ≡ option_to_list (slice_get ss i) ++ told_of ss is
+told-last ss [] i = sym (append-nil (option_to_list (slice_get ss i)))
+told-last ss (j ∷ is) i = ap (λ ts. ts ++ option_to_list (slice_get ss j)) (told-last ss is i) ∙ append_assoc (option_to_list (slice_get ss i)) (told_of ss is) (option_to_list (slice_get ss j))
