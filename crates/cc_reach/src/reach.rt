@@ -1,0 +1,48 @@
+//! What was found, with the reason of each.
+ghost use Rattle.std.specs.Prelude.{◌≡◌, ◌∷◌, [], IfOk, OnOk};
+ghost use Rattle.cc_lists.specs.Members.{has};
+ghost use Rattle.cc_names.specs.Names.{same_name};
+ghost use Rattle.cc_model.specs.Derivations.{derivation, leads_made, named, needed_for};
+ghost use Rattle.cc_model.specs.WellMade.{IsWellMade};
+
+use cc_model::Reason;
+use cc_names::{Name, NoMemory};
+use cc_object_graph::ObjectGraph;
+use std::alloc::Global;
+use std::marker::Model;
+
+/// The objects that a search found, in the order in which it found them, with the reason of each.
+#[derive(Drop)]
+pub struct Reach {
+    steps: Vec<(Name, Reason)>,
+}
+
+impl Model for Reach {
+    ghost use Rattle.std.specs.Prelude.{List};
+    ghost use Rattle.cc_model.specs.Answers.{Step};
+
+    ghost Value = { List Step };
+
+    ghost view = { λ r. r.steps.items };
+}
+
+impl Reach {
+    /// Nothing is found yet.
+    pub fn new(alloc: Global) -> Reach
+        ensures { result ≡ [] }
+
+    /// Finds all that the graph's registers reach. What was found before is forgotten.
+    ///
+    /// After `NoMemory` it is only let go.
+    pub fn find(&mut self, graph: &ObjectGraph) -> Result<(), NoMemory>
+        requires { IsWellMade graph.now }
+        ensures { OnOk result (self.new ≡ derivation (leads_made graph.now)) }
+
+    /// Whether an object was found.
+    pub fn has(&self, name: &Name) -> bool
+        ensures { result ≡ has same_name (named self.now) name.now }
+
+    /// The steps that lead to an object, each once, itself last; none where it was not found.
+    pub fn path_to(&self, alloc: Global, name: &Name) -> Result<Vec<(Name, Reason)>, NoMemory>
+        ensures { IfOk result (λ path. path.items ≡ (needed_for self.now (name.now ∷ [])).steps) }
+}
