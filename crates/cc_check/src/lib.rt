@@ -1,0 +1,21 @@
+//! A checker of transcripts: whether a collector's answers to a script are those of an object graph from which nothing is freed.
+//!
+//! It reads the transcript line by line, and keeps the object graph that the script made so far, the names that a census would
+//! list, and the answer that it is in. Each line is compared with what may come there: a reply with the graph's, a census with
+//! the listed names, an event with what no register reaches. What the registers reach is found once for a command that frees or
+//! unlinks something, in time that goes with what is reached.
+//!
+//! No heap, no colour, no count and no collection stands behind it: a transcript of any collector may be checked.
+#![tactic(auto)]
+
+mod answer;
+mod asked;
+mod checking;
+mod heard;
+mod judge;
+mod row;
+mod script;
+mod verdict;
+
+pub use checking::check;
+pub use verdict::{CheckStop, Verdict};
