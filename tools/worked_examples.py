@@ -1,7 +1,7 @@
 #!/usr/bin/env python3
-"""Makes theorems of the worked examples.
+"""Makes theorems and tests of the worked examples, and tests of verdicts.
 
-    tools/worked_examples.py            writes the files that are made of examples/worked.txt
+    tools/worked_examples.py            writes the files that are made of examples/worked.txt and examples/verdicts.txt
     tools/worked_examples.py --check    writes nothing; says which of them differ, and exits 1 where one does
 
 The table says itself how it is read. In crates/cc_worked each example's input becomes a definition in
@@ -11,6 +11,9 @@ example that ends with status 5 the theorem says what its input writes within th
 
 In crates/cc_examples src/worked.rt and the files of src/worked get the examples that the program can be run on: those in
 which no memory is refused.
+
+Of examples/verdicts.txt, scripts with transcripts that are lawful or not, crates/cc_tests_check gets src/verdicts.rt and the files
+of src/verdicts.
 """
 import re
 import sys
@@ -20,10 +23,13 @@ ROOT = Path(__file__).resolve().parent.parent
 TABLE = ROOT / 'examples' / 'worked.txt'
 CRATE = ROOT / 'crates' / 'cc_worked'
 TESTS = ROOT / 'crates' / 'cc_examples' / 'src'
+VERDICTS = ROOT / 'examples' / 'verdicts.txt'
+VERDICT_TESTS = ROOT / 'crates' / 'cc_tests_check' / 'src'
 EXAMPLES_IN_A_FILE = 8
 EXAMPLES_IN_A_TEST = 20
 DEFAULT_LIMITS = (1000000, 1000000, 4294967295)
 STATUSES = {0: 'Done', 5: 'Limit'}
+OUTCOMES = {'lawful': 'Lawful', 'unlawful': 'Unlawful'}
 STATUS_LIMIT = 5
 CONTROLS = {'{cr}': 13, '{tab}': 9}
 NOTE = '-- Made by tools/worked_examples.py from examples/worked.txt.\n'
@@ -38,6 +44,7 @@ class Example:
         self.input = []
         self.output = []
         self.status = 0
+        self.verdict = None
 
     def is_whole(self):
         """Whether the whole input is read."""
@@ -100,18 +107,24 @@ def add_key(example, key, rest):
         example.output += lines(rest)
     elif key == 'status':
         example.status = int(rest)
+    elif key == 'end':
+        example.output += pieces(rest)
+    elif key == 'verdict':
+        example.verdict = rest
     else:
         raise TableError(f'unknown word {key}')
 
 
-def check_example(example):
+def check_example(example, has_verdicts):
     if not example.shows:
         raise TableError(f'{example.name} has no line shows')
     if example.status not in STATUSES:
         raise TableError(f'{example.name} ends with status {example.status}, which no theorem says')
+    if has_verdicts != (example.verdict in OUTCOMES):
+        raise TableError(f'{example.name} has the verdict {example.verdict}')
 
 
-def read_table(path):
+def read_table(path, has_verdicts=False):
     examples = []
     for number, line in enumerate(path.read_text(encoding='utf-8').splitlines(), 1):
         if not line.strip() or line.startswith('#'):
@@ -129,7 +142,7 @@ def read_table(path):
         except (TableError, ValueError) as error:
             raise TableError(f'{path.name}, line {number}: {error}') from error
     for example in examples:
-        check_example(example)
+        check_example(example, has_verdicts)
     return examples
 
 
@@ -291,6 +304,56 @@ def file_of_tables(count):
 """ + ''.join(f'mod {it};\n' for it in sorted(f'part_{number}' for number in range(1, count + 1)))
 
 
+def verdict_case(example):
+    natives, scripts, read = example.limits
+    return f"""    // {sentence(example.shows)}
+    Example {{
+        name: "{example.name}",
+        natives: {natives},
+        scripts: {scripts},
+        bytes: {read},
+        script: {byte_string(example.input)},
+        transcript: {byte_string(example.output)},
+        verdict: Verdict::{OUTCOMES[example.verdict]},
+    }},
+"""
+
+
+def file_of_verdicts(cases):
+    return f"""//! Some transcripts, and whether they are lawful.
+//!
+//! Made by tools/worked_examples.py from examples/verdicts.txt.
+
+use crate::example::{{Example, are_judged}};
+use cc_check::Verdict;
+
+const EXAMPLES: [Example; {len(cases)}] = [
+{''.join(cases)}];
+
+#[test]
+fn transcripts_are_judged(rt: HostRuntime) {{
+    are_judged(&rt, &EXAMPLES);
+}}
+"""
+
+
+def file_of_verdict_tables(count):
+    return """//! Scripts with transcripts, right ones and wrong ones, and what a check of them comes to.
+//!
+//! Made by tools/worked_examples.py from examples/verdicts.txt.
+
+""" + ''.join(f'mod {it};\n' for it in sorted(f'part_{number}' for number in range(1, count + 1)))
+
+
+def files_of_verdicts(examples):
+    """The text of each file of verdicts by its path."""
+    cases = [verdict_case(example) for example in examples]
+    tables = [cases[i:i + EXAMPLES_IN_A_TEST] for i in range(0, len(cases), EXAMPLES_IN_A_TEST)]
+    made = {VERDICT_TESTS / 'verdicts' / f'part_{number}.rt': file_of_verdicts(table) for number, table in enumerate(tables, 1)}
+    made[VERDICT_TESTS / 'verdicts.rt'] = file_of_verdict_tables(len(tables))
+    return made
+
+
 def files(examples):
     """The text of each file by its path."""
     parts = [examples[i:i + EXAMPLES_IN_A_FILE] for i in range(0, len(examples), EXAMPLES_IN_A_FILE)]
@@ -311,6 +374,7 @@ def differing(made):
     """The paths of files that are not as they are to be, and of files of theorems or tests that are not to be."""
     wrong = [path for path, text in made.items() if not path.exists() or path.read_text(encoding='utf-8') != text]
     there = sorted((CRATE / 'proofs').glob('Examples*.antt')) + sorted((TESTS / 'worked').glob('part_*.rt'))
+    there += sorted((VERDICT_TESTS / 'verdicts').glob('part_*.rt'))
     left_over = [path for path in there if path not in made]
     return wrong, left_over
 
@@ -321,12 +385,13 @@ def main():
         sys.exit('usage: worked_examples.py [--check]')
     try:
         made = files(read_table(TABLE))
+        made.update(files_of_verdicts(read_table(VERDICTS, True)))
     except TableError as error:
         sys.exit(f'worked_examples.py: {error}')
     wrong, left_over = differing(made)
     if words:
         for path in wrong + left_over:
-            print(f'{path.relative_to(ROOT)} is not what tools/worked_examples.py makes of examples/worked.txt', file=sys.stderr)
+            print(f'{path.relative_to(ROOT)} is not what tools/worked_examples.py makes of the tables in examples', file=sys.stderr)
         sys.exit(1 if wrong or left_over else 0)
     for path in wrong:
         path.parent.mkdir(exist_ok=True)

@@ -1,0 +1,8 @@
+//! Scripts with transcripts, right ones and wrong ones, and what a check of them comes to.
+//!
+//! Made by tools/worked_examples.py from examples/verdicts.txt.
+
+mod part_1;
+mod part_2;
+mod part_3;
+mod part_4;

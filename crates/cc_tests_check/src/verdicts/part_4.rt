@@ -1,0 +1,124 @@
+//! Some transcripts, and whether they are lawful.
+//!
+//! Made by tools/worked_examples.py from examples/verdicts.txt.
+
+use crate::example::{Example, are_judged};
+use cc_check::Verdict;
+
+const EXAMPLES: [Example; 11] = [
+    // A reflector that is listed takes no memory.
+    Example {
+        name: "wrap_refused_memory",
+        natives: 1000000,
+        scripts: 1000000,
+        bytes: 4294967295,
+        script: b"native n0 0\nwrap s0 n0\nwrap s1 n0\n",
+        transcript: b"= #1\n= ~1\n! nomem\n",
+        verdict: Verdict::Unlawful,
+    },
+    // A collection that is refused memory is abandoned.
+    Example {
+        name: "collection_refused_without_abandonment",
+        natives: 1000000,
+        scripts: 1000000,
+        bytes: 4294967295,
+        script: b"native n0 0\ncollect\n",
+        transcript: b"= #1\n! nomem\n",
+        verdict: Verdict::Unlawful,
+    },
+    // A collection that is abandoned was refused memory.
+    Example {
+        name: "abandoned_without_want_of_memory",
+        natives: 1000000,
+        scripts: 1000000,
+        bytes: 4294967295,
+        script: b"native n0 0\ncollect\n",
+        transcript: b"= #1\n- abandon\n= ok\n",
+        verdict: Verdict::Unlawful,
+    },
+    // An abandonment is the last event of a collection.
+    Example {
+        name: "event_behind_an_abandonment",
+        natives: 1000000,
+        scripts: 1000000,
+        bytes: 4294967295,
+        script: b"native n0 1\nset n0 0 n0\ndrop n0\ncollect\n",
+        transcript: b"= #1\n= ok\n= ok\n- abandon\n- unlink #1\n! nomem\n",
+        verdict: Verdict::Unlawful,
+    },
+    // An abandonment is the first event of gc.
+    Example {
+        name: "abandoned_behind_an_event_of_gc",
+        natives: 1000000,
+        scripts: 1000000,
+        bytes: 4294967295,
+        script: b"script s0 0\ndrop s0\ngc\n",
+        transcript: b"= @1\n= ok\n- free @1\n- abandon\n= ok\n",
+        verdict: Verdict::Unlawful,
+    },
+    // A collection is abandoned once.
+    Example {
+        name: "abandoned_twice",
+        natives: 1000000,
+        scripts: 1000000,
+        bytes: 4294967295,
+        script: b"collect\n",
+        transcript: b"- abandon\n- abandon\n! nomem\n",
+        verdict: Verdict::Unlawful,
+    },
+    // No other command abandons a collection.
+    Example {
+        name: "abandoned_by_a_command",
+        natives: 1000000,
+        scripts: 1000000,
+        bytes: 4294967295,
+        script: b"native n0 0\n",
+        transcript: b"- abandon\n= #1\n",
+        verdict: Verdict::Unlawful,
+    },
+    // A path has each step that it needs.
+    Example {
+        name: "path_with_a_step_less",
+        natives: 1000000,
+        scripts: 1000000,
+        bytes: 4294967295,
+        script: b"version 2\nnative n0 1\nnative n1 0\nset n0 0 n1\ndrop n1\nwhy #2\n",
+        transcript: b"= ok\n= #1\n= #2\n= ok\n= ok\n: #2 #1\n= ok\n",
+        verdict: Verdict::Unlawful,
+    },
+    // A path begins at the first register.
+    Example {
+        name: "path_by_another_register",
+        natives: 1000000,
+        scripts: 1000000,
+        bytes: 4294967295,
+        script: b"version 2\nnative n0 0\ncopy n1 n0\nwhy #1\n",
+        transcript: b"= ok\n= #1\n= #1\n: #1 n1\n= ok\n",
+        verdict: Verdict::Unlawful,
+    },
+    // That nothing leads there is wrong where something does.
+    Example {
+        name: "none_where_it_is_reached",
+        natives: 1000000,
+        scripts: 1000000,
+        bytes: 4294967295,
+        script: b"version 2\nnative n0 0\nwhy #1\n",
+        transcript: b"= ok\n= #1\n= none\n",
+        verdict: Verdict::Unlawful,
+    },
+    // A word of version 2 is not in the grammar of version 1.
+    Example {
+        name: "why_in_version_one",
+        natives: 1000000,
+        scripts: 1000000,
+        bytes: 4294967295,
+        script: b"native n0 0\nwhy #1\n",
+        transcript: b"= #1\n: #1 n0\n= ok\n",
+        verdict: Verdict::Unlawful,
+    },
+];
+
+#[test]
+fn transcripts_are_judged(rt: HostRuntime) {
+    are_judged(&rt, &EXAMPLES);
+}
