@@ -1,2 +1,5 @@
 pub mod Uncut
 pub mod Ended
+pub mod Turns
+pub mod Stays
+pub mod Comes
