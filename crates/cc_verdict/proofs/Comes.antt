@@ -94,6 +94,6 @@ native-number (Script k) is = absurd (false≢true is)
 native-number (Reflector k) is = absurd (false≢true is)
 
 -- the runs after an unlinking
-unlink-runs : (t : Told) (x : Name) (es : List Event) → is_native x ≡ true →
+pub unlink-runs : (t : Told) (x : Name) (es : List Event) → is_native x ≡ true →
     t.runs + runs_on t.last (unlinked_numbers (Unlinked x ∷ es)) ≡ runs_with t x + runs_on (Some (number_of x)) (unlinked_numbers es)
 unlink-runs t x es is = rw (native-number x is) (omega arith)

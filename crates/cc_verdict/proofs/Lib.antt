@@ -3,3 +3,7 @@ pub mod Ended
 pub mod Turns
 pub mod Stays
 pub mod Comes
+pub mod Came
+pub mod Coming
+pub mod HeardAnswers
+pub mod Answered
