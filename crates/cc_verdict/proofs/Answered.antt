@@ -1,5 +1,5 @@
 -- LINES THAT ANSWER A COMMAND by events and a reply, and go on.
-use Rattle.std.proofs.Common.{◌≡◌, ℕ, true, false, List, [], ◌∷◌, ◌++◌, map, Option, Some, None, refl, sym, ap, subst, ◌∙◌}
+use Rattle.std.proofs.Common.{◌≡◌, ℕ, List, [], ◌∷◌, ◌++◌, map, Option, Some, None, refl, sym, ap, subst, ◌∙◌}
 use Rattle.std.specs.Prelude.{IsTrue}
 use Rattle.std.proofs.lemmas.Bool.{false≢true}
 use Rattle.cc_names.specs.declared.name.Name.{Name}
@@ -10,15 +10,14 @@ use Rattle.cc_model.specs.declared.item.Event.{Event}
 use Rattle.cc_model.specs.Texts.{text_of_event, text_of_reply}
 use Rattle.cc_model.specs.Answers.{Answer, Step, items_of, replying}
 use Rattle.cc_model.specs.Asks.{Ask, taken}
-use Rattle.cc_model.specs.Listed.{after_events, after_reply}
-use Rattle.cc_model.specs.Graph.{step}
-use Rattle.cc_model.specs.Lawful.{State, AnswersCommand, AnswersTaken, ReplyAnswers, graph_after}
+use Rattle.cc_model.specs.Listed.{after_reply}
+use Rattle.cc_model.specs.Lawful.{State, AnswersCommand, AnswersTaken, ReplyAnswers}
 use Rattle.cc_model.specs.Quiet.{Row, row_after}
 use Rattle.cc_verdict.specs.Following.{Follows, Place, Recites, lines_of_items, place, place_after}
 use Rattle.cc_verdict.specs.Hearing.{Hearing, Hears, MayEnd, comes, ends, hearing, is_heard, nothing_told, place_ended, with_told}
-use Rattle.cc_verdict.proofs.Comes.{EachMayCome, told-names, told_all, with_all}
+use Rattle.cc_verdict.proofs.Comes.{EachMayCome, told-names, with_all}
 use Rattle.cc_verdict.proofs.HeardAnswers.{ended-graph}
-use Rattle.cc_verdict.proofs.Turns.{IsFirst, first-follows, follows-first, heard-quiet}
+use Rattle.cc_verdict.proofs.Turns.{first-follows, follows-first, heard-quiet}
 
 -- events and a reply, and then other lines
 abbrev pub answer_lines : List Event → Reply → List (List ℕ) → List (List ℕ)
@@ -37,7 +36,7 @@ lines-of_answer : (events : List Event) (reply : Reply) (rest : List (List ℕ))
 lines-of_answer [] reply rest = refl
 lines-of_answer (e ∷ events) reply rest = ap (λ ls. text_of_event e ∷ ls) (lines-of_answer events reply rest)
 
--- the answer to a command that is heard
+-- the parts of an answer to a command that is heard
 taken-parts : (s : State) (c : Command) (a : Answer) → IsTrue (is_heard c) → AnswersTaken s c a → (a.listed ≡ []) × (a.steps ≡ []) × ReplyAnswers s c a a.reply
 taken-parts s Nothing a is l = absurd (false≢true is)
 taken-parts s Census a is l = absurd (false≢true is)

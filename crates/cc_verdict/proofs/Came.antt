@@ -1,14 +1,14 @@
 -- EVENTS THAT CAME WHERE THEY MAY, one after the other, are in place together.
-use Rattle.std.proofs.Common.{◌≡◌, ℕ, ◌+◌, ◌≤◌, Bool, true, false, not, ◌&&◌, ◌||◌, List, [], ◌∷◌, Option, Some, None, nat_le, refl, sym, ap, subst, ◌∙◌, arith}
+use Rattle.std.proofs.Common.{◌≡◌, ◌+◌, ◌≤◌, Bool, true, false, not, ◌&&◌, ◌||◌, List, [], ◌∷◌, nat_le, refl, sym, subst, ◌∙◌, arith}
 use Rattle.std.proofs.lemmas.Bool.{and_parts, false≢true, true≢false, leb-true}
-use Rattle.cc_names.specs.Names.{is_native, number_of}
+use Rattle.cc_names.specs.Names.{is_native}
 use Rattle.cc_model.specs.declared.item.Event.{Event}
 use Rattle.cc_model.specs.declared.item.Event.TheVariants.{Unlinked, Freed, Abandoned}
 use Rattle.cc_model.specs.Lawful.{EachMayBe, is_gc, may_free, may_unlink, runs_allowed, runs_units, unlinked_numbers, has_none, ends_with_one, begins_with_at_most_one}
-use Rattle.cc_verdict.specs.Hearing.{Hearing, may_go_on, runs_with, told_after, with_told}
+use Rattle.cc_verdict.specs.Hearing.{Hearing, may_go_on, runs_with, with_told}
 use Rattle.cc_verdict.proofs.Comes.{EachMayCome, after-any, runs_on, told_all, unlink-runs}
 
--- each may be there
+-- each event that came may be there
 pub came-each : (h : Hearing) (es : List Event) → EachMayCome h es → EachMayBe h.graph h.told.names h.command es
 came-each h [] m = tt
 came-each h (Freed x ∷ es) m = (
@@ -21,7 +21,7 @@ came-each h (Unlinked x ∷ es) m = (
 )
 came-each h (Abandoned ∷ es) m = (tt, came-each (with_told h Abandoned) es m.1)
 
--- the numbers rise
+-- the numbers of events that came make few runs
 pub came-rising : (h : Hearing) (es : List Event) → EachMayCome h es → h.told.runs ≤ runs_allowed h.command →
     h.told.runs + runs_on h.told.last (unlinked_numbers es) ≤ runs_allowed h.command
 came-rising h [] m few = omega arith
@@ -33,7 +33,7 @@ came-rising h (Unlinked x ∷ es) m few =
     subst (λ n. n ≤ runs_allowed h.command) (sym (unlink-runs h.told x es native)) (came-rising (with_told h (Unlinked x)) es m.1 few_with)
 came-rising h (Abandoned ∷ es) m few = came-rising (with_told h Abandoned) es m.1 few
 
--- Abandonments but under `gc`
+-- Abandonments under other commands than `gc`
 
 no-more : (gc abandoned : Bool) → gc ≡ false → abandoned ≡ true → ¬ ((gc || not abandoned) ≡ true)
 no-more true abandoned g a e = true≢false g
@@ -47,7 +47,7 @@ abandon-kind false true any false g e = (refl, refl)
 abandon-kind false true any true g e = absurd (false≢true e)
 abandon-kind false false any abandoned g e = absurd (false≢true e)
 
--- nothing comes behind one
+-- nothing comes behind an abandonment
 nothing-after : (h : Hearing) (es : List Event) → is_gc h.command ≡ false → h.told.abandoned ≡ true → EachMayCome h es → es ≡ []
 nothing-after h [] g a m = refl
 nothing-after h (Freed x ∷ es) g a m =
@@ -59,7 +59,7 @@ nothing-after h (Unlinked x ∷ es) g a m =
 nothing-after h (Abandoned ∷ es) g a m =
     absurd (true≢false (sym a ∙ (abandon-kind (is_gc h.command) (runs_units h.command) h.told.any h.told.abandoned g m.0.kind).1))
 
--- where one is told, it is the last
+-- an abandonment that is told stands last, and once
 pub came-ending : (h : Hearing) (es : List Event) → is_gc h.command ≡ false → h.told.abandoned ≡ false → EachMayCome h es →
     (told_all h.told es).abandoned ≡ true → ends_with_one es ≡ true
 came-ending h [] g a m told = absurd (false≢true (sym a ∙ told))
@@ -70,7 +70,7 @@ came-ending h (Freed x ∷ f ∷ es) g a m told = came-ending (with_told h (Free
 came-ending h (Unlinked x ∷ f ∷ es) g a m told = came-ending (with_told h (Unlinked x)) (f ∷ es) g a m.1 told
 came-ending h (Abandoned ∷ f ∷ es) g a m told = let none : f ∷ es ≡ [] = nothing-after (with_told h Abandoned) (f ∷ es) g refl m.1 in absurd (cc)
 
--- none comes where no units run
+-- no abandonment comes where no units run
 pub came-whole : (h : Hearing) (es : List Event) → is_gc h.command ≡ false → runs_units h.command ≡ false → EachMayCome h es → has_none es ≡ true
 came-whole h [] g u m = refl
 came-whole h (Freed x ∷ es) g u m = came-whole (with_told h (Freed x)) es g u m.1
@@ -78,14 +78,14 @@ came-whole h (Unlinked x ∷ es) g u m = came-whole (with_told h (Unlinked x)) e
 came-whole h (Abandoned ∷ es) g u m =
     absurd (true≢false (sym (abandon-kind (is_gc h.command) (runs_units h.command) h.told.any h.told.abandoned g m.0.kind).0 ∙ u))
 
--- Under `gc`
+-- Abandonments under `gc`
 
 gc-kind : (gc any other : Bool) → gc ≡ true → elim gc [ true ↦ not any | false ↦ other ] ≡ true → any ≡ false
 gc-kind true true other g e = absurd (false≢true e)
 gc-kind true false other g e = refl
 gc-kind false any other g e = absurd (false≢true g)
 
--- none comes behind an event
+-- no abandonment comes behind another event
 came-later : (h : Hearing) (es : List Event) → is_gc h.command ≡ true → h.told.any ≡ true → EachMayCome h es → has_none es ≡ true
 came-later h [] g any m = refl
 came-later h (Freed x ∷ es) g any m = came-later (with_told h (Freed x)) es g refl m.1
@@ -93,7 +93,7 @@ came-later h (Unlinked x ∷ es) g any m = came-later (with_told h (Unlinked x))
 came-later h (Abandoned ∷ es) g any m =
     absurd (true≢false (sym any ∙ gc-kind (is_gc h.command) h.told.any (runs_units h.command && not h.told.abandoned) g m.0.kind))
 
--- so it is the first
+-- an abandonment comes first, and at most once
 pub came-first : (h : Hearing) (es : List Event) → is_gc h.command ≡ true → EachMayCome h es → begins_with_at_most_one es ≡ true
 came-first h [] g m = refl
 came-first h (e ∷ es) g m = came-later (with_told h e) es g (after-any h.told e) m.1

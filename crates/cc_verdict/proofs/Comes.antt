@@ -1,17 +1,14 @@
 -- EVENTS THAT MAY COME ONE AFTER THE OTHER, and what was told when they have come.
-use Rattle.std.proofs.Common.{◌≡◌, ℕ, ◌+◌, ◌≤◌, Bool, true, false, not, ◌&&◌, ◌||◌, List, [], ◌∷◌, Option, Some, None, nat_le, refl, sym, ap, subst, ◌∙◌, arith}
-use Rattle.std.specs.Prelude.{IsTrue}
-use Rattle.std.proofs.lemmas.Bool.{and_parts, and_from, false≢true, true≢false, leb-true, le-leb, not-true, not_from_false}
+use Rattle.std.proofs.Common.{◌≡◌, ℕ, ◌+◌, true, false, List, [], ◌∷◌, Option, Some, None, refl, sym, ◌∙◌, arith}
+use Rattle.std.proofs.lemmas.Bool.{false≢true, true≢false}
 use Rattle.cc_names.specs.declared.name.Name.{Name}
 use Rattle.cc_names.specs.declared.name.Name.TheVariants.{Native, Script, Reflector}
 use Rattle.cc_names.specs.Names.{is_native, natives_in, number_of}
-use Rattle.cc_model.specs.declared.command.Command.{Command}
-use Rattle.cc_model.specs.declared.item.Reply.{Reply}
 use Rattle.cc_model.specs.declared.item.Event.{Event}
 use Rattle.cc_model.specs.declared.item.Event.TheVariants.{Unlinked, Freed, Abandoned}
-use Rattle.cc_model.specs.Listed.{after_event, after_events}
-use Rattle.cc_model.specs.Lawful.{break_between, is_gc, may_free, may_unlink, runs, runs_allowed, runs_units, unlinked_numbers, has_none}
-use Rattle.cc_verdict.specs.Hearing.{Told, Hearing, MayCome, may_come, may_go_on, runs_begun, runs_with, told_after, with_told}
+use Rattle.cc_model.specs.Listed.{after_events}
+use Rattle.cc_model.specs.Lawful.{runs, unlinked_numbers, has_none}
+use Rattle.cc_verdict.specs.Hearing.{Told, Hearing, MayCome, runs_begun, runs_with, told_after, with_told}
 
 -- each may come after those before it
 abbrev pub EachMayCome : Hearing → List Event → Type 0
@@ -40,13 +37,13 @@ event-told t (Freed x ∷ es) is = event-told (told_after t (Freed x)) es refl
 event-told t (Unlinked x ∷ es) is = event-told (told_after t (Unlinked x)) es refl
 event-told t (Abandoned ∷ es) is = event-told (told_after t Abandoned) es refl
 
--- each is one
+-- any event is told
 pub after-any : (t : Told) (e : Event) → (told_after t e).any ≡ true
 after-any t (Freed x) = refl
 after-any t (Unlinked x) = refl
 after-any t Abandoned = refl
 
--- where none was told, there is none
+-- where no event is told, there is none
 pub none-told : (t : Told) (es : List Event) → (told_all t es).any ≡ false → es ≡ []
 none-told t [] none = refl
 none-told t (e ∷ es) none = absurd (true≢false (sym (event-told (told_after t e) es (after-any t e)) ∙ none))
@@ -58,14 +55,14 @@ abandonment-told t (Freed x ∷ es) is = abandonment-told (told_after t (Freed x
 abandonment-told t (Unlinked x ∷ es) is = abandonment-told (told_after t (Unlinked x)) es is
 abandonment-told t (Abandoned ∷ es) is = abandonment-told (told_after t Abandoned) es refl
 
--- where none was told, there is none
+-- where no abandonment is told, there is none
 pub unabandoned : (t : Told) (es : List Event) → (told_all t es).abandoned ≡ false → has_none es ≡ true
 unabandoned t [] none = refl
 unabandoned t (Freed x ∷ es) none = unabandoned (told_after t (Freed x)) es none
 unabandoned t (Unlinked x ∷ es) none = unabandoned (told_after t (Unlinked x)) es none
 unabandoned t (Abandoned ∷ es) none = absurd (true≢false (sym (abandonment-told (told_after t Abandoned) es refl) ∙ none))
 
--- where there is none, none is told
+-- events without an abandonment tell of none
 pub stays-unabandoned : (t : Told) (es : List Event) → has_none es ≡ true → (told_all t es).abandoned ≡ t.abandoned
 stays-unabandoned t [] none = refl
 stays-unabandoned t (Freed x ∷ es) none = stays-unabandoned (told_after t (Freed x)) es none
@@ -93,7 +90,7 @@ native-number (Native k) is = refl
 native-number (Script k) is = absurd (false≢true is)
 native-number (Reflector k) is = absurd (false≢true is)
 
--- the runs after an unlinking
+-- the runs of an unlinking and of what comes after it
 pub unlink-runs : (t : Told) (x : Name) (es : List Event) → is_native x ≡ true →
     t.runs + runs_on t.last (unlinked_numbers (Unlinked x ∷ es)) ≡ runs_with t x + runs_on (Some (number_of x)) (unlinked_numbers es)
 unlink-runs t x es is = rw (native-number x is) (omega arith)

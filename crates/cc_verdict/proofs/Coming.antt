@@ -1,11 +1,11 @@
 -- EVENTS THAT ARE IN PLACE TOGETHER may come one after the other.
-use Rattle.std.proofs.Common.{◌≡◌, ℕ, ◌+◌, ◌≤◌, Bool, true, false, not, ◌&&◌, ◌||◌, List, [], ◌∷◌, Some, nat_le, refl, sym, ap, subst, ◌∙◌, arith}
+use Rattle.std.proofs.Common.{◌≡◌, ℕ, ◌+◌, ◌≤◌, Bool, true, false, not, ◌&&◌, ◌||◌, List, [], ◌∷◌, Some, refl, ap, subst, arith}
 use Rattle.std.proofs.lemmas.Bool.{and_parts, and_from, or_left, false≢true, true≢false, le-leb}
 use Rattle.cc_names.specs.Names.{is_native, number_of}
 use Rattle.cc_model.specs.declared.item.Event.{Event}
 use Rattle.cc_model.specs.declared.item.Event.TheVariants.{Unlinked, Freed, Abandoned}
 use Rattle.cc_model.specs.Lawful.{MayBe, EachMayBe, is_abandonment, is_gc, runs_allowed, runs_units, unlinked_numbers, has_none, ends_with_one, begins_with_at_most_one}
-use Rattle.cc_verdict.specs.Hearing.{Told, Hearing, MayCome, may_go_on, runs_with, told_after, with_told}
+use Rattle.cc_verdict.specs.Hearing.{Told, Hearing, MayCome, may_go_on, runs_with, with_told}
 use Rattle.cc_verdict.proofs.Comes.{EachMayCome, runs_on, told_all, unlink-runs}
 use Rattle.cc_verdict.proofs.Stays.{units-no_gc}
 
@@ -16,7 +16,7 @@ runs_then t es = t.runs + runs_on t.last (unlinked_numbers es)
 abbrev pub HasFewRuns : Hearing → List Event → Type 0
 HasFewRuns h es = runs_then h.told es ≤ runs_allowed h.command
 
--- the first event comes, and the others make no more runs
+-- the first event may come, and the others make few runs
 one-comes : (h : Hearing) (e : Event) (es : List Event) → may_go_on h.command h.told ≡ true → is_abandonment e ≡ false →
     MayBe h.graph h.told.names h.command e → HasFewRuns h (e ∷ es) → MayCome h e × HasFewRuns (with_told h e) es
 one-comes h (Freed x) es go plain m few = (record { kind = and_from _ _ m.2 go; garbage = (m.0, m.1) }, few)
@@ -28,7 +28,7 @@ one-comes h (Unlinked x) es go plain m few =
     (record { kind = and_from _ _ m.2 (and_from _ _ go (le-leb _ _ with_it)); garbage = (m.0, m.1) }, after)
 one-comes h Abandoned es go plain m few = absurd (true≢false plain)
 
--- without an abandonment
+-- events without an abandonment may come
 pub coming-whole : (h : Hearing) (es : List Event) → may_go_on h.command h.told ≡ true → has_none es ≡ true →
     EachMayBe h.graph h.told.names h.command es → HasFewRuns h es → EachMayCome h es
 coming-whole h [] go none m few = tt
@@ -40,7 +40,8 @@ coming-whole h (Unlinked x ∷ es) go none m few =
     (one.0, coming-whole (with_told h (Unlinked x)) es go none m.1 one.1)
 coming-whole h (Abandoned ∷ es) go none m few = absurd (false≢true none)
 
--- with one at their end, where units run
+-- Events that end with an abandonment, where units run
+
 abandon-from : (gc units any abandoned : Bool) → gc ≡ false → units ≡ true → abandoned ≡ false → elim gc [ true ↦ not any | false ↦ units && not abandoned ] ≡ true
 abandon-from gc units any abandoned g u a = rw (g, u, a) refl
 
@@ -67,7 +68,8 @@ coming-ending h (Unlinked x ∷ f ∷ es) u a ends m few =
     ((one.0, rest.0), rest.1)
 coming-ending h (Abandoned ∷ f ∷ es) u a ends m few = absurd (false≢true ends)
 
--- with one at most, which is the first, under `gc`
+-- Events of which the first alone may be an abandonment, under `gc`
+
 gc-from : (gc any other : Bool) → gc ≡ true → any ≡ false → elim gc [ true ↦ not any | false ↦ other ] ≡ true
 gc-from gc any other g a = rw (g, a) refl
 

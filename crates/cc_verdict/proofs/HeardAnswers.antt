@@ -1,8 +1,6 @@
 -- AN ANSWER IS LAWFUL where its events may come one after the other, and its reply may end it.
-use Rattle.std.proofs.Common.{◌≡◌, ◌≢◌, ℕ, ◌+◌, ◌≤◌, Bool, true, false, not, ◌&&◌, ◌||◌, ◌⊎◌, ⊎_elim, inl, inr, List, [], Some, None, nat_le, refl, sym, ap, subst, ◌∙◌, arith}
-use Rattle.std.specs.Prelude.{IsTrue}
+use Rattle.std.proofs.Common.{◌≡◌, ◌≢◌, Bool, true, false, not, ◌&&◌, ⊎_elim, inl, inr, List, [], Some, nat_le, refl, sym, ap, subst, ◌∙◌, arith}
 use Rattle.std.proofs.lemmas.Bool.{and_parts, and_from, and_right, or_right, false≢true, true≢false, leb-true, le-leb, not_from_false}
-use Rattle.cc_names.specs.declared.name.Name.{Name}
 use Rattle.cc_model.specs.declared.command.Command.{Command}
 use Rattle.cc_model.specs.declared.item.Refusal.TheVariants.{NoMemory}
 use Rattle.cc_model.specs.declared.item.Reply.{Reply}
@@ -11,13 +9,13 @@ use Rattle.cc_model.specs.declared.item.Event.{Event}
 use Rattle.cc_model.specs.Graph.{Graph, objects_of, reply_to, step}
 use Rattle.cc_model.specs.Lawful.{AnswersCommand, EachMayBe, WantsMemory, begins_with_at_most_one, ends_with_one, graph_after, has_abandonment_in_place, has_none, is_abandoning, is_gc, is_refused, is_without_memory, runs, runs_allowed, runs_units, unlinked_numbers}
 use Rattle.cc_verdict.specs.Following.{Place}
-use Rattle.cc_verdict.specs.Hearing.{Told, nothing_told, EndsAbandoned, EndsAsTheGraph, Hearing, MayEnd, hearing}
+use Rattle.cc_verdict.specs.Hearing.{Told, nothing_told, EndsAbandoned, EndsAsTheGraph, MayEnd, hearing}
 use Rattle.cc_verdict.proofs.Came.{came-each, came-ending, came-first, came-rising, came-whole}
-use Rattle.cc_verdict.proofs.Comes.{EachMayCome, none-told, runs-from_none, runs_on, stays-unabandoned, told_all, unabandoned, with_all}
+use Rattle.cc_verdict.proofs.Comes.{EachMayCome, none-told, runs-from_none, stays-unabandoned, told_all, unabandoned, with_all}
 use Rattle.cc_verdict.proofs.Coming.{HasFewRuns, coming-ending, coming-first, coming-whole}
 use Rattle.cc_verdict.proofs.Stays.{gc-no_units, graph-granted, graph_after-granted, units-allowed, units-no_gc, units-stay, units-want}
 
--- where the collection was not refused memory
+-- whether an abandonment stands at most where the command allows one, want of memory aside
 abbrev is_whole : Command → List Event → Bool
 is_whole c es = elim (is_gc c) [ true ↦ begins_with_at_most_one es | false ↦ has_none es ]
 
@@ -25,7 +23,7 @@ in-place : (c : Command) (reply : Reply) (es : List Event) (b : Bool) → is_aba
     has_abandonment_in_place c reply es ≡ elim b [ true ↦ ends_with_one es | false ↦ is_whole c es ]
 in-place c reply es b e = ap (λ (a : Bool). elim a [ true ↦ ends_with_one es | false ↦ is_whole c es ]) e
 
--- what is told in the end
+-- what events tell
 abbrev told_by : Place → List Event → Told
 told_by p es = told_all (nothing_told p.state.listed) es
 
@@ -46,7 +44,8 @@ module _ (p : Place) (c : Command) (es : List Event) (reply : Reply) (came : Eac
   heard-each : MayEnd (with_all (hearing p c) es) reply → EachMayBe (graph_after p.state.graph c (Some reply)) p.state.listed c es
   heard-each ends = subst (λ (g : Graph). EachMayBe g p.state.listed c es) (sym (ended-graph p c es reply ends)) (came-each (hearing p c) es came)
 
-  -- as the graph says
+  -- Answers that end as the graph says
+
   graph-whole : EndsAsTheGraph (with_all (hearing p c) es) reply → is_whole c es ≡ true
   graph-whole r = go (is_gc c) refl
     where
@@ -69,7 +68,7 @@ module _ (p : Place) (c : Command) (es : List Event) (reply : Reply) (came : Eac
         abandonment = in-place c reply es false (and_right (runs_units c) (is_without_memory reply) granted) ∙ graph-whole r;
       }
 
-  -- abandoned
+  -- answers that end abandoned are lawful
   abandoned-answers : EndsAbandoned (with_all (hearing p c) es) reply → AnswersCommand p.state c reply es
   abandoned-answers r =
       let abandoning : is_abandoning c reply ≡ true = and_from (runs_units c) (is_without_memory reply) r.units (ap is_without_memory r.refused) in
@@ -93,7 +92,7 @@ module _ (p : Place) (c : Command) (es : List Event) (reply : Reply) (a : Answer
   none-refused : is_refused reply ≡ true → is_abandoning c reply ≡ false → es ≡ []
   none-refused r n = a.quiet (and_from (is_refused reply) (not (is_abandoning c reply)) r (not_from_false (is_abandoning c reply) n))
 
-  -- by the graph
+  -- answers that end as the graph says are heard
   graph-heard : reply ≡ reply_to p.state.graph c → EachMayCome (hearing p c) es × MayEnd (with_all (hearing p c) es) reply
   graph-heard same = go (is_gc c) refl
     where
@@ -122,7 +121,7 @@ module _ (p : Place) (c : Command) (es : List Event) (reply : Reply) (a : Answer
           let none : has_none es ≡ true = sym (ap (λ (b : Bool). elim b [ true ↦ begins_with_at_most_one es | false ↦ has_none es ]) g) ∙ whole in
           (coming-whole (hearing p c) es (or_right (is_gc c) true refl) none each few-runs, ends (λ u. stays-unabandoned (nothing_told p.state.listed) es none))
 
-  -- refused memory
+  -- answers that end with want of memory are heard, where an event comes before it
   unmet-heard : (es ≡ [] → reply ≢ Refused NoMemory) → WantsMemory p.state c reply → EachMayCome (hearing p c) es × MayEnd (with_all (hearing p c) es) reply
   unmet-heard some w = go (runs_units c) refl
     where

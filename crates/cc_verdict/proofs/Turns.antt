@@ -1,6 +1,6 @@
 -- THE FIRST ANSWER OF LINES THAT MAY FOLLOW: it is lawful and quiet where it stands, its items come first, and what may follow
 -- after it comes then.
-use Rattle.std.proofs.Common.{◌≡◌, ℕ, true, false, List, [], ◌∷◌, ◌++◌, refl, sym, ap, subst, ◌∙◌, append_assoc}
+use Rattle.std.proofs.Common.{◌≡◌, ℕ, List, [], ◌∷◌, ◌++◌, refl, sym, ap, ◌∙◌}
 use Rattle.std.specs.Prelude.{IsTrue, map}
 use Rattle.std.proofs.lemmas.Bool.{false≢true}
 use Rattle.std.proofs.lemmas.List.{map-append}
@@ -27,15 +27,18 @@ follows-first p ask asks lines f = go f.answers f.lines_are f.lawful f.quiet
     go : (answers : List Answer) → lines ≡ lines_of_answers answers → IsLawfulFrom p.state (ask ∷ asks) answers → IsQuietFrom p.row p.state (ask ∷ asks) answers →
         (a : Answer) × IsFirst p ask asks lines a
     go [] e l q = absurd l
-    go (a ∷ answers) e l q = (a, record {
-      lawful = l.0;
-      quiet = q.0;
-      recites = record {
-        rest = lines_of_answers answers;
-        lines_are = e ∙ map-append words_of (items_of a) (all_items_of answers);
-        follows = record { answers = answers; lines_are = refl; lawful = l.1; quiet = q.1 };
-      };
-    })
+    go (a ∷ answers) e l q = (
+      a,
+      record {
+        lawful = l.0;
+        quiet = q.0;
+        recites = record {
+          rest = lines_of_answers answers;
+          lines_are = e ∙ map-append words_of (items_of a) (all_items_of answers);
+          follows = record { answers = answers; lines_are = refl; lawful = l.1; quiet = q.1 };
+        };
+      },
+    )
 
 pub first-follows : (p : Place) (ask : Ask) (asks : List Ask) (lines : List (List ℕ)) (a : Answer) → IsFirst p ask asks lines a → Follows p (ask ∷ asks) lines
 first-follows p ask asks lines a i = record {

@@ -1,7 +1,7 @@
 -- THE LINE OF AN ITEM HAS NO LINE FEED, so the text of items is cut into their lines.
-use Rattle.std.proofs.Common.{◌≡◌, ℕ, zero, suc, ◌+◌, ◌/◌, ◌%◌, Bool, true, false, not, ◌&&◌, ◌==◌, List, [], ◌∷◌, ◌++◌, length, map, decimal, codes, nat_lt, if◌then◌else◌, refl, sym, ap, ◌∙◌, arith, ne_eqb, append_assoc, append-nil, length-append}
+use Rattle.std.proofs.Common.{◌≡◌, ℕ, zero, suc, ◌+◌, ◌/◌, ◌%◌, Bool, true, false, not, ◌==◌, List, [], ◌∷◌, ◌++◌, length, decimal, codes, nat_lt, if◌then◌else◌, refl, sym, ap, ◌∙◌, arith, ne_eqb, append_assoc, append-nil, length-append}
 use Rattle.std.specs.Fmt.{digit_glyph, digits_onto, digits}
-use Rattle.std.specs.List.{list_all, sum_by}
+use Rattle.std.specs.List.{list_all}
 use Rattle.std.proofs.lemmas.Bool.{and_parts, and_from, false≢true}
 use Rattle.std.proofs.lemmas.List.Folds.{list_all-append}
 use Rattle.std.proofs.lemmas.List.Sums.{sum_by-cons}
@@ -21,7 +21,7 @@ use Rattle.cc_model.specs.declared.item.Reason.TheVariants.{Root, Edge, Pair}
 use Rattle.cc_model.specs.declared.item.Item.{Item}
 use Rattle.cc_model.specs.declared.item.Item.TheVariants.{Event as of_event, Listed, Step, Reply as of_reply}
 use Rattle.cc_model.specs.Lines.{lines_from, lines_of}
-use Rattle.cc_model.specs.Texts.{text_of, text_of_event, text_of_reason, text_of_refusal, text_of_reply, text_of_step, texts_of, words_of}
+use Rattle.cc_model.specs.Texts.{text_of_event, text_of_reason, text_of_refusal, text_of_reply, texts_of, words_of}
 use Rattle.cc_verdict.specs.Following.{lines_of_items}
 use Rattle.cc_verdict.specs.Verdicts.{length_of_lines}
 
@@ -93,7 +93,7 @@ event-uncut (Unlinked x) = name-uncut x
 event-uncut (Freed x) = name-uncut x
 event-uncut Abandoned = refl
 
--- a name and a space
+-- a name and a space have no line feed
 spaced-uncut : (x : Name) → is_uncut (text_of_name x ++ codes " ") ≡ true
 spaced-uncut x = uncut-append (text_of_name x) (codes " ") (name-uncut x) refl
 
@@ -134,7 +134,7 @@ lines-of_items (i ∷ items) =
     ∙ cut-ended [] (words_of i) (texts_of items) (words-uncut i)
     ∙ ap (λ l. words_of i ∷ l) (lines-of_items items)
 
--- and has a byte more for each of them
+-- the text of items has a byte more for each of their lines
 pub length-of_items : (items : List Item) → length (texts_of items) ≡ length_of_lines (lines_of_items items)
 length-of_items [] = refl
 length-of_items (i ∷ items) = omega (

@@ -1,13 +1,8 @@
 -- WHERE A CHECK STANDS after some lines of a transcript: between two answers, within one that can be but this, or within one
 -- that is heard event by event.
 use Rattle.std.specs.Prelude.{ℕ, List}
-use Rattle.cc_names.specs.declared.name.Name.{Name}
-use Rattle.cc_model.specs.declared.command.Command.{Command}
-use Rattle.cc_model.specs.declared.item.Reply.{Reply}
 use Rattle.cc_model.specs.declared.item.Item.{Item}
 use Rattle.cc_model.specs.Asks.{Ask}
-use Rattle.cc_model.specs.Graph.{Graph}
-use Rattle.cc_model.specs.Quiet.{Row}
 use Rattle.cc_verdict.specs.Following.{Place, Follows, Recites}
 use Rattle.cc_verdict.specs.Hearing.{Hearing, Hears}
 

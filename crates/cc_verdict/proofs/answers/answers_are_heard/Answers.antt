@@ -1,6 +1,5 @@
-use Rattle.std.proofs.Common.{◌≡◌, ◌≢◌, ℕ, Bool, true, false, ◌&&◌, List, [], ◌∷◌, get_or, drop, None, nat_le, refl, sym, ap, subst, ◌∙◌, ⊎_elim, inr, eq-eqb, le-leb, arith}
-use Rattle.std.specs.Prelude.{IsTrue}
-use Rattle.std.proofs.lemmas.Bool.{and_from, and_right, false≢true, true≢false}
+use Rattle.std.proofs.Common.{◌≡◌, ◌≢◌, ℕ, Bool, true, false, ◌&&◌, List, [], ◌∷◌, get_or, drop, None, refl, sym, ap, subst, ◌∙◌, ⊎_elim, inr, eq-eqb, le-leb, arith}
+use Rattle.std.proofs.lemmas.Bool.{false≢true, true≢false}
 use Rattle.cc_model.specs.declared.command.Command.{Command}
 use Rattle.cc_model.specs.declared.item.Event.{Event}
 use Rattle.cc_model.specs.declared.item.Event.TheVariants.{Unlinked, Freed, Abandoned}
@@ -15,8 +14,8 @@ use Rattle.cc_model.specs.Graph.{objects_of}
 use Rattle.cc_model.specs.Lawful.{AnswersCommand, State, WantsMemory, has_abandonment_in_place, is_gc, is_without_memory, may_want_memory, runs_allowed, runs_units}
 use Rattle.cc_model.specs.Texts.{text_of_event, text_of_refusal, text_of_reply}
 use Rattle.cc_verdict.specs.Following.{Follows, Place, place_after}
-use Rattle.cc_verdict.specs.Hearing.{Hears, hearing, is_heard}
-use Rattle.cc_verdict.proofs.Answered.{IsAnswered, answer_lines, answered-follows, follows-answered, heard-hears, hears-heard, place-ended}
+use Rattle.cc_verdict.specs.Hearing.{hearing}
+use Rattle.cc_verdict.proofs.Answered.{answer_lines, answered-follows, follows-answered, heard-hears, hears-heard, place-ended}
 use Rattle.cc_verdict.proofs.HeardAnswers.{answers-heard, heard-answers}
 use Rattle.cc_verdict.proofs.Stays.{graph-granted}
 use Rattle.cc_verdict.proofs.answers.answers_are_heard.Goals as goal
@@ -29,7 +28,7 @@ no_memory = reply.Refused refusal.NoMemory
 abbrev byte_at : ℕ → List ℕ → ℕ
 byte_at i line = get_or line i 0
 
--- a refusal of that line is it
+-- a refusal with the line of want of memory is it
 refusal-no_memory : (r : Refusal) → text_of_refusal r ≡ text_of_reply no_memory → r ≡ refusal.NoMemory
 refusal-no_memory refusal.Long e = absurd (false≢true (eq-eqb 108 110 (ap (byte_at 2) e)))
 refusal-no_memory refusal.Line e = absurd (false≢true (eq-eqb 108 110 (ap (byte_at 2) e)))
@@ -51,7 +50,7 @@ event-memory (Unlinked x) e = false≢true (eq-eqb 45 33 (ap (byte_at 0) e))
 event-memory (Freed x) e = false≢true (eq-eqb 45 33 (ap (byte_at 0) e))
 event-memory Abandoned e = false≢true (eq-eqb 45 33 (ap (byte_at 0) e))
 
--- it is lawful only where the command may want it, and is not refused
+-- want of memory alone is lawful only where the command may want it, and is not refused
 unmet-parts : (s : State) (c : Command) → AnswersCommand s c no_memory [] →
     (may_want_memory s c ≡ true) × (refusal_of (objects_of s.graph) c ≡ None)
 unmet-parts s c a = ⊎_elim
@@ -59,7 +58,7 @@ unmet-parts s c a = ⊎_elim
     (λ (w : WantsMemory s c no_memory). (w.command_may, w.no_other))
     a.replies
 
--- no such answer is one of an abandoned collection
+-- want of memory alone is no answer where units run
 no-units : (c : Command) → has_abandonment_in_place c no_memory [] ≡ true → runs_units c ≡ false
 no-units c h = go (runs_units c) refl
   where
@@ -81,7 +80,7 @@ unmet-answers s c may none units = record {
     go true = refl
     go false = refl
 
--- the lines after it
+-- where want of memory is the first line, it is the answer
 unmet-from : (p : Place) (c : Command) (asks : List Ask) (lines : List (List ℕ)) (events : List Event) (r : Reply) (rest : List (List ℕ)) →
     text_of_reply no_memory ∷ lines ≡ answer_lines events r rest → AnswersCommand p.state c r events → Follows (place_after p (taken c) (replying events r)) asks rest →
     AnswersCommand p.state c no_memory [] × Follows (place_after p (taken c) (replying [] no_memory)) asks lines
@@ -89,7 +88,7 @@ unmet-from p c asks lines [] r rest e a f =
     let is : r ≡ no_memory = reply-no_memory r (sym (ap (λ ls. get_or ls 0 []) e)) in (
       subst (λ (q : Reply). AnswersCommand p.state c q []) is a,
       subst (Follows (place_after p (taken c) (replying [] no_memory)) asks) (sym (ap (drop 1) e))
-      (subst (λ (q : Reply). Follows (place_after p (taken c) (replying [] q)) asks rest) is f),
+          (subst (λ (q : Reply). Follows (place_after p (taken c) (replying [] q)) asks rest) is f),
     )
 unmet-from p c asks lines (event ∷ events) r rest e a f = absurd (event-memory event (sym (ap (λ ls. get_or ls 0 []) e)))
 
