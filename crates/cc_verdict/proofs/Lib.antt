@@ -7,3 +7,6 @@ pub mod Came
 pub mod Coming
 pub mod HeardAnswers
 pub mod Answered
+pub mod Decimals
+pub mod TextsApart
+pub mod HeardLines
