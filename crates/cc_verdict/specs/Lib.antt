@@ -1,4 +1,5 @@
 pub mod Following
 pub mod Hearing
+pub mod Numbers
 pub mod Positions
 pub mod Verdicts

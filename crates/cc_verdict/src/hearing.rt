@@ -1,5 +1,5 @@
 //! Laws of one answer: what its next line may be.
-ghost use Rattle.std.specs.Prelude.{◌≡◌, ◌↔◌, ◌⊎◌, ℕ, List, [], ◌∷◌};
+ghost use Rattle.std.specs.Prelude.{◌≡◌, ◌↔◌, ◌<◌, ◌^◌, ◌⊎◌, ℕ, List, [], ◌∷◌};
 ghost use Rattle.cc_model.specs.declared.item.Event.{Event};
 ghost use Rattle.cc_model.specs.declared.item.Item.{Item};
 ghost use Rattle.cc_model.specs.declared.item.Reply.{Reply};
@@ -7,6 +7,7 @@ ghost use Rattle.cc_model.specs.Asks.{Ask};
 ghost use Rattle.cc_model.specs.Texts.{text_of_event, text_of_reply, words_of};
 ghost use Rattle.cc_verdict.specs.Following.{Follows, Place, Recites};
 ghost use Rattle.cc_verdict.specs.Hearing.{Hearing, Hears, MayCome, MayEnd, place_ended, with_told};
+ghost use Rattle.cc_verdict.specs.Numbers.{number_in_event, number_in_reply};
 
 /// Items are recited one line each.
 pub fn answers_are_recited_line_by_line()
@@ -17,11 +18,11 @@ pub fn answers_are_recited_line_by_line()
 {}
 
 /// The next line of an answer that is heard is that of an event that may come, or of a reply that may end it; which of them, the
-/// line says.
+/// line says. The line of an event or a reply says it where the number in it is below 2 ^ 32.
 pub fn answers_are_heard_line_by_line()
-    ensures event { (h : Hearing) (e : Event) (asks : List Ask) (lines : List (List ℕ)) →
+    ensures event { (h : Hearing) (e : Event) (asks : List Ask) (lines : List (List ℕ)) → number_in_event e < 2 ^ 32 →
         Hears asks h (text_of_event e ∷ lines) ↔ (MayCome h e × Hears asks (with_told h e) lines) }
-    ensures reply { (h : Hearing) (r : Reply) (asks : List Ask) (lines : List (List ℕ)) →
+    ensures reply { (h : Hearing) (r : Reply) (asks : List Ask) (lines : List (List ℕ)) → number_in_reply r < 2 ^ 32 →
         Hears asks h (text_of_reply r ∷ lines) ↔ (MayEnd h r × Follows (place_ended h r) asks lines) }
     ensures either { (h : Hearing) (asks : List Ask) (line : List ℕ) (lines : List (List ℕ)) → Hears asks h (line ∷ lines) →
         ((e : Event) × (line ≡ text_of_event e) × MayCome h e) ⊎ ((r : Reply) × (line ≡ text_of_reply r) × MayEnd h r) }

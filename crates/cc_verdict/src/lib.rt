@@ -12,6 +12,12 @@ mod answers;
 mod hearing;
 mod lines;
 
-pub use answers::{answers_are_heard, exact_answers_are_recited, lines_that_ask_nothing_have_no_answer, reasons_are_recited};
+pub use answers::{
+    answers_are_heard, exact_answers_are_recited, lines_that_ask_nothing_have_no_answer,
+    reasons_are_recited,
+};
 pub use hearing::{answers_are_heard_line_by_line, answers_are_recited_line_by_line};
 pub use lines::{lines_tell_items_apart, transcripts_are_lines};
+
+#[cfg(test)]
+mod tests;

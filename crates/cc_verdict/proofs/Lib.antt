@@ -1,0 +1,12 @@
+pub mod Uncut
+pub mod Ended
+pub mod Turns
+pub mod Stays
+pub mod Comes
+pub mod Came
+pub mod Coming
+pub mod HeardAnswers
+pub mod Answered
+pub mod Decimals
+pub mod TextsApart
+pub mod HeardLines
