@@ -1,6 +1,6 @@
 -- THE KEYS OF SCRIPT OBJECTS by which the entries of weak maps are kept: an even one is that of a plain object, a weak map or a
 -- proxy, an odd one that of a reflector.
-use Rattle.std.specs.Prelude.{ℕ, ◌+◌, ◌*◌, ◌/◌, ◌%◌, ◌==◌, List, map, Option, option_map, if◌then◌else◌}
+use Rattle.std.specs.Prelude.{ℕ, ◌+◌, ◌*◌, ◌/◌, ◌%◌, ◌==◌, List, map, option_map, if◌then◌else◌}
 use Rattle.cc_names.specs.declared.name.Name.{Name}
 use Rattle.cc_names.specs.declared.name.Name.TheVariants as name
 use Rattle.cc_names.specs.Names.{object, reflector}

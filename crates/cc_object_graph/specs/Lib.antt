@@ -1,3 +1,6 @@
 pub mod Members
 pub mod Keys
+pub mod Keyed
 pub mod Made
+pub mod Numbered
+pub mod Ready

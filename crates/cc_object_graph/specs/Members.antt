@@ -1,6 +1,6 @@
 -- WHERE THE ENTRIES OF AN OBJECT STAND: the places, counted from 0, of the entries of which it is the map, the key or the key's
 -- delegate.
-use Rattle.std.specs.Prelude.{◌≡◌, ℕ, zero, suc, Bool, true, false, List, slice_get, Option, Some, None, option_map}
+use Rattle.std.specs.Prelude.{◌≡◌, ℕ, zero, suc, true, false, List, slice_get, Option, Some, None, option_map}
 use Rattle.cc_names.specs.declared.name.Name.{Name}
 use Rattle.cc_model.specs.Entries.{Entry}
 use Rattle.cc_model.specs.Derivations.{is_member}

@@ -5,7 +5,15 @@
 //! and an index from an object to the entries of weak maps of which it is a member.
 #![tactic(auto)]
 
-mod made;
+mod entries;
+mod keys;
+mod made_native;
+mod made_script;
+mod natives;
+mod numbered;
 mod object_graph;
+mod rows;
+mod scripts;
+mod slots;
 
 pub use object_graph::ObjectGraph;

@@ -1,47 +1,54 @@
 //! The graph as its callers see it.
-ghost use Rattle.std.specs.Prelude.{◌≡◌, ◌<◌, ◌≤◌, length, None, Some, slice_get, slice_index_or, IfOk, IfSome, IsTrue, OnOk};
+ghost use Rattle.std.specs.Prelude.{◌≡◌, ◌<◌, ◌≤◌, length, None, Some, slice_get, IfOk, IfSome, IsTrue, OnOk};
 ghost use Rattle.cc_names.specs.declared.register.Reg.TheVariants as reg;
 ghost use Rattle.cc_model.specs.Ranges.{in_range};
 ghost use Rattle.cc_model.specs.Entries.{entry};
-ghost use Rattle.cc_model.specs.Checks.{refusal_of, slots_or_none, value_at};
+ghost use Rattle.cc_model.specs.Checks.{refusal_of, value_at};
 ghost use Rattle.cc_model.specs.Graph.{empty_graph, objects_of, register, reply_to, step};
 ghost use Rattle.cc_model.specs.WellMade.{IsWellMade, was_made};
-ghost use Rattle.cc_model.specs.Places.{places_made};
 ghost use Rattle.cc_object_graph.specs.Members.{IsPlaceOf, place_below};
 
-use crate::made::{MadeNative, MadeScript};
+mod changes;
+mod checks;
+mod making;
+mod places;
+mod reading;
+mod replies;
+mod writing;
+
+use crate::entries::Entries;
+use crate::natives::Natives;
+use crate::scripts::Scripts;
+use crate::slots::Slots;
 use cc_model::{Command, Refusal, Reply};
-use cc_names::{Limits, Name, NoMemory, Reg, RegNo};
-use cc_weakmaps::WeakMaps;
+use cc_names::{BANK_LENGTH, Limits, Name, NoMemory, Reg, RegNo};
 use std::alloc::Global;
 use std::marker::Model;
 
 /// An object graph: registers, objects and entries, and the limits within which objects are made.
-// Native k, and script object k, stand at place k - 1.
 #[derive(Drop)]
 pub struct ObjectGraph {
-    native_registers: Vec<Option<Name>>,
-    script_registers: Vec<Option<Name>>,
-    natives: Vec<MadeNative>,
-    scripts: Vec<MadeScript>,
-    entries: WeakMaps,
+    native_registers: Slots,
+    script_registers: Slots,
+    natives: Natives,
+    scripts: Scripts,
+    entries: Entries,
     limits: Limits,
+    // with which objects are made
+    alloc: Global,
 }
 
 impl Model for ObjectGraph {
     ghost use Rattle.cc_model.specs.Graph.{Graph};
-    ghost use Rattle.std.specs.Prelude.{map};
-    ghost use Rattle.cc_object_graph.specs.Keys.{named_entries};
-    ghost use Rattle.cc_object_graph.specs.Made.{script_made};
 
     ghost Value = { Graph };
 
     ghost view = { λ g. record {
-      native_registers = g.native_registers.items;
-      script_registers = g.script_registers.items;
-      natives = g.natives.items;
-      scripts = map script_made g.scripts.items;
-      entries = named_entries g.entries;
+      native_registers = g.native_registers;
+      script_registers = g.script_registers;
+      natives = g.natives;
+      scripts = g.scripts;
+      entries = g.entries;
       limits = g.limits;
     } };
 }
@@ -50,10 +57,39 @@ impl ObjectGraph {
     /// An empty graph within these limits.
     pub fn new(alloc: Global, limits: Limits) -> Result<ObjectGraph, NoMemory>
         ensures { IfOk result (λ g. g ≡ empty_graph limits) }
+    {
+        Ok(ObjectGraph {
+            native_registers: Slots::empty(alloc, BANK_LENGTH)?,
+            script_registers: Slots::empty(alloc, BANK_LENGTH)?,
+            natives: Natives::new(alloc),
+            scripts: Scripts::new(alloc),
+            entries: Entries::new(alloc),
+            limits,
+            alloc,
+        })
+    }
 
     /// Why a command is refused; none where it is not.
     pub fn refusal(&self, command: &Command) -> Option<Refusal>
         ensures { result ≡ refusal_of (objects_of self.now) command.now }
+    {
+        if self.lacks_object(command) {
+            return Some(Refusal::Empty);
+        }
+        if self.has_wrong_object(command) {
+            return Some(Refusal::Kind);
+        }
+        if self.has_no_slot(command) {
+            return Some(Refusal::Slot);
+        }
+        if self.has_wrong_content(command) {
+            return Some(Refusal::Kind);
+        }
+        if self.is_full(command) {
+            return Some(Refusal::Full);
+        }
+        None
+    }
 
     /// Does a command, and answers its reply. A refused one changes nothing.
     ///
@@ -64,30 +100,49 @@ impl ObjectGraph {
         requires in_range { IsTrue (in_range command.now) }
         ensures reply { IfOk result (λ r. r ≡ reply_to self.old command.now) }
         ensures step { OnOk result (self.new ≡ step self.old command.now) }
+    {
+        if let Some(refusal) = self.refusal(command) {
+            return Ok(Reply::Refused(refusal));
+        }
+        let reply = self.reply(command);
+        self.change(command)?;
+        Ok(reply)
+    }
 
     /// What a register holds.
     pub fn register(&self, at: Reg) -> Option<Name>
         ensures { result ≡ register self.now at }
+    {
+        match at {
+            Reg::N(r) => self.native_registers.at(r as usize),
+            Reg::S(r) => self.script_registers.at(r as usize),
+        }
+    }
 
     /// The value that what one script register holds has for its key in what the other holds as their map.
     pub fn value_at(&self, the_map: RegNo, key: RegNo) -> Option<Name>
         ensures { result ≡ value_at (objects_of self.now) (register self.now (reg.S the_map)) (register self.now (reg.S key)) }
+    {
+        match (self.register(Reg::S(the_map)), self.register(Reg::S(key))) {
+            (Some(the_map), Some(key)) => self.entries.value(&the_map, &key),
+            (Some(_), None) => None,
+            (None, _) => None,
+        }
+    }
 
     /// How many natives were made. They are numbered from 1.
     pub fn natives(&self) -> usize
         ensures { result ≡ length self.now.natives }
+    {
+        self.natives.len()
+    }
 
     /// How many plain objects, weak maps and proxies were made. They are numbered from 1.
     pub fn scripts(&self) -> usize
         ensures { result ≡ length self.now.scripts }
-
-    /// How many places an object has in which it may refer to another: its slots, and those for a reflector, a delegate and a native.
-    pub fn places(&self, name: &Name) -> usize
-        ensures { result ≡ length (slots_or_none (places_made self.now name.now)) }
-
-    /// What a place of an object holds, counted from 0.
-    pub fn place(&self, name: &Name, i: usize) -> Option<Name>
-        ensures { result ≡ slice_index_or (slots_or_none (places_made self.now name.now)) i None }
+    {
+        self.scripts.len()
+    }
 
     /// The place of the last entry of which an object is the map, the key or the key's delegate; none where there is none. From it
     /// `next_with` goes on to the others.
@@ -96,6 +151,9 @@ impl ObjectGraph {
         ensures place { result ≡ place_below self.now.entries name.now (length self.now.entries) }
         ensures there { IfSome result (IsPlaceOf self.now.entries name.now) }
         ensures within { IfSome result (λ i. i < length self.now.entries) }
+    {
+        self.entries.first_with(name)
+    }
 
     /// The last place before this one of an entry of which the object is a member; none where this is the first of them.
     pub fn next_with(&self, name: &Name, place: usize) -> Option<usize>
@@ -105,9 +163,15 @@ impl ObjectGraph {
         ensures there { IfSome result (IsPlaceOf self.now.entries name.now) }
         ensures within { IfSome result (λ i. i < length self.now.entries) }
         ensures before { IfSome result (λ i. i < place) }
+    {
+        self.entries.next_with(name, place)
+    }
 
     /// Map, key, the key's delegate and value of the entry at a place, counted from 0.
     pub fn entry(&self, i: usize) -> (Name, Name, Option<Name>, Name)
         requires within { i < length self.now.entries }
         ensures { slice_get self.now.entries i ≡ Some (entry result.0 result.1 result.2 result.3) }
+    {
+        self.entries.entry(i)
+    }
 }
