@@ -15,3 +15,6 @@ mod reach;
 mod search;
 
 pub use reach::Reach;
+
+#[cfg(test)]
+mod tests;
