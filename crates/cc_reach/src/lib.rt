@@ -8,6 +8,13 @@
 //! A search takes time in step with what it finds and with the registers, whatever else the graph has.
 #![tactic(auto)]
 
+mod found;
+mod needed;
+mod places;
 mod reach;
+mod search;
 
 pub use reach::Reach;
+
+#[cfg(test)]
+mod tests;

@@ -1,0 +1,16 @@
+use Rattle.std.proofs.Common.{◌<◌, ◌≤◌, length, sym, ◌∙◌, arith}
+use Rattle.cc_names.specs.declared.register.Reg.TheVariants.{N}
+use Rattle.cc_reach.proofs.Turns.{bank-end, bank-turn}
+use Rattle.cc_reach.proofs.found.Found.add_natives.Goals as goal
+
+pub loop-r-preserved : goal.loop-r-preserved
+loop-r-preserved c =
+    let slots = c.args.graph.now.native_registers in
+    let l : c.loop-r.r < length slots = omega (arith, c.loop-r-test.true, c.requires.registers.0) in
+    bank-turn N slots c.loop-r.r c.register.result c.loop-r.self c.add_content.new.self l c.register.ensures c.in_ok-add_content.ensures ∙ c.loop-r.invariant
+
+pub returns : goal.returns
+returns c =
+    let slots = c.args.graph.now.native_registers in
+    let past : length slots ≤ c.loop-r.r = omega (arith, c.loop-r-test.false, c.requires.registers.0) in
+    sym (bank-end N slots c.loop-r.r c.loop-r.self past) ∙ c.loop-r.invariant
