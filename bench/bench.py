@@ -32,6 +32,12 @@ itself, drop it and collect it, beside SIZE natives that live (1000 10000 100000
 of two scripts, with these commands and without. The machine's noise is not in it. The largest size takes some seconds a
 script. The first such cycle comes behind the collection that looked at all SIZE natives, and its collection gives back the
 room that this one took. The second comes behind the first.
+
+    bench/bench.py --check MADE [SIZE ..]
+
+counts what `check` takes beside `replay`, by callgrind: for the script that the file MADE has (`ccmade` writes the one of seed 7
+with 100000 lines; `-` for none) and its transcript; and the second part of two shapes, for each object, at each size (4000
+64000 if left out).
 """
 
 import os
@@ -339,11 +345,11 @@ def living_chain(size, holders):
     return lines + ["collect"]
 
 
-def instructions(path):
-    """How many instructions the program takes for a script, with its start."""
+def instructions(path, words=("replay",)):
+    """How many instructions the program takes for an input, with its start."""
     with open(path, "rb") as script:
         tool = ["valgrind", "--tool=callgrind", "--callgrind-out-file=/dev/null"]
-        ran = subprocess.run(tool + [PROGRAM, "replay"], stdin=script, stdout=subprocess.DEVNULL, stderr=subprocess.PIPE)
+        ran = subprocess.run(tool + [PROGRAM, *words], stdin=script, stdout=subprocess.DEVNULL, stderr=subprocess.PIPE)
     found = re.search(rb"Collected : (\d+)", ran.stderr)
     if ran.returncode or not found:
         sys.exit(f"bench: callgrind ended with status {ran.returncode}")
@@ -368,7 +374,49 @@ def count(sizes):
                 print(f"| {name}, {which} | " + " | ".join(f"{it[k]:,}" for it in taken) + " |", flush=True)
 
 
+# shapes that are judged: many natives are freed by one drop, and unlinked and freed by one collection
+JUDGED = [
+    ("chain, dropped", dropped_chain),
+    ("one ring, collected", ring),
+]
+
+
+def judged(folder, path):
+    """The instructions of `check` for a script and what `replay` answers to it."""
+    with open(path, "rb") as it:
+        script = it.read()
+    ran = subprocess.run([PROGRAM, "replay"], input=script, capture_output=True)
+    both = f"{folder}/both"
+    with open(both, "wb") as it:
+        it.write(script + ran.stdout)
+    words = ["check", str(len(script))]
+    with open(both, "rb") as it:
+        if subprocess.run([PROGRAM, *words], stdin=it, capture_output=True).stdout != b"lawful\n":
+            sys.exit("bench: a transcript of ours is not lawful")
+    return instructions(both, words)
+
+
+def count_checks(made, sizes):
+    """Prints what `check` takes beside `replay`."""
+    with tempfile.TemporaryDirectory(prefix="ccreplay-bench-") as folder:
+        if made != "-":
+            one, other = instructions(made), judged(folder, made)
+            print(f"The made script: replay {one:,}, check {other:,}, {other / one:.2f} times as many.\n")
+        print("| judged, instructions an object | " + " | ".join(f"{size:,}" for size in sizes) + " |")
+        print("|---|" + "---:|" * len(sizes))
+        for name, shape in JUDGED:
+            row = []
+            for size in sizes:
+                it = shape(size)
+                whole = Script(f"{folder}/whole", it.build + it.end, it.frees, it.unlinks)
+                build = Script(f"{folder}/build", it.build, 0, 0)
+                row.append((judged(folder, whole.path) - judged(folder, build.path)) / it.times / size)
+            print(f"| {name} | " + " | ".join(f"{it:,.0f}" for it in row) + " |", flush=True)
+
+
 def main():
+    if sys.argv[1:2] == ["--check"] and len(sys.argv) > 2:
+        return count_checks(sys.argv[2], sorted({int(it) for it in sys.argv[3:]}) or [4000, 64000])
     counts = sys.argv[1:2] == ["--count"]
     default = [1000, 10000, 100000] if counts else [1000, 2000, 4000]
     sizes = sorted({int(it) for it in sys.argv[1 + counts :]}) or default
