@@ -1,2 +1,4 @@
 pub mod Standing
+pub mod Tried
+pub mod Stops
 pub mod Checked

@@ -1,17 +1,101 @@
 //! A whole check.
-ghost use Rattle.std.specs.Prelude.{◌≡◌, ◌≢◌, ◌<◌, ◌≤◌, ◌+◌, ◌⊎◌, ℕ, List, length, Some, Ok, Err};
+
+ghost use Rattle.std.specs.Prelude.{◌≡◌, ◌≢◌, ◌<◌, ◌≤◌, ◌+◌, ◌-◌, ◌*◌, ◌^◌, ◌⊎◌, ℕ, List, length, Some, Ok, Err, OnOk, true, false};
 ghost use Rattle.cc_lists.specs.Faults.{Rose};
 ghost use Rattle.cc_verdict.specs.Verdicts.{IsLawfulTranscript};
+ghost use Rattle.cc_reader.specs.Given.{AreAllGiven, HasGiven, IsBroken, IsOver};
+ghost use Rattle.cc_reader.specs.HasRead.{ReadsOn};
+ghost use Rattle.cc_reader.specs.Pending.{nothing_read, weight};
 ghost use Rattle.cc_check.specs.Checked.{ends, IsFoundLawful, IsFoundUnlawful, IsOverLimit};
+ghost use Rattle.cc_check.specs.Tried.{moment, GoesOnTrying, IsReady, StaysWithin};
 
 use crate::heard::Heard;
-use crate::judge::Judge;
-use crate::script::Script;
+use crate::trial::Trial;
 use crate::verdict::{CheckStop, Verdict};
 use cc_names::Limits;
 use cc_outside::Source;
-use cc_reader::{Line, Lines, ReadStop};
+use cc_reader::{Line, Lines};
 use std::alloc::Global;
+
+/// Reads the next line and hears it. False comes at the end of the source.
+fn hear_next<S: Source>(trial: &mut Trial<'_>, lines: &mut Lines<'_, S>) -> Result<bool, CheckStop>
+    requires going { lines.old.stopped ≡ false }
+    requires ready { IsReady trial.old }
+    requires room { trial.old.bytes + 121 < 2 ^ 64 }
+    ensures more { result ≡ Ok true → GoesOnTrying HasGiven (moment (S.left lines.old.source.now) lines.old.window trial.old)
+        (moment (S.left lines.new.source.now) lines.new.window trial.new) }
+    ensures whole { result ≡ Ok false → GoesOnTrying AreAllGiven (moment (S.left lines.old.source.now) lines.old.window trial.old)
+        (moment (S.left lines.new.source.now) lines.new.window trial.new) }
+    ensures fault { result ≡ Err CheckStop.Fault → GoesOnTrying IsBroken (moment (S.left lines.old.source.now) lines.old.window trial.old)
+        (moment (S.left lines.new.source.now) lines.new.window trial.new) }
+    ensures over { result ≡ Err CheckStop.Limit → GoesOnTrying IsOver (moment (S.left lines.old.source.now) lines.old.window trial.old)
+        (moment (S.left lines.new.source.now) lines.new.window trial.new) }
+    ensures within { StaysWithin (moment (S.left lines.old.source.now) lines.old.window trial.old)
+        (moment (S.left lines.new.source.now) lines.new.window trial.new) }
+    ensures going_on { result ≡ Ok true → lines.new.stopped ≡ false }
+    ensures falls { result ≡ Ok true → weight lines.new.window < weight lines.old.window }
+    ensures ready { OnOk result (IsReady trial.new) }
+    ensures bytes { OnOk result (trial.new.bytes ≤ trial.old.bytes + 121) }
+    ensures limit { lines.new.window.limit ≡ lines.old.window.limit }
+    ensures reads { ReadsOn (S.reads lines.old.source.now) (S.reads lines.new.source.now) lines.old.window lines.new.window }
+    ensures same { lines.new.source.ghost_name ≡ lines.old.source.ghost_name }
+    ensures calm { result ≢ Err CheckStop.Fault → S.faults lines.new.source.now ≡ S.faults lines.old.source.now }
+    ensures rose { result ≡ Err CheckStop.Fault → Rose (S.faults lines.old.source.now) (S.faults lines.new.source.now) }
+{
+    match lines.next()? {
+        Line::End => return Ok(false),
+        Line::TooLong => trial.hear(Heard::Long)?,
+        Line::Text => trial.hear(Heard::Text(lines.text()))?,
+    }
+    Ok(true)
+}
+
+/// Hears each line that is left, to the end of the source.
+fn hear_all<S: Source>(trial: &mut Trial<'_>, lines: &mut Lines<'_, S>) -> Result<(), CheckStop>
+    requires going { lines.old.stopped ≡ false }
+    requires ready { IsReady trial.old }
+    requires room { trial.old.bytes + 121 * weight lines.old.window + 121 < 2 ^ 64 }
+    ensures whole { OnOk result (GoesOnTrying AreAllGiven (moment (S.left lines.old.source.now) lines.old.window trial.old)
+        (moment (S.left lines.new.source.now) lines.new.window trial.new)) }
+    ensures fault { result ≡ Err CheckStop.Fault → GoesOnTrying IsBroken (moment (S.left lines.old.source.now) lines.old.window trial.old)
+        (moment (S.left lines.new.source.now) lines.new.window trial.new) }
+    ensures over { result ≡ Err CheckStop.Limit → GoesOnTrying IsOver (moment (S.left lines.old.source.now) lines.old.window trial.old)
+        (moment (S.left lines.new.source.now) lines.new.window trial.new) }
+    ensures within { StaysWithin (moment (S.left lines.old.source.now) lines.old.window trial.old)
+        (moment (S.left lines.new.source.now) lines.new.window trial.new) }
+    ensures limit { lines.new.window.limit ≡ lines.old.window.limit }
+    ensures reads { ReadsOn (S.reads lines.old.source.now) (S.reads lines.new.source.now) lines.old.window lines.new.window }
+    ensures same { lines.new.source.ghost_name ≡ lines.old.source.ghost_name }
+    ensures calm { result ≢ Err CheckStop.Fault → S.faults lines.new.source.now ≡ S.faults lines.old.source.now }
+    ensures rose { result ≡ Err CheckStop.Fault → Rose (S.faults lines.old.source.now) (S.faults lines.new.source.now) }
+{
+    'lines: while hear_next(trial, lines)? {}
+    Ok(())
+}
+
+/// The verdict on the lines of a source that was not read yet.
+fn check_lines<S: Source>(
+    alloc: Global,
+    limits: Limits,
+    script: &[u8],
+    lines: &mut Lines<'_, S>,
+) -> Result<Verdict, CheckStop>
+    requires going { lines.old.stopped ≡ false }
+    requires within { length script.now ≤ limits.bytes }
+    requires start { lines.old.window ≡ nothing_read (limits.bytes - length script.now) }
+    ensures lawful { result ≡ Ok Verdict.Lawful → IsFoundLawful limits script.now (ends S.left S.reads lines.old.source.now lines.new.source.now) }
+    ensures unlawful { result ≡ Ok Verdict.Unlawful → IsFoundUnlawful limits script.now (ends S.left S.reads lines.old.source.now lines.new.source.now) }
+    ensures over { result ≡ Err CheckStop.Limit → IsOverLimit limits script.now (ends S.left S.reads lines.old.source.now lines.new.source.now) }
+    ensures fault { result ≡ Err CheckStop.Fault → Rose (S.faults lines.old.source.now) (S.faults lines.new.source.now) }
+    ensures calm { result ≢ Err CheckStop.Fault → S.faults lines.new.source.now ≡ S.faults lines.old.source.now }
+    ensures reads { (S.reads lines.new.source.now).answered + length script.now ≤ (S.reads lines.old.source.now).answered + limits.bytes + 1 }
+    ensures end_unread { result ≡ Err CheckStop.Fault → (S.reads lines.new.source.now).ended ≡ (S.reads lines.old.source.now).ended }
+    ensures source { lines.new.source.ghost_name ≡ lines.old.source.ghost_name }
+{
+    let mut trial = Trial::new(alloc, limits, script)?;
+    hear_all(&mut trial, lines)?;
+    Ok(trial.verdict(lines.taken()))
+}
 
 /// Whether what the source gives, to its end, is a lawful transcript of the script, within the limits of the run that it is of.
 ///
@@ -48,3 +132,7 @@ pub fn check<S: Source>(
     // At most as many reads are answered as there may be bytes, and one more.
     ensures reads { (S.reads source.new).answered + length script.now ≤ (S.reads source.old).answered + limits.bytes + 1 }
     ensures end_unread { (result ≡ Err CheckStop.Fault) ⊎ (result ≡ Err CheckStop.Limit) → (S.reads source.new).ended ≡ (S.reads source.old).ended }
+{
+    let mut lines = Lines::new(source, limits.bytes() - script.len() as u32);
+    check_lines(alloc, limits, script, &mut lines)
+}

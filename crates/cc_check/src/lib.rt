@@ -13,8 +13,10 @@ mod asked;
 mod checking;
 mod heard;
 mod judge;
+mod lengths;
 mod row;
 mod script;
+mod trial;
 mod verdict;
 
 pub use checking::check;

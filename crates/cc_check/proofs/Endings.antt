@@ -1,0 +1,140 @@
+-- HOW A CHECK ENDS: from lines that were given and tried to what is told of the bytes taken.
+use Rattle.std.proofs.Common.{◌≡◌, ℕ, ◌+◌, ◌-◌, ◌<◌, ◌≤◌, Bool, true, false, List, [], ◌++◌, length, length-append, append-nil, Option, Some, None, Result, Err, refl, sym, ap, ◌∙◌, subst, arith}
+use Rattle.std.specs.Io.KnownBytes.{Consumes, IsAtEnd}
+use Rattle.cc_names.specs.Allowance.{Allowance}
+use Rattle.cc_model.specs.Lines.{lines_of}
+use Rattle.cc_outside.specs.Reads.{Reads}
+use Rattle.cc_reader.specs.declared.lines.Line.{Line}
+use Rattle.cc_reader.specs.declared.read_stop.ReadStop.{ReadStop}
+use Rattle.cc_reader.specs.declared.read_stop.ReadStop.TheVariants as stop
+use Rattle.cc_reader.specs.Pending.{Pending, nothing_read}
+use Rattle.cc_reader.specs.Given.{HasGiven, AreAllGiven, IsBroken, IsOver}
+use Rattle.cc_reader.specs.HasRead.{HasRead, ReadsBytes, ReadsOn, ReadsToEnd}
+use Rattle.cc_reader.proofs.Given.{HasGiven-none, HasRead-none}
+use Rattle.cc_verdict.specs.Verdicts.{IsLawfulTranscript}
+use Rattle.cc_check.specs.declared.trial.Trial.{Trial}
+use Rattle.cc_check.specs.Checked.{Ends, ReadsWhole, IsFoundLawful, IsFoundUnlawful, IsOverLimit}
+use Rattle.cc_check.specs.Tried.{AreTried, GoesOnTrying, IsTried, IsWithin, moment}
+
+-- NO MORE IS TAKEN THAN MAY BE
+pub given-within : (start now : Option (List ℕ)) (p : Pending) (lines : List (List ℕ)) → HasGiven start now p lines → IsWithin p
+given-within start now p lines h = record { most = h.most; at_end = λ e. (h.at_end e).1 }
+
+pub whole-within : (start now : Option (List ℕ)) (p : Pending) (lines : List (List ℕ)) → AreAllGiven start now p lines → IsWithin p
+whole-within start now p lines h = record { most = omega (arith, h.counted, h.within); at_end = λ e. omega (arith, h.counted, h.within) }
+
+broken-within : (start now : Option (List ℕ)) (p : Pending) (lines : List (List ℕ)) → IsBroken start now p lines → IsWithin p
+broken-within start now p lines h = record { most = omega (arith, h.counted, h.within); at_end = λ e. omega (arith, h.counted, h.within) }
+
+over-within : (start now : Option (List ℕ)) (p : Pending) (lines : List (List ℕ)) → IsOver start now p lines → IsWithin p
+over-within start now p lines h = record { most = omega (arith, h.counted, h.above); at_end = λ e. absurd (let both : true ≡ false = sym e ∙ h.going in cc) }
+
+pub stop-within : (start now : Option (List ℕ)) (p : Pending) (lines : List (List ℕ)) (why : ReadStop) (r : Result Line ReadStop) → r ≡ Err why →
+    (r ≡ Err stop.Fault → IsBroken start now p lines) → (r ≡ Err stop.Limit → IsOver start now p lines) → IsWithin p
+stop-within start now p lines stop.Fault r e broken over = broken-within start now p lines (broken e)
+stop-within start now p lines stop.Limit r e broken over = over-within start now p lines (over e)
+
+-- FROM A READER THAT BEGINS
+module _ (limits : Allowance) (script : List ℕ) (left now : Option (List ℕ)) (r₀ r₁ : Reads) (p q : Pending) (t u : Trial)
+    (small : length script ≤ limits.bytes) (begins : p ≡ nothing_read (limits.bytes - length script)) (limit : q.limit ≡ p.limit)
+    (reads : ReadsOn r₀ r₁ p q) (tried : IsTried limits script t []) where
+  abbrev e : Ends
+  e = record { left = left; left_now = now; reads = r₀; reads_now = r₁ }
+
+  first : AreTried HasGiven limits script left (moment left p t)
+  first = record {
+    lines = [];
+    given = subst (λ (w : Pending). HasGiven left left w []) (sym begins) (HasGiven-none left (limits.bytes - length script));
+    tried = tried;
+  }
+
+  bytes : q.limit + length script ≡ limits.bytes
+  bytes = omega (arith, limit, ap (λ (w : Pending). w.limit) begins, small)
+
+  read : HasRead r₀ r₁ q
+  read = reads r₀ (subst (HasRead r₀ r₀) (sym begins) (HasRead-none r₀ (limits.bytes - length script)))
+
+  -- the source is at its end
+  whole : (lines : List (List ℕ)) (h : AreAllGiven left now q lines) → ReadsWhole limits.bytes script e h.given
+  whole lines h = record {
+    consumed = h.consumed;
+    at_end = h.at_end;
+    within = omega (arith, h.within, bytes);
+    reads = subst (ReadsToEnd r₀ r₁) (sym h.counted) (read.at_end h.ended);
+  }
+
+  pub found-lawful : GoesOnTrying AreAllGiven (moment left p t) (moment now q u) →
+      ((text : List ℕ) → length text ≡ q.taken → IsTried limits script u (lines_of text) → IsLawfulTranscript limits script text) → IsFoundLawful limits script e
+  found-lawful goes decides =
+      let l = goes limits script left first in
+      record {
+        given = l.given.given;
+        whole = whole l.lines l.given;
+        lawful = decides l.given.given l.given.counted (subst (IsTried limits script u) l.given.lines_are l.tried);
+      }
+
+  pub found-unlawful : GoesOnTrying AreAllGiven (moment left p t) (moment now q u) →
+      ((text : List ℕ) → length text ≡ q.taken → IsTried limits script u (lines_of text) → ¬ (IsLawfulTranscript limits script text)) → IsFoundUnlawful limits script e
+  found-unlawful goes decides =
+      let l = goes limits script left first in
+      record {
+        given = l.given.given;
+        whole = whole l.lines l.given;
+        unlawful = decides l.given.given l.given.counted (subst (IsTried limits script u) l.given.lines_are l.tried);
+      }
+
+  -- the limit was passed
+  pub found-over : GoesOnTrying IsOver (moment left p t) (moment now q u) → IsOverLimit limits script e
+  found-over goes =
+      let l = goes limits script left first in
+      record {
+        given = l.given.given;
+        consumed = l.given.consumed;
+        above = omega (arith, l.given.above, bytes);
+        reads = subst (ReadsBytes r₀ r₁) (sym l.given.counted) (read.going l.given.going);
+      }
+
+  -- no read said the end where one failed
+  pub broken-unended : GoesOnTrying IsBroken (moment left p t) (moment now q u) → r₁.ended ≡ r₀.ended
+  broken-unended goes = (read.going (goes limits script left first).given.going).ended
+
+  -- the reads that were answered
+  pub reads-within : ((limits : Allowance) (script : List ℕ) (start : Option (List ℕ)) → AreTried HasGiven limits script start (moment left p t) → IsWithin q) →
+      r₁.answered + length script ≤ r₀.answered + limits.bytes + 1
+  reads-within within = by_end q.ended refl
+    where
+      by_end : (b : Bool) → q.ended ≡ b → r₁.answered + length script ≤ r₀.answered + limits.bytes + 1
+      by_end false going = omega (arith, (read.going going).answered, (within limits script left first).most, bytes)
+      by_end true ended = omega (arith, (read.at_end ended).answered, (within limits script left first).at_end ended, bytes)
+
+-- WHERE THE BYTES OF THE SOURCE ARE KNOWN
+taken-length : (bytes : List ℕ) (left now : Option (List ℕ)) (given : List ℕ) → left ≡ Some bytes → Consumes left now given → length given ≤ length bytes
+taken-length bytes None now given e c = let bad : None ≡ Some bytes = e in cc
+taken-length bytes (Some xs) None given e c = absurd c
+taken-length bytes (Some xs) (Some ys) given e c =
+    let same : xs ≡ bytes = cc in
+    omega (arith, ap (λ (zs : List ℕ). length zs) same, ap (λ (zs : List ℕ). length zs) c, length-append given ys)
+
+whole-bytes : (bytes : List ℕ) (left now : Option (List ℕ)) (given : List ℕ) → left ≡ Some bytes → Consumes left now given → IsAtEnd now → given ≡ bytes
+whole-bytes bytes None now given e c end = let bad : None ≡ Some bytes = e in cc
+whole-bytes bytes (Some xs) None given e c end = absurd c
+whole-bytes bytes (Some xs) (Some ys) given e c end =
+    let same : xs ≡ bytes = cc in
+    sym (append-nil given) ∙ (sym (ap (λ (zs : List ℕ). given ++ zs) end) ∙ (sym c ∙ same))
+
+pub known-lawful : (limits : Allowance) (script : List ℕ) (e : Ends) (bytes : List ℕ) → e.left ≡ Some bytes → IsFoundLawful limits script e → IsLawfulTranscript limits script bytes
+known-lawful limits script e bytes known f =
+    subst (IsLawfulTranscript limits script) (whole-bytes bytes e.left e.left_now f.given known f.whole.consumed f.whole.at_end) f.lawful
+
+pub known-unlawful : (limits : Allowance) (script : List ℕ) (e : Ends) (bytes : List ℕ) → e.left ≡ Some bytes → IsFoundUnlawful limits script e → ¬ (IsLawfulTranscript limits script bytes)
+known-unlawful limits script e bytes known f =
+    subst (λ (bs : List ℕ). ¬ (IsLawfulTranscript limits script bs)) (whole-bytes bytes e.left e.left_now f.given known f.whole.consumed f.whole.at_end) f.unlawful
+
+-- bytes within the limit are not over it, and bytes over it are not read to their end
+pub known-within : (limits : Allowance) (script : List ℕ) (e : Ends) (bytes : List ℕ) → e.left ≡ Some bytes → IsOverLimit limits script e → limits.bytes < length script + length bytes
+known-within limits script e bytes known o = omega (arith, o.above, taken-length bytes e.left e.left_now o.given known o.consumed)
+
+pub known-over : (limits : Allowance) (script : List ℕ) (e : Ends) (bytes given : List ℕ) → e.left ≡ Some bytes → ReadsWhole limits.bytes script e given →
+    length script + length bytes ≤ limits.bytes
+known-over limits script e bytes given known w =
+    omega (arith, w.within, ap (λ (zs : List ℕ). length zs) (whole-bytes bytes e.left e.left_now given known w.consumed w.at_end))
