@@ -3,19 +3,19 @@ use Rattle.std.proofs.Common.{◌≡◌, ◌≢◌, ℕ, ◌+◌, ◌<◌, ◌�
 use Rattle.std.specs.Io.KnownBytes.{Consumes, IsAtEnd}
 use Rattle.cc_names.specs.Allowance.{Allowance}
 use Rattle.cc_replay.specs.declared.status.Status.{Status}
-use Rattle.cc_replay.specs.declared.status.Status.TheVariants.{Done, Usage, ReadFault, WriteFault, Limit, NoMemory}
+use Rattle.cc_replay.specs.declared.status.Status.TheVariants.{Done, Unlawful, Usage, ReadFault, WriteFault, Limit, NoMemory}
 use Rattle.cc_replay.specs.Transcripts.{Ends, IsDone, StopsAtFault, StopsAtLimit, StopsAtWrite}
 
 -- the reads that are answered are at most as many as the limit on bytes, and one
 pub reads-within : (s : Status) (limits : Allowance) (e : Ends) → (s ≡ Done → IsDone limits e) → (s ≡ ReadFault → StopsAtFault limits e) →
-    (s ≡ Limit → StopsAtLimit limits e) → (s ≡ WriteFault → StopsAtWrite limits e) → (s ≢ Usage) → (s ≢ NoMemory) →
+    (s ≡ Limit → StopsAtLimit limits e) → (s ≡ WriteFault → StopsAtWrite limits e) → (s ≢ Usage) → (s ≢ NoMemory) → (s ≢ Unlawful) →
     e.reads_now.answered ≤ e.reads.answered + limits.bytes + 1
-reads-within s limits e done fault over front usage memory = grind arith
+reads-within s limits e done fault over front usage memory verdict = grind arith
 
 -- no read said the end where it is not done and no write failed
 pub end-unread : (s : Status) (limits : Allowance) (e : Ends) → (s ≡ ReadFault → StopsAtFault limits e) → (s ≡ Limit → StopsAtLimit limits e) →
-    (s ≢ Usage) → (s ≢ NoMemory) → (s ≢ Done) → (s ≢ WriteFault) → e.reads_now.ended ≡ e.reads.ended
-end-unread s limits e fault over usage memory done write = grind arith
+    (s ≢ Usage) → (s ≢ NoMemory) → (s ≢ Unlawful) → (s ≢ Done) → (s ≢ WriteFault) → e.reads_now.ended ≡ e.reads.ended
+end-unread s limits e fault over usage memory verdict done write = grind arith
 
 -- what was taken of known bytes is no longer than they are
 taken-length : (bytes : List ℕ) (left now : Option (List ℕ)) (given : List ℕ) → left ≡ Some bytes → Consumes left now given → length given ≤ length bytes
@@ -35,19 +35,20 @@ whole-bytes bytes (Some xs) (Some ys) given e c end =
 
 -- with no fault an input above the limit is answered so
 pub over-answered : (s : Status) (limits : Allowance) (e : Ends) (bytes : List ℕ) (P Q : Type 0) →
-    (s ≡ ReadFault → P) → (s ≡ WriteFault → Q) → (s ≡ Done → IsDone limits e) → (s ≢ Usage) → (s ≢ NoMemory) →
+    (s ≡ ReadFault → P) → (s ≡ WriteFault → Q) → (s ≡ Done → IsDone limits e) → (s ≢ Usage) → (s ≢ NoMemory) → (s ≢ Unlawful) →
     e.left ≡ Some bytes → limits.bytes < length bytes → ¬ P → ¬ Q → s ≡ Limit
-over-answered Limit limits e bytes P Q read write done usage memory left above p q = refl
-over-answered Done limits e bytes P Q read write done usage memory left above p q =
+over-answered Limit limits e bytes P Q read write done usage memory verdict left above p q = refl
+over-answered Done limits e bytes P Q read write done usage memory verdict left above p q =
     let d = done refl in
     absurd (omega (arith, d.within, ap (λ (zs : List ℕ). length zs) (whole-bytes bytes e.left e.left_now d.given left d.consumed d.at_end)))
-over-answered Usage limits e bytes P Q read write done usage memory left above p q = absurd (usage refl)
-over-answered ReadFault limits e bytes P Q read write done usage memory left above p q = absurd (p (read refl))
-over-answered WriteFault limits e bytes P Q read write done usage memory left above p q = absurd (q (write refl))
-over-answered NoMemory limits e bytes P Q read write done usage memory left above p q = absurd (memory refl)
+over-answered Usage limits e bytes P Q read write done usage memory verdict left above p q = absurd (usage refl)
+over-answered ReadFault limits e bytes P Q read write done usage memory verdict left above p q = absurd (p (read refl))
+over-answered WriteFault limits e bytes P Q read write done usage memory verdict left above p q = absurd (q (write refl))
+over-answered Unlawful limits e bytes P Q read write done usage memory verdict left above p q = absurd (verdict refl)
+over-answered NoMemory limits e bytes P Q read write done usage memory verdict left above p q = absurd (memory refl)
 
 -- with no fault an input within the limit is done
 pub done-answered : (s : Status) (limits : Allowance) (e : Ends) (bytes : List ℕ) (P Q : Type 0) →
-    (s ≡ ReadFault → P) → (s ≡ WriteFault → Q) → (s ≡ Limit → StopsAtLimit limits e) → (s ≢ Usage) → (s ≢ NoMemory) →
+    (s ≡ ReadFault → P) → (s ≡ WriteFault → Q) → (s ≡ Limit → StopsAtLimit limits e) → (s ≢ Usage) → (s ≢ NoMemory) → (s ≢ Unlawful) →
     e.left ≡ Some bytes → length bytes ≤ limits.bytes → ¬ P → ¬ Q → s ≡ Done
-done-answered s limits e bytes P Q read write over usage memory left within p q = grind (arith, taken-length)
+done-answered s limits e bytes P Q read write over usage memory verdict left within p q = grind (arith, taken-length)

@@ -1,5 +1,5 @@
 -- What words that are taken give.
-use Rattle.std.proofs.Common.{◌≡◌, ◌∙◌, ◌||◌, ◌≤◌, inl, inr, ℕ, Bool, cond, codes, true, false, not, refl, sym, ap, subst, arith, List, [], ◌∷◌, drop, Option, Some, is_some, pos}
+use Rattle.std.proofs.Common.{◌≡◌, ◌∙◌, ◌||◌, ◌≤◌, inl, inr, ℕ, Bool, cond, codes, true, false, not, refl, sym, ap, ap₂, subst, arith, List, [], ◌∷◌, drop, Option, Some, is_some, pos}
 use Rattle.std.specs.Prelude.{find, option_and_then, option_map}
 use Rattle.std.specs.Option.{IfSome, IsSome, option_map_or}
 use Rattle.std.specs.Borrow.{Bor}
@@ -32,7 +32,8 @@ use Rattle.clap.proofs.ValueTestLemmas.{accepts-Accepts}
 use Rattle.clap.proofs.WalkLemmas.{both, one_text-rows}
 use Rattle.cc_names.specs.Allowance.{Allowance}
 use Rattle.cc_replay.specs.declared.words.Request.{Request}
-use Rattle.cc_replay.specs.Words.{GivesRequest, IsFor, IsNumber, IsTaken, app, bytes_option, count_argument, natives_option, number_argument, number_option, scripts_option, seed_argument, text_for}
+use Rattle.cc_replay.specs.declared.words.Request.TheVariants.{Replay, Make, Check}
+use Rattle.cc_replay.specs.Words.{GivesRequest, IsFor, IsNumber, IsTaken, app, bytes_option, count_argument, natives_option, number_argument, number_option, script_argument, scripts_option, seed_argument, text_for}
 use Rattle.cc_replay.proofs.FaultFree.{is_sound_level, takes-no_fault}
 use Rattle.cc_replay.proofs.OptionRows.{AreOptions, HasText, IsOption, has_default, has_required, level_default, level_required}
 use Rattle.cc_lists.proofs.Booleans.{premise-holds}
@@ -68,7 +69,14 @@ built_replay = built_command (codes "replay") (built_option natives_option ∷ b
 abbrev built_make : Shape
 built_make = built_command (codes "make") (built_argument 1 seed_argument ∷ built_argument 2 count_argument ∷ [])
 
-subcommands_are : (built app).subs ≡ built_replay ∷ built_make ∷ []
+abbrev built_check : Shape
+built_check = built_command (codes "check") (built_argument 1 script_argument ∷ built_option natives_option ∷ built_option scripts_option ∷ built_option bytes_option ∷ [])
+
+-- the three subcommands
+abbrev built_subcommands : List Shape
+built_subcommands = built_replay ∷ built_make ∷ built_check ∷ []
+
+subcommands_are : (built app).subs ≡ built_subcommands
 unfolding clap_on_literals
 subcommands_are = refl
 
@@ -76,7 +84,7 @@ top_is_sound : is_sound_level (built app).top ≡ true
 unfolding clap_on_literals
 top_is_sound = refl
 
-each_is_sound : list_all is_sound_level (built_replay ∷ built_make ∷ []) ≡ true
+each_is_sound : list_all is_sound_level built_subcommands ≡ true
 unfolding clap_on_literals
 each_is_sound = refl
 
@@ -124,7 +132,7 @@ unfolding clap_on_literals
 wants_subcommand = refl
 
 -- words that are taken enter one of the subcommands
-one_entered : (words : List Text) → IsTaken words → EntersOneOf (built_replay ∷ built_make ∷ []) (subcommand_of app words)
+one_entered : (words : List Text) → IsTaken words → EntersOneOf built_subcommands (subcommand_of app words)
 one_entered words e =
     let top = (built app).top in
     let names = names_of (built app) in
@@ -150,21 +158,40 @@ names_one name s o enters is = grind arith
 other_name : (name other : Text) → bytes_eq name other ≡ false → ¬ (name ≡ other)
 other_name name other differ same = let bad : bytes_eq name other ≡ true = (bytes_eq-Decides name other).1 same in cc
 
-pub replay_entered : (words : List Text) → IsTaken words → IsFor (codes "replay") words → Enters built_replay (subcommand_of app words)
+-- words that name a subcommand enter no other
+not_entered : (name : Text) (s : Shape) (words : List Text) → bytes_eq s.name name ≡ false → Enters s (subcommand_of app words) → ¬ (IsFor name words)
+not_entered name s words differ enters is = other_name s.name name differ (names_one name s (subcommand_of app words) enters is)
+
+-- all words for this subcommand that are taken enter this one
+abbrev pub EntersFor : Text → Shape → Type 0
+EntersFor subcommand s = (words : List Text) → IsTaken words → IsFor subcommand words → Enters s (subcommand_of app words)
+
+replay_entered : EntersFor (codes "replay") built_replay
 replay_entered words e is = go (one_entered words e)
   where
-    go : EntersOneOf (built_replay ∷ built_make ∷ []) (subcommand_of app words) → Enters built_replay (subcommand_of app words)
+    go : EntersOneOf built_subcommands (subcommand_of app words) → Enters built_replay (subcommand_of app words)
     go (inl here) = here
-    go (inr (inl make)) = absurd (other_name (codes "make") (codes "replay") refl (names_one (codes "replay") built_make (subcommand_of app words) make is))
-    go (inr (inr none)) = absurd none
+    go (inr (inl make)) = absurd (not_entered (codes "replay") built_make words refl make is)
+    go (inr (inr (inl check))) = absurd (not_entered (codes "replay") built_check words refl check is)
+    go (inr (inr (inr none))) = absurd none
 
-pub make_entered : (words : List Text) → IsTaken words → IsFor (codes "make") words → Enters built_make (subcommand_of app words)
+make_entered : EntersFor (codes "make") built_make
 make_entered words e is = go (one_entered words e)
   where
-    go : EntersOneOf (built_replay ∷ built_make ∷ []) (subcommand_of app words) → Enters built_make (subcommand_of app words)
-    go (inl replay) = absurd (other_name (codes "replay") (codes "make") refl (names_one (codes "make") built_replay (subcommand_of app words) replay is))
+    go : EntersOneOf built_subcommands (subcommand_of app words) → Enters built_make (subcommand_of app words)
+    go (inl replay) = absurd (not_entered (codes "make") built_replay words refl replay is)
     go (inr (inl here)) = here
-    go (inr (inr none)) = absurd none
+    go (inr (inr (inl check))) = absurd (not_entered (codes "make") built_check words refl check is)
+    go (inr (inr (inr none))) = absurd none
+
+check_entered : EntersFor (codes "check") built_check
+check_entered words e is = go (one_entered words e)
+  where
+    go : EntersOneOf built_subcommands (subcommand_of app words) → Enters built_check (subcommand_of app words)
+    go (inl replay) = absurd (not_entered (codes "check") built_replay words refl replay is)
+    go (inr (inl make)) = absurd (not_entered (codes "check") built_make words refl make is)
+    go (inr (inr (inl here))) = here
+    go (inr (inr (inr none))) = absurd none
 
 -- ---- the options and the arguments
 
@@ -189,6 +216,11 @@ options_are id q natives scripts bytes = search (option_is)
 arguments_are : (id : Text) (q : ValueParser) → (bytes_eq (codes "seed") id ≡ true → wide_reader 18446744073709551615 ≡ q)
     → (bytes_eq (codes "count") id ≡ true → reader 1000000 ≡ q) → AreOptions id q built_make.rules
 arguments_are id q seed count = search (argument_is)
+
+check_rules_are : (id : Text) (q : ValueParser) → (bytes_eq (codes "script") id ≡ true → reader 4294967295 ≡ q)
+    → (bytes_eq (codes "natives") id ≡ true → reader 1000000 ≡ q) → (bytes_eq (codes "scripts") id ≡ true → reader 1000000 ≡ q)
+    → (bytes_eq (codes "bytes") id ≡ true → reader 4294967295 ≡ q) → AreOptions id q built_check.rules
+check_rules_are id q script natives scripts bytes = search (argument_is, option_is)
 
 -- ---- a number in a range, by its text
 
@@ -234,32 +266,50 @@ number_in id q most s words rest reads is t =
       range.1,
     )
 
-number_of : (id : Text) (most : ℕ) → AreOptions id (reader most) built_replay.rules → has_default id (reader most) built_replay.rules ≡ true
-    → GivesNumber (codes "replay") id most
-number_of id most are default words taken is =
-    let enters = replay_entered words taken is in
-    number_in id (reader most) most built_replay words enters.0 (up_to most) enters.1 (level_default id (reader most) built_replay enters.0 are default enters.2)
+-- an option with a default
+option_number : (subcommand : Text) (s : Shape) (id : Text) (most : ℕ) → EntersFor subcommand s → AreOptions id (reader most) s.rules
+    → has_default id (reader most) s.rules ≡ true → GivesNumber subcommand id most
+option_number subcommand s id most entered are default words taken is =
+    let enters = entered words taken is in
+    number_in id (reader most) most s words enters.0 (up_to most) enters.1 (level_default id (reader most) s enters.0 are default enters.2)
+
+-- an argument that must be given
+argument_number : (subcommand : Text) (s : Shape) (id : Text) (q : ValueParser) (most : ℕ) → EntersFor subcommand s → ReadsUpTo most q → AreOptions id q s.rules
+    → has_required id q s.rules ≡ true → GivesNumber subcommand id most
+argument_number subcommand s id q most entered reads are required words taken is =
+    let enters = entered words taken is in
+    number_in id q most s words enters.0 reads enters.1 (level_required id q s enters.0 are required enters.2)
 
 pub natives_number : GivesNumber (codes "replay") (codes "natives") 1000000
-natives_number = number_of (codes "natives") 1000000 (options_are _ _ (λ e. refl) (λ e. refl) (λ e. cc)) refl
+natives_number = option_number (codes "replay") built_replay (codes "natives") 1000000 replay_entered (options_are _ _ (λ e. refl) (λ e. refl) (λ e. cc)) refl
 
 pub scripts_number : GivesNumber (codes "replay") (codes "scripts") 1000000
-scripts_number = number_of (codes "scripts") 1000000 (options_are _ _ (λ e. refl) (λ e. refl) (λ e. cc)) refl
+scripts_number = option_number (codes "replay") built_replay (codes "scripts") 1000000 replay_entered (options_are _ _ (λ e. refl) (λ e. refl) (λ e. cc)) refl
 
 pub bytes_number : GivesNumber (codes "replay") (codes "bytes") 4294967295
-bytes_number = number_of (codes "bytes") 4294967295 (options_are _ _ (λ e. cc) (λ e. cc) (λ e. refl)) refl
-
-made_number : (id : Text) (q : ValueParser) (most : ℕ) → ReadsUpTo most q → AreOptions id q built_make.rules → has_required id q built_make.rules ≡ true
-    → GivesNumber (codes "make") id most
-made_number id q most reads are required words taken is =
-    let enters = make_entered words taken is in
-    number_in id q most built_make words enters.0 reads enters.1 (level_required id q built_make enters.0 are required enters.2)
+bytes_number = option_number (codes "replay") built_replay (codes "bytes") 4294967295 replay_entered (options_are _ _ (λ e. cc) (λ e. cc) (λ e. refl)) refl
 
 pub seed_number : GivesNumber (codes "make") (codes "seed") 18446744073709551615
-seed_number = made_number (codes "seed") (wide_reader 18446744073709551615) _ (wide_up_to _) (arguments_are _ _ (λ e. refl) (λ e. cc)) refl
+seed_number = argument_number (codes "make") built_make (codes "seed") (wide_reader 18446744073709551615) _ make_entered (wide_up_to _) (arguments_are _ _ (λ e. refl) (λ e. cc)) refl
 
 pub count_number : GivesNumber (codes "make") (codes "count") 1000000
-count_number = made_number (codes "count") (reader 1000000) _ (up_to _) (arguments_are _ _ (λ e. cc) (λ e. refl)) refl
+count_number = argument_number (codes "make") built_make (codes "count") (reader 1000000) _ make_entered (up_to _) (arguments_are _ _ (λ e. cc) (λ e. refl)) refl
+
+pub check_script_number : GivesNumber (codes "check") (codes "script") 4294967295
+check_script_number = argument_number (codes "check") built_check (codes "script") (reader 4294967295) _ check_entered (up_to _)
+    (check_rules_are _ _ (λ e. refl) (λ e. cc) (λ e. cc) (λ e. refl)) refl
+
+pub check_natives_number : GivesNumber (codes "check") (codes "natives") 1000000
+check_natives_number = option_number (codes "check") built_check (codes "natives") 1000000 check_entered
+    (check_rules_are _ _ (λ e. cc) (λ e. refl) (λ e. refl) (λ e. cc)) refl
+
+pub check_scripts_number : GivesNumber (codes "check") (codes "scripts") 1000000
+check_scripts_number = option_number (codes "check") built_check (codes "scripts") 1000000 check_entered
+    (check_rules_are _ _ (λ e. cc) (λ e. refl) (λ e. refl) (λ e. cc)) refl
+
+pub check_bytes_number : GivesNumber (codes "check") (codes "bytes") 4294967295
+check_bytes_number = option_number (codes "check") built_check (codes "bytes") 4294967295 check_entered
+    (check_rules_are _ _ (λ e. refl) (λ e. cc) (λ e. cc) (λ e. refl)) refl
 
 -- ---- what the getters read of the matches
 
@@ -272,16 +322,27 @@ text_of_rows option entered rows e = grind arith
 same_number : (given : Option Text) (n m : ℕ) → IsNumber given n → IsNumber given m → n ≡ m
 same_number given n m a b = search
 
--- words are not for both subcommands
-not_both : (words : List Text) → IsFor (codes "replay") words → ¬ (IsFor (codes "make") words)
-not_both words replay make = grind (arith, other_name)
+-- words are not for two subcommands
+not_both : (one other : Text) (words : List Text) → bytes_eq one other ≡ false → IsFor one words → ¬ (IsFor other words)
+not_both one other words differ is also = let same : one ≡ other = cc in other_name one other differ same
 
 same_limits : (l m : Allowance) → l.natives ≡ m.natives → l.scripts ≡ m.scripts → l.bytes ≡ m.bytes → l ≡ m
 same_limits l m natives scripts bytes = grind arith
 
 -- what the words ask for is one thing alone
 pub one_request : (words : List Text) (a b : Request) → GivesRequest words a → GivesRequest words b → a ≡ b
-one_request words a b g h = grind (arith, same_limits, same_number, not_both)
+one_request words (Replay l) (Replay m) g h =
+    ap Replay (same_limits l m (same_number _ _ _ g.natives h.natives) (same_number _ _ _ g.scripts h.scripts) (same_number _ _ _ g.bytes h.bytes))
+one_request words (Make s n) (Make t m) g h = ap₂ Make (same_number _ _ _ g.seed_is h.seed_is) (same_number _ _ _ g.count_is h.count_is)
+one_request words (Check s l) (Check t m) g h =
+    ap₂ Check (same_number _ _ _ g.script_is h.script_is)
+    (same_limits l m (same_number _ _ _ g.natives h.natives) (same_number _ _ _ g.scripts h.scripts) (same_number _ _ _ g.bytes h.bytes))
+one_request words (Replay l) (Make t m) g h = absurd (not_both (codes "replay") (codes "make") words refl g.subcommand h.subcommand)
+one_request words (Replay l) (Check t m) g h = absurd (not_both (codes "replay") (codes "check") words refl g.subcommand h.subcommand)
+one_request words (Make s n) (Replay m) g h = absurd (not_both (codes "make") (codes "replay") words refl g.subcommand h.subcommand)
+one_request words (Make s n) (Check t m) g h = absurd (not_both (codes "make") (codes "check") words refl g.subcommand h.subcommand)
+one_request words (Check s l) (Replay m) g h = absurd (not_both (codes "check") (codes "replay") words refl g.subcommand h.subcommand)
+one_request words (Check s l) (Make t m) g h = absurd (not_both (codes "check") (codes "make") words refl g.subcommand h.subcommand)
 
 -- the name of the subcommand stands beside its rows
 name_of_rows : {Z : Type 0} (o : Option (Box SubCommand Z)) → option_map (λ b. (out-SubCommand (box_value b)).name.now) o ≡ option_map (λ p. p.0) (subcommand_rows o)

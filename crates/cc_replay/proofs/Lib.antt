@@ -5,6 +5,7 @@ pub mod Causes
 pub mod Endings
 pub mod FaultFree
 pub mod GivenWords
+pub mod Judging
 pub mod MadeEnds
 pub mod MadeRuns
 pub mod OptionRows

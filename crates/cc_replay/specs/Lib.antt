@@ -2,4 +2,5 @@ pub mod Answered
 pub mod Answering
 pub mod Transcripts
 pub mod Summaries
+pub mod Verdicts
 pub mod Words

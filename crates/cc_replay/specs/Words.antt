@@ -9,7 +9,7 @@ use Rattle.clap.specs.declared.builder.value_parser.ValueParser.{ValueParser}
 use Rattle.clap.specs.declared.builder.value_parser.ValueParser.TheVariants as parser
 use Rattle.cc_names.specs.Allowance.{Allowance}
 use Rattle.cc_replay.specs.declared.words.Request.{Request}
-use Rattle.cc_replay.specs.declared.words.Request.TheVariants.{Replay, Make}
+use Rattle.cc_replay.specs.declared.words.Request.TheVariants.{Replay, Make, Check}
 
 -- the reader of a whole number from 0 to `most`
 abbrev pub number_up_to : ℕ → ValueParser
@@ -68,9 +68,17 @@ count_argument = number_argument (codes "count") (number_up_to 1000000)
 abbrev pub make_app : App
 make_app = with_rule (with_rule (new_app (codes "make")) seed_argument) count_argument
 
+-- how many bytes of the source are a script
+abbrev pub script_argument : Rule
+script_argument = number_argument (codes "script") (number_up_to 4294967295)
+
+-- the subcommand `check`, with its argument and the three options of `replay`
+abbrev pub check_app : App
+check_app = with_rule (with_rule (with_rule (with_rule (new_app (codes "check")) script_argument) natives_option) scripts_option) bytes_option
+
 -- the program `ccreplay`, as far as it names its subcommands
 abbrev pub optional_app : App
-optional_app = with_subcommand (with_subcommand (new_app (codes "ccreplay")) replay_app.top) make_app.top
+optional_app = with_subcommand (with_subcommand (with_subcommand (new_app (codes "ccreplay")) replay_app.top) make_app.top) check_app.top
 
 -- a subcommand is required, and there is no help: a wish for it is a faulty command line
 abbrev pub without_help : Shape → Shape
@@ -100,6 +108,10 @@ pub record IsNumber (given : Option Text) (n : ℕ) : Type 0 where
   pub numeral : IsNumeral 10 (without_leading_plus text)
   pub value : n ≡ digits_value 10 (without_leading_plus text)
 
+-- it is such a number, and at most `most`
+abbrev pub HasNumberUpTo : ℕ → Option Text → Type 0
+HasNumberUpTo most given = (n : ℕ) × IsNumber given n × (n ≤ most)
+
 -- the texts of the words that are handed in
 abbrev pub texts : List (Bor Text) → List Text
 texts words = map (λ w. w.now) words
@@ -118,7 +130,20 @@ pub record GivesMade (words : List Text) (seed count : ℕ) : Type 0 where
   pub count_is : IsNumber (text_for (codes "count") words) count
   pub within : count ≤ 1000000
 
+-- the words are for `check`, and give this many bytes of script and these limits
+pub record GivesCheck (words : List Text) (script : ℕ) (limits : Allowance) : Type 0 where
+  pub subcommand : IsFor (codes "check") words
+  pub script_is : IsNumber (text_for (codes "script") words) script
+  pub natives : IsNumber (text_for (codes "natives") words) limits.natives
+  pub scripts : IsNumber (text_for (codes "scripts") words) limits.scripts
+  pub bytes : IsNumber (text_for (codes "bytes") words) limits.bytes
+
+-- the words are for `check`
+abbrev pub AreForCheck : List Text → Type 0
+AreForCheck words = IsFor (codes "check") words
+
 -- the words ask for this
 abbrev pub GivesRequest : List Text → Request → Type 0
 GivesRequest words (Replay limits) = GivesLimits words limits
 GivesRequest words (Make seed count) = GivesMade words seed count
+GivesRequest words (Check script limits) = GivesCheck words script limits

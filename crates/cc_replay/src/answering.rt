@@ -269,7 +269,7 @@ fn answer_all<S: Source, N: Reports>(
     ensures broken { result ≡ Status.WriteFault → (N.telling out.new).broken ≡ true }
     ensures unwritten { result ≡ Status.WriteFault → Rose (N.telling out.old).faults (N.telling out.new).faults }
     ensures once { result ≡ Status.WriteFault → (N.telling out.new).faults ≡ raised (N.telling out.old).faults 1 }
-    ensures others { (result ≢ Status.Usage) × (result ≢ Status.NoMemory) }
+    ensures others { (result ≢ Status.Usage) × (result ≢ Status.NoMemory) × (result ≢ Status.Unlawful) }
     ensures source { lines.new.source.ghost_name ≡ lines.old.source.ghost_name }
     ensures sink { (N.telling out.new).sink ≡ (N.telling out.old).sink }
 {
@@ -322,7 +322,7 @@ pub(crate) fn answer_input<S: Source, N: Reports>(
     ensures done_always { (bytes : List ℕ) → S.left lines.old.source.now ≡ Some bytes → length bytes ≤ heaps.old.heap.limits.bytes →
         ¬ (Rose (S.faults lines.old.source.now) (S.faults lines.new.source.now)) → ¬ (Rose (N.telling out.old).faults (N.telling out.new).faults) →
         result ≡ Status.Done }
-    ensures others { (result ≢ Status.Usage) × (result ≢ Status.NoMemory) }
+    ensures others { (result ≢ Status.Usage) × (result ≢ Status.NoMemory) × (result ≢ Status.Unlawful) }
     ensures source { lines.new.source.ghost_name ≡ lines.old.source.ghost_name }
     ensures sink { (N.telling out.new).sink ≡ (N.telling out.old).sink }
 {

@@ -46,7 +46,7 @@ pub fn make<K: Sink>(alloc: Global, seed: u64, count: u32, sink: &mut K) -> Stat
     ensures done { result ≡ Status.Done → WritesSummary seed count (K.written sink.old) (K.written sink.new) }
     ensures front { result ≡ Status.WriteFault → WritesSummaryFront seed count (K.written sink.old) (K.written sink.new) }
     ensures set_up { result ≡ Status.NoMemory → sink.new ≡ sink.old }
-    ensures others { (result ≢ Status.Usage) × (result ≢ Status.ReadFault) × (result ≢ Status.Limit) }
+    ensures others { (result ≢ Status.Usage) × (result ≢ Status.ReadFault) × (result ≢ Status.Limit) × (result ≢ Status.Unlawful) }
 
     // A fault has its cause,
     ensures write { result ≡ Status.WriteFault → Rose (K.faults sink.old) (K.faults sink.new) }

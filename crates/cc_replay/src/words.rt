@@ -1,7 +1,7 @@
 //! The words of the command line.
-ghost use Rattle.std.specs.Prelude.{◌≡◌, ℕ, ◌≤◌, IfOk, OnOk, Err, false};
+ghost use Rattle.std.specs.Prelude.{◌≡◌, ℕ, ◌≤◌, codes, IfOk, OnOk, Err, false};
 ghost use Rattle.clap.specs.Words.{app_of, found_of, one_text, rule_of, subcommand_of, subcommand_rows_of};
-ghost use Rattle.cc_replay.specs.Words.{app, make_app, optional_app, replay_app, bytes_option, count_argument, named_option, natives_option, number_argument, number_option, number_up_to, required_argument, scripts_option, seed_argument, texts, GivesRequest, IsNumber, IsTaken};
+ghost use Rattle.cc_replay.specs.Words.{app, check_app, make_app, optional_app, replay_app, bytes_option, count_argument, named_option, natives_option, number_argument, number_option, number_up_to, required_argument, script_argument, scripts_option, seed_argument, texts, GivesRequest, HasNumberUpTo, IsNumber, IsTaken};
 
 use cc_names::Limits;
 use clap::builder::ValueParser;
@@ -20,6 +20,13 @@ pub(crate) enum Request {
         seed: u64,
         /// How many lines of it are drawn, 0 to 1000000.
         count: u32,
+    },
+    /// `check`: the verdict on the source, a script and then a transcript of it.
+    Check {
+        /// How many bytes of the source are the script, at most.
+        script: u32,
+        /// The limits of the run that the transcript is of, and on all bytes that are read.
+        limits: Limits,
     },
 }
 
@@ -132,15 +139,36 @@ fn make_command<'a>(alloc: Global) -> Result<Command<'a>, AllocError>
         .arg(count_argument(alloc))
 }
 
+/// How many bytes of the source are a script.
+fn script_argument<'a>(alloc: Global) -> Arg<'a>
+    ensures rule { rule_of result ≡ script_argument }
+    ensures local { result.global ≡ false }
+{
+    number_argument(alloc, "script", number_up_to(u32::MAX))
+}
+
+/// The subcommand `check`, with its argument and the three options of `replay`.
+fn check_command<'a>(alloc: Global) -> Result<Command<'a>, AllocError>
+    ensures { IfOk result (λ c. app_of c ≡ check_app) }
+{
+    Command::new(alloc, "check")
+        .arg(script_argument(alloc))?
+        .arg(natives_option(alloc))?
+        .arg(scripts_option(alloc))?
+        .arg(bytes_option(alloc))
+}
+
 /// The program `ccreplay`, as far as it names its subcommands.
 fn optional_command<'a>(alloc: Global) -> Result<Command<'a>, AllocError>
     ensures { IfOk result (λ c. app_of c ≡ optional_app) }
 {
     let replay = replay_command(alloc)?;
     let make = make_command(alloc)?;
+    let check = check_command(alloc)?;
     Command::new(alloc, "ccreplay")
         .subcommand(replay)?
-        .subcommand(make)
+        .subcommand(make)?
+        .subcommand(check)
 }
 
 /// The program `ccreplay`: a subcommand is required, and there is no help.
@@ -176,7 +204,7 @@ fn matches_of<'a>(alloc: Global, words: &'a [&'a str]) -> Result<ArgMatches<'a>,
 
 /// The number that the subcommand has for an option or an argument. There must be one, of 32 bits.
 fn number_of(named: &ArgMatches<'_>, name: &str) -> u32
-    requires given { (n : ℕ) × IsNumber (one_text (found_of named.now) name.now) n × (n ≤ 4294967295) }
+    requires given { HasNumberUpTo 4294967295 (one_text (found_of named.now) name.now) }
     ensures { IsNumber (one_text (found_of named.now) name.now) result }
 {
     named.get_one::<u32>(name).unwrap()
@@ -184,10 +212,25 @@ fn number_of(named: &ArgMatches<'_>, name: &str) -> u32
 
 /// The number that the subcommand has for an argument. There must be one, of 64 bits.
 fn wide_number_of(named: &ArgMatches<'_>, name: &str) -> u64
-    requires given { (n : ℕ) × IsNumber (one_text (found_of named.now) name.now) n × (n ≤ 18446744073709551615) }
+    requires given { HasNumberUpTo 18446744073709551615 (one_text (found_of named.now) name.now) }
     ensures { IsNumber (one_text (found_of named.now) name.now) result }
 {
     named.get_one::<u64>(name).unwrap()
+}
+
+/// The limits that the subcommand has for the three options. There must be a number in its range for each.
+fn limits_of(named: &ArgMatches<'_>) -> Limits
+    requires natives { HasNumberUpTo 1000000 (one_text (found_of named.now) (codes "natives")) }
+    requires scripts { HasNumberUpTo 1000000 (one_text (found_of named.now) (codes "scripts")) }
+    requires bytes { HasNumberUpTo 4294967295 (one_text (found_of named.now) (codes "bytes")) }
+    ensures natives { IsNumber (one_text (found_of named.now) (codes "natives")) result.natives }
+    ensures scripts { IsNumber (one_text (found_of named.now) (codes "scripts")) result.scripts }
+    ensures bytes { IsNumber (one_text (found_of named.now) (codes "bytes")) result.bytes }
+{
+    let natives = number_of(named, "natives");
+    let scripts = number_of(named, "scripts");
+    let bytes = number_of(named, "bytes");
+    Limits::new(natives, scripts, bytes)
 }
 
 /// What the words ask for. The program's name is the first word.
@@ -205,9 +248,11 @@ pub(crate) fn request_of<'a>(alloc: Global, words: &'a [&'a str]) -> Result<Requ
         let count = number_of(make, "count");
         return Ok(Request::Make { seed, count });
     }
+    if let Some(check) = matches.subcommand_matches("check") {
+        let script = number_of(check, "script");
+        let limits = limits_of(check);
+        return Ok(Request::Check { script, limits });
+    }
     let replay = matches.subcommand_matches("replay").unwrap();
-    let natives = number_of(replay, "natives");
-    let scripts = number_of(replay, "scripts");
-    let bytes = number_of(replay, "bytes");
-    Ok(Request::Replay(Limits::new(natives, scripts, bytes)))
+    Ok(Request::Replay(limits_of(replay)))
 }

@@ -1,5 +1,6 @@
 //! `ccreplay` drives the cycle collector from a script of commands on standard input, one reply a command on
-//! standard output; or from a made script, with a summary of the replies on standard output.
+//! standard output; or from a made script, with a summary of the replies on standard output; or it says whether a script
+//! and a transcript of it on standard input are lawful.
 //!
 //! All of it is `cc_replay::run`, whose contract says what is written. This file hands it the words of the command
 //! line and the standard streams, says on standard error why a run was not done, and ends with the run's status.
@@ -33,7 +34,8 @@ fn words(rt: &HostRuntime) -> Result<Vec<String>, Status> {
     Ok(words)
 }
 
-/// Does what the words say: replays the script of standard input, or a made one, to standard output.
+/// Does what the words say: replays the script of standard input, or a made one, to standard output, or checks a
+/// transcript of standard input.
 fn replay(rt: &HostRuntime, words: &Vec<String>) -> Status {
     let Ok(words) = words
         .iter()
@@ -50,7 +52,7 @@ fn replay(rt: &HostRuntime, words: &Vec<String>) -> Status {
 /// The line on standard error for a run that was not done.
 fn complaint(status: Status) -> Option<&'static str> {
     match status {
-        Status::Done => None,
+        Status::Done | Status::Unlawful => None,
         Status::Usage => Some("ccreplay: bad command line"),
         Status::ReadFault => Some("ccreplay: read failed"),
         Status::WriteFault => Some("ccreplay: write failed"),

@@ -35,18 +35,18 @@ returns-clause-front g c = λ status.
 
 pub returns-clause-reads : goal.returns-clause-reads
 returns-clause-reads g c = reads-within c.answer_all.result c.args.heaps.now.heap.limits _ (returns-clause-done g c) (returns-clause-fault g c) (returns-clause-over g c)
-    (returns-clause-front g c) c.answer_all.ensures.others.0 c.answer_all.ensures.others.1
+    (returns-clause-front g c) c.answer_all.ensures.others.0 c.answer_all.ensures.others.1 c.answer_all.ensures.others.2
 
 pub returns-clause-end_unread : goal.returns-clause-end_unread
 returns-clause-end_unread g c = end-unread c.answer_all.result c.args.heaps.now.heap.limits _ (returns-clause-fault g c) (returns-clause-over g c)
-    c.answer_all.ensures.others.0 c.answer_all.ensures.others.1
+    c.answer_all.ensures.others.0 c.answer_all.ensures.others.1 c.answer_all.ensures.others.2
 
 pub returns-clause-over_always : goal.returns-clause-over_always
 returns-clause-over_always g c = λ bytes known above read_well written_well.
     over-answered c.answer_all.result c.args.heaps.now.heap.limits _ bytes _ _ c.answer_all.ensures.read c.answer_all.ensures.unwritten (returns-clause-done g c)
-    c.answer_all.ensures.others.0 c.answer_all.ensures.others.1 known above read_well written_well
+    c.answer_all.ensures.others.0 c.answer_all.ensures.others.1 c.answer_all.ensures.others.2 known above read_well written_well
 
 pub returns-clause-done_always : goal.returns-clause-done_always
 returns-clause-done_always g c = λ bytes known within read_well written_well.
     done-answered c.answer_all.result c.args.heaps.now.heap.limits _ bytes _ _ c.answer_all.ensures.read c.answer_all.ensures.unwritten (returns-clause-over g c)
-    c.answer_all.ensures.others.0 c.answer_all.ensures.others.1 known within read_well written_well
+    c.answer_all.ensures.others.0 c.answer_all.ensures.others.1 c.answer_all.ensures.others.2 known within read_well written_well
