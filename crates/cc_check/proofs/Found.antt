@@ -1,14 +1,12 @@
 -- WHAT WAS FOUND is what the registers reach.
 use Rattle.std.proofs.Common.{◌≡◌, Bool, true, false, not, List, ◌∙◌, ap, sym, refl, subst, ⊎_elim}
 use Rattle.std.specs.List.{filter}
-use Rattle.std.specs.Prelude.{IsTrue}
 use Rattle.cc_lists.specs.Members.{Among, has}
 use Rattle.cc_lists.proofs.Members.{Among-append, Among-filter, Among-filtered, Among-left, Among-right, has-among, has-there}
 use Rattle.cc_names.specs.declared.name.Name.{Name}
 use Rattle.cc_names.specs.Names.{same_name, is_native, is_script}
 use Rattle.cc_names.proofs.NameTests.{same_name-exact}
-use Rattle.cc_model.specs.Answers.{Step}
-use Rattle.cc_model.specs.Derivations.{leads_made, named}
+use Rattle.cc_model.specs.Derivations.{named}
 use Rattle.cc_model.specs.Graph.{Graph}
 use Rattle.cc_model.specs.Listed.{census_order}
 use Rattle.cc_model.specs.Quiet.{ListsReached}

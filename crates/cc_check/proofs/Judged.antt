@@ -1,5 +1,5 @@
 -- LINES ARE JUDGED by the laws of each step.
-use Rattle.std.proofs.Common.{arith, ◌≡◌, ◌≢◌, ◌==◌, ℕ, zero, suc, ◌<◌, Bool, true, false, List, [], ◌∷◌, length, vec_len, Vec, Global, refl, sym, ◌∙◌, ap, subst}
+use Rattle.std.proofs.Common.{arith, ◌≡◌, ◌≢◌, ◌==◌, ℕ, ◌<◌, Bool, true, false, List, [], ◌∷◌, length, vec_len, Vec, Global, refl, sym, ◌∙◌, ap, subst}
 use Rattle.std.proofs.lemmas.Bool.{eqb-true, eqb-false}
 use Rattle.cc_model.specs.declared.item.Item.{Item}
 use Rattle.std.specs.Prelude.{◌↔◌, Result, Ok, Err, IfOk}
@@ -9,7 +9,7 @@ use Rattle.cc_verdict.specs.Positions.{Position, GoesOn, reciting}
 use Rattle.cc_check.specs.declared.heard.Heard.{Heard}
 use Rattle.cc_check.specs.declared.judge.Judge.{Judge}
 use Rattle.cc_check.specs.Judging.{IsBetween, IsJudged}
-use Rattle.cc_check.specs.Standing.{IsHeard, IsKept, place_of, position_of}
+use Rattle.cc_check.specs.Standing.{IsHeard, place_of, position_of}
 use Rattle.cc_check.proofs.Passing.{stands}
 
 -- what holds where a call is right, holds by what follows

@@ -1,7 +1,7 @@
 -- A JUDGE IS KEPT where a command is done, an event comes, and an answer ends.
-use Rattle.std.proofs.Common.{arith, ◌≡◌, ℕ, ◌≤◌, Bool, true, false, List, [], ◌∷◌, ◌++◌, Option, Some, None, refl, sym, ◌∙◌, ap, subst, inl, inr, ◌⊎◌, ⊎_elim}
+use Rattle.std.proofs.Common.{◌≡◌, ◌≤◌, Bool, true, false, List, [], ◌∷◌, ◌++◌, Some, None, refl, sym, ◌∙◌, ap, subst, inl, inr, ◌⊎◌, ⊎_elim}
 use Rattle.std.specs.Prelude.{IsTrue}
-use Rattle.std.proofs.lemmas.Bool.{cases_Bool, true≢false, false≢true}
+use Rattle.std.proofs.lemmas.Bool.{cases_Bool, true≢false}
 use Rattle.cc_lists.specs.Members.{Among, has, with_last}
 use Rattle.cc_lists.proofs.Members.{Among-append, Among-filtered, has-among, has-there}
 use Rattle.cc_names.specs.Allowance.{Allowance}
@@ -13,13 +13,13 @@ use Rattle.cc_model.specs.declared.command.Command.TheVariants.{Native, Script, 
 use Rattle.cc_model.specs.declared.item.Event.{Event}
 use Rattle.cc_model.specs.declared.item.Event.TheVariants.{Unlinked, Freed, Abandoned}
 use Rattle.cc_model.specs.declared.item.Reply.{Reply}
-use Rattle.cc_model.specs.declared.item.Reply.TheVariants.{Named, Nothing, Done, Census, Refused}
+use Rattle.cc_model.specs.declared.item.Reply.TheVariants.{Named, Refused}
 use Rattle.cc_model.specs.Graph.{Graph, reply_to, step}
 use Rattle.cc_model.specs.Listed.{after_event, after_reply}
 use Rattle.cc_model.specs.Ranges.{in_range}
 use Rattle.cc_model.specs.WellMade.{IsWellMade, was_made}
 use Rattle.cc_laws_heap.proofs.Face.{step-well}
-use Rattle.cc_verdict.specs.Hearing.{EndsAbandoned, EndsAsTheGraph, Hearing, MayEnd, Told}
+use Rattle.cc_verdict.specs.Hearing.{EndsAbandoned, EndsAsTheGraph, Hearing, MayEnd}
 use Rattle.cc_check.specs.declared.answer.Answer.{Answer}
 use Rattle.cc_check.specs.declared.judge.Judge.{Judge}
 use Rattle.cc_check.specs.Judging.{IsBetween}

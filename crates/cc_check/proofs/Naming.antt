@@ -1,5 +1,5 @@
 -- WHAT A REPLY NAMES was made where a census lists it; what the command made was not made before. Numbers of what was made are small.
-use Rattle.std.proofs.Common.{arith, ◌≡◌, ℕ, suc, zero, ◌+◌, ◌≤◌, Bool, true, false, List, [], ◌∷◌, ◌++◌, length, Option, Some, None, is_some, option_map, refl, sym, ◌∙◌, ap, subst, add-one}
+use Rattle.std.proofs.Common.{arith, ◌≡◌, ℕ, suc, zero, ◌+◌, ◌≤◌, true, false, List, [], ◌∷◌, ◌++◌, length, Option, Some, None, is_some, option_map, refl, sym, ◌∙◌, ap, subst}
 use Rattle.std.specs.Prelude.{IsTrue}
 use Rattle.std.specs.Option.{option_and_then}
 use Rattle.std.proofs.lemmas.Bool.{and_parts, false≢true}
@@ -11,12 +11,11 @@ use Rattle.cc_names.specs.Names.{native, object, reflector, number_of, is_native
 use Rattle.cc_model.specs.declared.command.Command.{Command}
 use Rattle.cc_model.specs.declared.command.Command.TheVariants.{Native, Script, WeakMap, Proxy, Wrap}
 use Rattle.cc_model.specs.declared.item.Refusal.{Refusal}
-use Rattle.cc_model.specs.declared.item.Reply.{Reply}
 use Rattle.cc_model.specs.declared.item.Reply.TheVariants.{Named, Refused}
 use Rattle.cc_model.specs.Slots.{empty_slots}
 use Rattle.cc_model.specs.Checks.{lacks_object, reflector_of, named_or_nothing, refusal_of, refused_or, reply_if_taken}
-use Rattle.cc_model.specs.Graph.{Graph, GraphNative, GraphScript, plain_object, weak_map, proxy, numbered, native_in, objects_of, register, set_native, preserve, wrapped, as_wrapped, as_preserved, with_native, with_script, with_proxy, changed, unless_refused, step, reply_to}
-use Rattle.cc_model.specs.WellMade.{IsWellMade, was_made, is_made_native}
+use Rattle.cc_model.specs.Graph.{Graph, GraphNative, plain_object, weak_map, proxy, numbered, native_in, objects_of, register, set_native, preserve, wrapped, as_wrapped, as_preserved, with_native, with_script, with_proxy, changed, unless_refused, step, reply_to}
+use Rattle.cc_model.specs.WellMade.{IsWellMade, was_made}
 use Rattle.cc_laws_heap.proofs.Face.{IsTaken, IsTaken-from, OfSome, MadeNative, change_numbered, is_some-found, native_register-made, numbered-change, numbered-next, numbered-push, set_native-is}
 use Rattle.cc_check.specs.Standing.{lists, makes}
 

@@ -1,5 +1,5 @@
 -- WHAT A STEP OF THE GRAPH KEEPS: its limits, and all that was made.
-use Rattle.std.proofs.Common.{arith, ◌≡◌, ℕ, ◌+◌, true, List, [], ◌∷◌, ◌++◌, Option, Some, None, is_some, option_map, refl, sym, ◌∙◌, ap, subst, ⊎_elim, false}
+use Rattle.std.proofs.Common.{◌≡◌, ℕ, true, List, [], ◌∷◌, ◌++◌, Option, Some, None, is_some, option_map, refl, sym, ◌∙◌, ap, subst, ⊎_elim, false}
 use Rattle.std.specs.Prelude.{IsTrue}
 use Rattle.std.specs.Option.{option_and_then}
 use Rattle.std.proofs.lemmas.Bool.{false≢true}
@@ -10,11 +10,11 @@ use Rattle.cc_names.specs.declared.register.Reg.TheVariants.{N, S}
 use Rattle.cc_model.specs.declared.command.Command.{Command}
 use Rattle.cc_model.specs.declared.command.Command.TheVariants.{Native, Script, WeakMap, Proxy, CopyNative, CopyScript, Drop, Set, Get, Move, Put, Take, Wrap, Unwrap, Preserve, SetEntry, GetEntry, Slice, Collect, Gc, Why, Census}
 use Rattle.cc_model.specs.declared.item.Refusal.{Refusal}
-use Rattle.cc_model.specs.Slots.{Slots, empty_slots}
+use Rattle.cc_model.specs.Slots.{empty_slots}
 use Rattle.cc_model.specs.Checks.{slot_at, value_at, native_of, reflector_of, refusal_of}
-use Rattle.cc_model.specs.Graph.{Graph, GraphNative, GraphScript, plain_object, weak_map, proxy, numbered, native_in, script_in, objects_of, register, source, set_register, set_native, set_script, set_slot, move_slot, preserve, wrapped, set_entry, as_preserved, as_wrapped, with_slot, with_reflector_slot, with_script_slot, with_native, with_script, with_proxy, changed, unless_refused, step}
+use Rattle.cc_model.specs.Graph.{Graph, GraphNative, GraphScript, plain_object, weak_map, proxy, numbered, native_in, script_in, objects_of, register, source, set_register, set_native, set_script, set_slot, preserve, wrapped, set_entry, as_preserved, as_wrapped, with_slot, with_reflector_slot, with_script_slot, with_native, with_script, with_proxy, changed, unless_refused, step}
 use Rattle.cc_model.specs.WellMade.{was_made}
-use Rattle.cc_laws_heap.proofs.Face.{Grows-change_native, KeepsReflector-slot, change_numbered, is_some-found, numbered-change, numbered-change_other, numbered-push_old, set_native-is, set_script-is}
+use Rattle.cc_laws_heap.proofs.Face.{Grows-change_native, KeepsReflector-slot, change_numbered, is_some-found, numbered-change, numbered-change_other, numbered-push_old, set_script-is}
 use Rattle.std.proofs.lemmas.Bool.Decides.{eqb_tells}
 
 -- the limits are the same, and all that was made is

@@ -1,5 +1,5 @@
 -- WHAT HOLDS OF ALL MEMBERS OF A LIST, tried one after the other.
-use Rattle.std.proofs.Common.{arith, ◌≡◌, ℕ, zero, suc, ◌+◌, ◌<◌, ◌≤◌, List, [], ◌∷◌, length, Some, refl, subst, inl, inr, ⊎_elim, below_more, slice_get}
+use Rattle.std.proofs.Common.{arith, ◌≡◌, ℕ, zero, suc, ◌+◌, ◌<◌, ◌≤◌, List, [], ◌∷◌, length, Some, subst, inl, inr, ⊎_elim, below_more, slice_get}
 use Rattle.std.proofs.lemmas.Option.{slice_get_within}
 use Rattle.cc_lists.specs.Members.{Among}
 

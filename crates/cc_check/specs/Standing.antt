@@ -1,5 +1,5 @@
 -- WHAT THE CHECKER'S VALUES MEAN: the asks that are left, a line, an answer so far, and where the check stands.
-use Rattle.std.specs.Prelude.{◌≡◌, ℕ, ◌≤◌, ◌<◌, Bool, true, false, IsTrue, List, [], ◌∷◌, ◌++◌, length, reverse, map, Option, Some, None}
+use Rattle.std.specs.Prelude.{◌≡◌, ℕ, ◌≤◌, ◌<◌, Bool, true, false, IsTrue, List, [], length, reverse, Option, Some, None}
 use Rattle.cc_lists.specs.Members.{Among, has}
 use Rattle.cc_names.specs.declared.name.Name.{Name}
 use Rattle.cc_names.specs.Names.{number_of, same_name}
@@ -7,7 +7,6 @@ use Rattle.cc_model.specs.declared.command.Command.{Command}
 use Rattle.cc_model.specs.declared.command.Command.TheVariants as command
 use Rattle.cc_model.specs.declared.item.Event.{Event}
 use Rattle.cc_model.specs.declared.item.Event.TheVariants.{Unlinked, Freed, Abandoned}
-use Rattle.cc_model.specs.declared.item.Item.{Item}
 use Rattle.cc_model.specs.declared.item.Reply.TheVariants.{Named}
 use Rattle.cc_model.specs.Asks.{Ask, long, bad, taken, asks_from}
 use Rattle.cc_model.specs.Lines.{lines_of}

@@ -1,4 +1,4 @@
-use Rattle.std.proofs.Common.{◌≡◌, refl, ⊎_elim, ◌∙◌, ap, sym}
+use Rattle.std.proofs.Common.{◌≡◌, ⊎_elim, ◌∙◌, ap}
 use Rattle.cc_model.specs.declared.command.Command.{Command}
 use Rattle.cc_model.specs.declared.command.Command.TheVariants.{Slice, Collect, Gc}
 use Rattle.cc_model.specs.Graph.{Graph, step}

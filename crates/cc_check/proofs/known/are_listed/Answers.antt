@@ -1,4 +1,4 @@
-use Rattle.std.proofs.Common.{arith, ◌≡◌, ◌<◌, ◌≤◌, true, false, length, ◌∙◌, sym, refl}
+use Rattle.std.proofs.Common.{arith, ◌≡◌, ◌≤◌, length, ◌∙◌, sym, refl}
 use Rattle.std.proofs.lemmas.Bool.{true≢false, false≢true}
 use Rattle.std.proofs.lemmas.List.{length-map}
 use Rattle.cc_lists.specs.Members.{Among}

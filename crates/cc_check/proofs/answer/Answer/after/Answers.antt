@@ -1,4 +1,4 @@
-use Rattle.std.proofs.Common.{arith, ◌≡◌, ℕ, ◌+◌, ◌≤◌, true, [], ap, sym, ◌∙◌, subst}
+use Rattle.std.proofs.Common.{arith, ◌≡◌, ◌+◌, ◌≤◌, [], subst}
 use Rattle.std.specs.Prelude.{IsTrue}
 use Rattle.std.proofs.lemmas.Bool.{and_parts, leb-true}
 use Rattle.cc_names.specs.declared.name.Name.{Name}
@@ -8,7 +8,7 @@ use Rattle.cc_model.specs.declared.command.Command.TheVariants.{Collect}
 use Rattle.cc_model.specs.declared.item.Event.{Event}
 use Rattle.cc_model.specs.declared.item.Event.TheVariants.{Unlinked}
 use Rattle.cc_model.specs.Lawful.{may_unlink, runs_allowed}
-use Rattle.cc_verdict.specs.Hearing.{Told, may_come, may_go_on, runs_begun, runs_with}
+use Rattle.cc_verdict.specs.Hearing.{Told, may_come, runs_begun, runs_with}
 use Rattle.cc_check.specs.Standing.{told_of}
 use Rattle.cc_check.proofs.answer.Answer.after.Goals as goal
 

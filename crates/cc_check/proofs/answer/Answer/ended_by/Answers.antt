@@ -1,4 +1,4 @@
-use Rattle.std.proofs.Common.{◌≡◌, ℕ, true, false, List, ⊎_elim, inl, inr, ap, sym, ◌∙◌, subst}
+use Rattle.std.proofs.Common.{⊎_elim, inl, inr, ap, sym, ◌∙◌, subst}
 use Rattle.std.proofs.lemmas.Bool.{true≢false}
 use Rattle.cc_model.specs.declared.item.Refusal.TheVariants as refusals
 use Rattle.cc_model.specs.declared.item.Reply.{Reply}

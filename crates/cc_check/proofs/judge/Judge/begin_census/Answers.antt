@@ -1,18 +1,16 @@
-use Rattle.std.proofs.Common.{◌≡◌, ℕ, Bool, true, false, List, [], ◌∷◌, length, Some, reverse, refl, sym, ◌∙◌, ap, subst}
-use Rattle.std.specs.Prelude.{◌↔◌}
+use Rattle.std.proofs.Common.{◌≡◌, ℕ, List, ◌∷◌, length, reverse, sym, ◌∙◌, ap, subst}
 use Rattle.cc_names.specs.declared.name.Name.{Name}
 use Rattle.cc_model.specs.declared.command.Command.TheVariants.{Census}
-use Rattle.cc_model.specs.declared.item.Item.{Item}
 use Rattle.cc_model.specs.declared.item.Reply.TheVariants.{Census as counted}
 use Rattle.cc_model.specs.Answers.{items_of, listing}
-use Rattle.cc_model.specs.Asks.{Ask, taken}
+use Rattle.cc_model.specs.Asks.{taken}
 use Rattle.cc_model.specs.Graph.{Graph}
 use Rattle.cc_model.specs.Lawful.{census_of}
 use Rattle.cc_model.specs.Listed.{census_order}
 use Rattle.cc_model.specs.Quiet.{CensusIsQuiet, nothing_yet}
-use Rattle.cc_verdict.specs.Following.{Follows, Place, Recites, place, place_after}
+use Rattle.cc_verdict.specs.Following.{place, place_after}
 use Rattle.cc_check.specs.Judging.{MayAnswer, MayRecite}
-use Rattle.cc_check.specs.Standing.{place_of, row_meant}
+use Rattle.cc_check.specs.Standing.{place_of}
 use Rattle.cc_check.proofs.Judged.{IsJudged-as, recites-as}
 use Rattle.cc_check.proofs.Stays.{step-census}
 use Rattle.cc_check.proofs.judge.Judge.begin_census.Goals as goal

@@ -1,24 +1,22 @@
-use Rattle.std.proofs.Common.{◌≡◌, ◌≢◌, ℕ, Bool, true, false, List, [], ◌∷◌, Some, reverse, refl, sym, ◌∙◌, ap, subst}
-use Rattle.std.specs.Prelude.{◌↔◌}
+use Rattle.std.proofs.Common.{◌≡◌, ◌≢◌, ℕ, Bool, true, false, List, [], ◌∷◌, Some, reverse, sym, ◌∙◌, ap, subst}
 use Rattle.std.proofs.lemmas.Bool.{true≢false}
 use Rattle.cc_lists.specs.Members.{has}
 use Rattle.cc_names.specs.declared.name.Name.{Name}
 use Rattle.cc_names.specs.Names.{same_name}
 use Rattle.cc_model.specs.declared.command.Command.TheVariants.{Why}
-use Rattle.cc_model.specs.declared.item.Item.{Item}
 use Rattle.cc_model.specs.declared.item.Refusal.TheVariants as refusals
 use Rattle.cc_model.specs.declared.item.Reply.{Reply}
 use Rattle.cc_model.specs.declared.item.Reply.TheVariants as replies
 use Rattle.cc_model.specs.Answers.{Step, explaining, items_of, replying}
-use Rattle.cc_model.specs.Asks.{Ask, taken}
+use Rattle.cc_model.specs.Asks.{taken}
 use Rattle.cc_model.specs.Derivations.{derivation, done_or_nothing, is_led_to, leads_made, named, needed_for, why_of}
 use Rattle.cc_model.specs.Graph.{Graph}
 use Rattle.cc_model.specs.Lawful.{graph_after}
 use Rattle.cc_model.specs.Quiet.{nothing_yet}
 use Rattle.cc_model.specs.Texts.{text_of_reply}
-use Rattle.cc_verdict.specs.Following.{Follows, Place, Recites, place, place_after}
+use Rattle.cc_verdict.specs.Following.{Follows, Place, place, place_after}
 use Rattle.cc_check.specs.Judging.{MayAnswer, MayRecite}
-use Rattle.cc_check.specs.Standing.{place_of, row_meant}
+use Rattle.cc_check.specs.Standing.{place_of}
 use Rattle.cc_check.proofs.Judged.{IsJudged-as, on_between, recites-as}
 use Rattle.cc_check.proofs.Stays.{step-why}
 use Rattle.cc_check.proofs.judge.Judge.begin_reasons.Goals as goal

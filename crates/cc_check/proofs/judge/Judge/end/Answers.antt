@@ -1,4 +1,4 @@
-use Rattle.std.proofs.Common.{◌≡◌, refl}
+use Rattle.std.proofs.Common.{refl}
 use Rattle.cc_check.proofs.Kept.{kept-end}
 use Rattle.cc_check.proofs.judge.Judge.end.Goals as goal
 

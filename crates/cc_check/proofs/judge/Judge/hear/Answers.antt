@@ -1,6 +1,5 @@
-use Rattle.std.proofs.Common.{arith, ◌≡◌, ◌==◌, ℕ, ◌+◌, Bool, true, false, List, [], ◌∷◌, length, vec_len, refl, sym, ◌∙◌, ap, subst}
-use Rattle.std.specs.Prelude.{◌↔◌, IfOk, Ok}
-use Rattle.cc_model.specs.declared.item.Item.{Item}
+use Rattle.std.proofs.Common.{◌≡◌, ℕ, true, false, List, [], ◌∷◌, refl, sym, ◌∙◌, subst}
+use Rattle.std.specs.Prelude.{◌↔◌}
 use Rattle.cc_model.specs.Asks.{Ask}
 use Rattle.cc_verdict.specs.Following.{Follows, Recites, Place}
 use Rattle.cc_verdict.specs.Positions.{GoesOn, reciting}

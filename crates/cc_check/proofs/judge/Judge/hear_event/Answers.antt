@@ -1,4 +1,4 @@
-use Rattle.std.proofs.Common.{◌≡◌, refl}
+use Rattle.std.proofs.Common.{refl}
 use Rattle.cc_check.proofs.Kept.{kept-event}
 use Rattle.cc_check.proofs.judge.Judge.hear_event.Goals as goal
 

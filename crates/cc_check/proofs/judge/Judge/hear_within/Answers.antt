@@ -1,13 +1,11 @@
-use Rattle.std.proofs.Common.{◌≡◌, ℕ, ◌≤◌, true, false, List, ◌∷◌, inl, inr, ⊎_elim, sym, ◌∙◌, ap, subst, arith}
+use Rattle.std.proofs.Common.{◌≡◌, ℕ, List, ◌∷◌, ⊎_elim, sym, subst, arith}
 use Rattle.std.specs.Prelude.{◌↔◌}
 use Rattle.std.proofs.lemmas.Bool.{true≢false, false≢true}
-use Rattle.cc_names.specs.declared.name.Name.{Name}
 use Rattle.cc_model.specs.declared.item.Event.{Event}
 use Rattle.cc_model.specs.declared.item.Event.TheVariants.{Unlinked, Freed, Abandoned}
-use Rattle.cc_model.specs.Texts.{text_of_event, text_of_reply}
-use Rattle.cc_model.specs.Asks.{Ask}
+use Rattle.cc_model.specs.Texts.{text_of_reply}
 use Rattle.cc_verdict.specs.Following.{Follows}
-use Rattle.cc_verdict.specs.Hearing.{Hears, IsOfGarbage, MayCome, MayEnd, place_ended}
+use Rattle.cc_verdict.specs.Hearing.{Hears, IsOfGarbage, MayEnd, place_ended}
 use Rattle.cc_check.specs.declared.judge.Judge.{Judge}
 use Rattle.cc_check.specs.Standing.{IsKept, IsNumberedIn, hearing_in}
 use Rattle.cc_check.proofs.Judged.{between}

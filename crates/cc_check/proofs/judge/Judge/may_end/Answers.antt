@@ -1,13 +1,9 @@
-use Rattle.std.proofs.Common.{arith, ◌≡◌, ℕ, Bool, true, false, not, List, [], ◌∷◌, Option, Some, None, is_some, refl, sym, ◌∙◌, ap, subst}
+use Rattle.std.proofs.Common.{◌≡◌, ℕ, Bool, true, false, not, List, [], ◌∷◌, Option, Some, None, is_some, refl, sym, ◌∙◌, ap, subst}
 use Rattle.std.specs.Prelude.{◌↔◌, IfNone, IfSome, IsTrue}
 use Rattle.std.proofs.lemmas.Bool.{true≢false, false≢true}
-use Rattle.cc_model.specs.declared.item.Item.{Item}
 use Rattle.cc_model.specs.Asks.{Ask}
-use Rattle.cc_verdict.specs.Following.{Follows, Recites, Place}
-use Rattle.cc_verdict.specs.Positions.{GoesOn, reciting}
-use Rattle.cc_check.specs.declared.answer.Answer.{Answer}
+use Rattle.cc_verdict.specs.Following.{Follows, Place}
 use Rattle.cc_check.specs.declared.asked.Asked.{Asked}
-use Rattle.cc_check.specs.declared.judge.Judge.{Judge}
 use Rattle.cc_check.specs.Judging.{asks_nothing, from_next}
 use Rattle.cc_check.specs.Standing.{ask_meant, asks_left, place_of, position_of}
 use Rattle.cc_check.proofs.Judged.{between, nothing_left, something_left}

@@ -1,4 +1,4 @@
-use Rattle.std.proofs.Common.{◌≡◌, true, false, ◌∙◌, sym}
+use Rattle.std.proofs.Common.{◌∙◌, sym}
 use Rattle.std.proofs.lemmas.Bool.{true≢false}
 use Rattle.cc_check.proofs.Found.{exactly-found, exactly-from, exactly-listed}
 use Rattle.cc_check.proofs.known.Known.are_exactly.Goals as goal

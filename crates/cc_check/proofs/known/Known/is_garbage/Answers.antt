@@ -1,13 +1,8 @@
 use Rattle.std.proofs.Common.{◌≡◌, Bool, true, false, not, ◌∙◌, sym, refl}
 use Rattle.std.proofs.lemmas.Bool.{true≢false, false≢true}
 use Rattle.cc_lists.proofs.Members.{has-among, has-there}
-use Rattle.cc_names.specs.declared.name.Name.{Name}
 use Rattle.cc_names.specs.Names.{same_name}
 use Rattle.cc_names.proofs.NameTests.{same_name-exact}
-use Rattle.cc_lists.specs.Members.{has}
-use Rattle.cc_model.specs.Answers.{Step}
-use Rattle.cc_model.specs.Derivations.{named}
-use Rattle.cc_model.specs.Reached.{Reached}
 use Rattle.cc_check.proofs.Found.{found-reached, reached-found}
 use Rattle.cc_check.proofs.known.Known.is_garbage.Goals as goal
 

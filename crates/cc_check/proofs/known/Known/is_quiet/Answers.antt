@@ -1,4 +1,4 @@
-use Rattle.std.proofs.Common.{◌≡◌, sym, subst}
+use Rattle.std.proofs.Common.{sym, subst}
 use Rattle.std.specs.Prelude.{◌↔◌, IfOk, IsTrue}
 use Rattle.cc_model.specs.declared.command.Command.TheVariants.{Census}
 use Rattle.cc_model.specs.Asks.{taken}
