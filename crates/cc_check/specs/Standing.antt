@@ -1,5 +1,5 @@
 -- WHAT THE CHECKER'S VALUES MEAN: the asks that are left, a line, an answer so far, and where the check stands.
-use Rattle.std.specs.Prelude.{◌≡◌, ℕ, ◌≤◌, ◌<◌, Bool, true, false, IsTrue, List, [], ◌∷◌, ◌++◌, length, reverse, map, Option, Some, None}
+use Rattle.std.specs.Prelude.{◌≡◌, ℕ, ◌≤◌, ◌<◌, Bool, true, false, IsTrue, List, [], length, reverse, Option, Some, None}
 use Rattle.cc_lists.specs.Members.{Among, has}
 use Rattle.cc_names.specs.declared.name.Name.{Name}
 use Rattle.cc_names.specs.Names.{number_of, same_name}
@@ -7,7 +7,6 @@ use Rattle.cc_model.specs.declared.command.Command.{Command}
 use Rattle.cc_model.specs.declared.command.Command.TheVariants as command
 use Rattle.cc_model.specs.declared.item.Event.{Event}
 use Rattle.cc_model.specs.declared.item.Event.TheVariants.{Unlinked, Freed, Abandoned}
-use Rattle.cc_model.specs.declared.item.Item.{Item}
 use Rattle.cc_model.specs.declared.item.Reply.TheVariants.{Named}
 use Rattle.cc_model.specs.Asks.{Ask, long, bad, taken, asks_from}
 use Rattle.cc_model.specs.Lines.{lines_of}
@@ -26,6 +25,7 @@ use Rattle.cc_check.specs.declared.heard.Heard.{Heard}
 use Rattle.cc_check.specs.declared.heard.Heard.TheVariants.{Text, Long}
 use Rattle.cc_check.specs.declared.answer.Answer.{Answer}
 use Rattle.cc_check.specs.declared.script.Script.{Script}
+use Rattle.cc_check.specs.declared.known.Known.{Known}
 use Rattle.cc_check.specs.declared.judge.Judge.{Judge}
 
 abbrev pub ask_meant : Asked → Ask
@@ -62,13 +62,27 @@ told_of a names = record { names = names; last = a.last; runs = a.runs; any = a.
 abbrev pub hearing_of : Answer → Graph → List Name → Row → Hearing
 hearing_of a g names row = record { command = a.command; reply = a.reply; graph = g; row = row_meant row; told = told_of a names }
 
+-- between two answers, or within one that is recited, and within one that is heard
+abbrev pub place_of : Judge → Place
+place_of j = place j.graph j.listed (row_meant j.row)
+
+abbrev pub hearing_in : Judge → Answer → Hearing
+hearing_in j a = hearing_of a j.graph j.listed j.row
+
 -- WHERE THE CHECK STANDS
 abbrev pub position_in : Judge → Option Answer → Position
-position_in j None = reciting (reverse j.recital.items) (place j.graph j.listed (row_meant j.row))
-position_in j (Some a) = within (hearing_of a j.graph j.listed j.row)
+position_in j None = reciting (reverse j.recital.items) (place_of j)
+position_in j (Some a) = within (hearing_in j a)
 
 abbrev pub position_of : Judge → Position
 position_of j = position_in j j.answer
+
+-- what is known of the reached objects is of this graph
+abbrev pub IsFoundIn : Known → Graph → Type 0
+IsFoundIn k g = k.reach ≡ derivation (leads_made g)
+
+abbrev pub IsOf : Known → Graph → Type 0
+IsOf k g = k.is_found ≡ true → IsFoundIn k g
 
 -- whether a command makes an object that no census listed before
 abbrev pub makes : Command → Bool
@@ -78,13 +92,19 @@ makes (command.WeakMap d) = true
 makes (command.Proxy d s) = true
 makes _ = false
 
--- what a command makes is not listed yet
-abbrev pub IsNew : List Name → Answer → Type 0
-IsNew names a = (x : Name) → a.reply ≡ Named x → makes a.command ≡ true → has same_name names x ≡ false
+-- whether a census lists what the reply to a command names
+abbrev pub lists : Command → Bool
+lists (command.Wrap d s) = true
+lists c = makes c
+
+-- what the reply names and a census lists, was made; what the command made is not listed yet
+pub record IsNew (g : Graph) (names : List Name) (a : Answer) : Type 0 where
+  pub made : (x : Name) → a.reply ≡ Named x → lists a.command ≡ true → IsTrue (was_made g x)
+  pub unlisted : (x : Name) → a.reply ≡ Named x → makes a.command ≡ true → has same_name names x ≡ false
 
 abbrev pub IsNewIn : Judge → Option Answer → Type 0
 IsNewIn j None = Unit {0}
-IsNewIn j (Some a) = IsNew j.listed a × (j.recital.items ≡ [])
+IsNewIn j (Some a) = IsNew j.graph j.listed a × (j.recital.items ≡ [])
 
 -- WHAT STAYS SO: the graph is well made, what is listed was made, and what is known of the reached is of this graph
 pub record IsKept (j : Judge) : Type 0 where
@@ -92,4 +112,4 @@ pub record IsKept (j : Judge) : Type 0 where
   pub limits : (j.graph.limits.natives ≤ 1000000) × (j.graph.limits.scripts ≤ 1000000)
   pub listed : (x : Name) → Among x j.listed → IsTrue (was_made j.graph x)
   pub new : IsNewIn j j.answer
-  pub known : j.is_reach_known ≡ true → j.reach ≡ derivation (leads_made j.graph)
+  pub known : IsOf j.known j.graph

@@ -1,0 +1,40 @@
+use Rattle.std.proofs.Common.{◌≡◌, ℕ, List, ◌∷◌, length, reverse, sym, ◌∙◌, ap, subst}
+use Rattle.cc_names.specs.declared.name.Name.{Name}
+use Rattle.cc_model.specs.declared.command.Command.TheVariants.{Census}
+use Rattle.cc_model.specs.declared.item.Reply.TheVariants.{Census as counted}
+use Rattle.cc_model.specs.Answers.{items_of, listing}
+use Rattle.cc_model.specs.Asks.{taken}
+use Rattle.cc_model.specs.Graph.{Graph}
+use Rattle.cc_model.specs.Lawful.{census_of}
+use Rattle.cc_model.specs.Listed.{census_order}
+use Rattle.cc_model.specs.Quiet.{CensusIsQuiet, nothing_yet}
+use Rattle.cc_verdict.specs.Following.{place, place_after}
+use Rattle.cc_check.specs.Judging.{MayAnswer, MayRecite}
+use Rattle.cc_check.specs.Standing.{place_of}
+use Rattle.cc_check.proofs.Judged.{IsJudged-as, recites-as}
+use Rattle.cc_check.proofs.Stays.{step-census}
+use Rattle.cc_check.proofs.judge.Judge.begin_census.Goals as goal
+
+pub returns : goal.returns
+returns c =
+    let g = c.args.self.now.graph in
+    let listed = c.args.self.now.listed in
+    let p = place_of c.args.self.now in
+    let after = place_after p (taken Census) (census_of listed) in
+    let now = c.census.new.self in
+    let same : now ≡ listed = c.in_ok-names.ensures.same in
+    let place_is : place g now nothing_yet ≡ after =
+        ap (λ (names : List Name). place g names nothing_yet) same ∙ ap (λ (h : Graph). place h listed nothing_yet) (sym (step-census g)) in
+    let told = items_of (census_of listed) in
+    let count_is : c.in_ok-count.count ≡ length listed = c.in_ok-count.ensures.key ∙ (c.len.ensures ∙ ap (λ (names : List Name). length names) same) in
+    let items_are : reverse c.list.new.recital.items ≡ told = c.in_ok-list.ensures.items
+        ∙ (ap (λ (names : List Name). items_of (listing names (counted c.in_ok-count.count))) c.in_ok-names.ensures.names
+        ∙ ap (λ (n : ℕ). items_of (listing (census_order listed) (counted n))) count_is) in
+    let quiet : CensusIsQuiet p.row p.state (taken Census) =
+        subst (λ (names : List Name). CensusIsQuiet p.row (record { graph = g; listed = names }) (taken Census)) same (c.in_ok-is_quiet.ensures.quiet.0 c.if-not-branch.false) in
+    IsJudged-as c.args.heard (MayRecite (reverse c.list.new.recital.items) (place g now nothing_yet)) (MayAnswer p (taken Census)) c.recite.new.self c.recite.result
+        (λ asks line lines hd.
+            let law = c.exact_answers_are_recited.ensures.census p asks (line ∷ lines) quiet in
+            let as_told = recites-as (reverse c.list.new.recital.items) told (place g now nothing_yet) after asks (line ∷ lines) items_are place_is in
+            ((λ f. as_told.0 (law.0 f)), (λ r. law.1 (as_told.1 r))))
+        c.recite.ensures
