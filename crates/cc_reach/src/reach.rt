@@ -1,5 +1,5 @@
 //! What was found, with the reason of each.
-ghost use Rattle.std.specs.Prelude.{◌≡◌, ◌∷◌, [], IfOk, OnOk};
+ghost use Rattle.std.specs.Prelude.{◌≡◌, ◌∷◌, ◌<◌, [], length, slice_get, Some, IfOk, OnOk};
 ghost use Rattle.cc_lists.specs.Members.{has};
 ghost use Rattle.cc_names.specs.Names.{same_name};
 ghost use Rattle.cc_model.specs.Derivations.{derivation, leads_made, named, needed_for};
@@ -62,6 +62,22 @@ impl Reach {
         ensures { result ≡ has same_name (named self.now) name.now }
     {
         self.found.has(name)
+    }
+
+    /// How many objects were found.
+    pub fn len(&self) -> usize
+        ensures { result ≡ length self.now }
+    {
+        self.found.len()
+    }
+
+    /// The object that was found at a place, counted from 0.
+    pub fn name(&self, i: usize) -> Name
+        requires { i < length self.now }
+        ensures { slice_get (named self.now) i ≡ Some result }
+    {
+        let (name, _) = self.found.step(i);
+        name
     }
 
     /// The steps that lead to an object, each once, itself last; none where it was not found.
