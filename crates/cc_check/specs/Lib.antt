@@ -1,4 +1,5 @@
 pub mod Standing
+pub mod Judging
 pub mod Tried
 pub mod Stops
 pub mod Checked

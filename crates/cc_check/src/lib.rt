@@ -10,14 +10,20 @@
 
 mod answer;
 mod asked;
+mod asking;
+mod beginning;
 mod checking;
+mod commands;
 mod heard;
 mod judge;
+mod known;
 mod lengths;
+mod reciting;
 mod row;
 mod script;
 mod trial;
 mod verdict;
+mod within;
 
 pub use checking::check;
 pub use verdict::{CheckStop, Verdict};
