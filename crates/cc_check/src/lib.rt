@@ -18,6 +18,7 @@ mod heard;
 mod judge;
 mod known;
 mod lengths;
+mod numbers;
 mod reciting;
 mod row;
 mod script;

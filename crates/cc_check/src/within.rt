@@ -15,6 +15,7 @@ use crate::asked::Asked;
 use crate::commands::lists;
 use crate::heard::Heard;
 use crate::judge::Judge;
+use crate::numbers::{events_have_small_numbers, replies_have_small_numbers};
 use cc_listed::Listed;
 use cc_model::{Command, Event, Reply};
 use cc_names::NoMemory;
@@ -34,10 +35,12 @@ impl Judge {
         answers_are_heard_line_by_line();
         answers_are_recited_line_by_line();
         if let Some(event) = heard.event() {
+            events_have_small_numbers(event);
             return self.hear_event(answer, event);
         }
         match answer.ended_by(heard) {
             Some(reply) => {
+                replies_have_small_numbers(reply);
                 self.end(answer, reply)?;
                 Ok(true)
             }
