@@ -2,7 +2,7 @@
 -- through from the first.
 use Rattle.std.specs.Prelude.{slice_get, IfSome}
 use Rattle.std.proofs.Common.{◌≡◌, ℕ, zero, suc, ◌+◌, ◌<◌, ◌≤◌, Bool, true, false, List, [], ◌∷◌, ◌++◌, length, take, Option, Some, None, option_map, refl, sym, ◌∙◌, ap, subst, append_assoc, inl, inr, ⊎_elim, arith}
-use Rattle.std.proofs.lemmas.List.{append-nil, take_more}
+use Rattle.std.proofs.lemmas.List.{take_more}
 use Rattle.std.proofs.lemmas.Option.{get_or_from_slice_get, slice_get_cases}
 use Rattle.cc_lists.specs.Members.{Among}
 use Rattle.cc_lists.proofs.Members.{Among-left, Among-right}
@@ -110,9 +110,6 @@ collecting-turn es x places more before next i is pushed e there h = record {
   there = there;
 }
 
-pub collecting-done : (es : List Entry) (x : Name) (places : List ℕ) (before : Option ℕ) → before ≡ None → IsCollecting es x places before → places ≡ falling es x (length es)
-collecting-done es x places before is h = sym (append-nil places) ∙ (ap (λ o. places ++ falling_from es x o) (sym is) ∙ h.whole)
-
 -- how many places may be left
 abbrev pub places_left : Option ℕ → ℕ
 places_left None = 0
@@ -142,6 +139,3 @@ giving-turn es before places now next target i popped e h = record {
 
 pub giving-place : (es : List Entry) (before places : List ℕ) (now target : Walk) (i : ℕ) → before ≡ places ++ i ∷ [] → IsGiving es before now target → i < length es
 giving-place es before places now target i popped h = h.within i (subst (Among i) (sym popped) (Among-right i places (i ∷ []) (inl refl)))
-
-pub giving-done : (es : List Entry) (before : List ℕ) (now target : Walk) → before ≡ [] → IsGiving es before now target → now ≡ target
-giving-done es before now target none h = ap (λ is. with_places es is now) (sym none) ∙ h.left

@@ -1,16 +1,16 @@
 -- WHAT IS KEPT OF THE STEPS: an object is found exactly where its place is kept, also after one more is found, and after the
 -- last is forgotten.
 use Rattle.std.specs.Prelude.{slice_get, slice_index_or, if◌then◌else◌}
-use Rattle.std.proofs.Common.{◌≡◌, ℕ, zero, suc, ◌+◌, ◌==◌, ◌<◌, ◌≤◌, Bool, true, false, cond, List, [], ◌∷◌, ◌++◌, length, take, drop, Option, Some, None, is_some, refl, sym, ◌∙◌, ap, subst, inl, inr, ◌⊎◌, ⊎_elim, arith, length-append}
+use Rattle.std.proofs.Common.{◌≡◌, ℕ, zero, suc, ◌==◌, ◌<◌, Bool, true, false, cond, List, [], ◌∷◌, ◌++◌, length, Option, Some, None, is_some, refl, sym, ◌∙◌, ap, subst, inl, inr, ◌⊎◌, ⊎_elim, arith, length-append}
 use Rattle.std.proofs.lemmas.Bool.{true≢false, eqb-true, eq-eqb}
 use Rattle.std.proofs.lemmas.List.{take-append-drop, take-append-le, drop-append-le}
-use Rattle.cc_lists.specs.Members.{Among, has}
+use Rattle.cc_lists.specs.Members.{has}
 use Rattle.cc_lists.proofs.CountsOf.{false-left}
 use Rattle.cc_lists.proofs.Members.{Among-map, Among-map_cases, has-among, has-there}
 use Rattle.cc_lists.proofs.Places.{among-place, place-among}
 use Rattle.cc_names.specs.declared.name.Name.{Name}
 use Rattle.cc_names.specs.Names.{same_name}
-use Rattle.cc_names.proofs.NameTests.{same_name-true, same_name-refl, same_name-exact}
+use Rattle.cc_names.proofs.NameTests.{same_name-true, same_name-exact}
 use Rattle.cc_model.specs.declared.item.Reason.{Reason}
 use Rattle.cc_model.specs.Answers.{Step}
 use Rattle.cc_model.specs.Derivations.{Walk, is_found, named, steps_of, with_step}
@@ -77,12 +77,12 @@ pub kept-found : (n : ℕ) (ss : List Step) (table : List (Option ℕ)) (w : Wal
 kept-found n ss table w kept e x =
     place-found n ss table kept x ∙ (ap (λ ts. has same_name (named ts) x) (sym (walk_by-steps n ss)) ∙ ap (λ v. is_found v x) e)
 
--- THE NUMBER OF AN OBJECT is that of the one step with it
-number-of : (n : ℕ) (ss : List Step) (table : List (Option ℕ)) → IsKept n ss table → (x : Name) (o : Option ℕ) → place_of table x ≡ o →
+-- THE PLACE OF AN OBJECT is that of the one step with it
+place-of : (n : ℕ) (ss : List Step) (table : List (Option ℕ)) → IsKept n ss table → (x : Name) (o : Option ℕ) → place_of table x ≡ o →
     (i : ℕ) (s : Step) → slice_get ss i ≡ Some s → same_name x s.0 ≡ is_place o i
-number-of n ss table kept x None e i s at = false-left (same_name x s.0)
+place-of n ss table kept x None e i s at = false-left (same_name x s.0)
     (λ t. let there : place_of table x ≡ Some i = subst (λ y. place_of table y ≡ Some i) (sym (same_name-true x s.0 t)) (kept.there i s at) in absurd (cc))
-number-of n ss table kept x (Some k) e i s at = same-tests (same_name x s.0) (k == i)
+place-of n ss table kept x (Some k) e i s at = same-tests (same_name x s.0) (k == i)
     (λ t.
     let there : place_of table x ≡ Some i = subst (λ y. place_of table y ≡ Some i) (sym (same_name-true x s.0 t)) (kept.there i s at) in
     let same : k ≡ i = cc in
@@ -94,10 +94,10 @@ number-of n ss table kept x (Some k) e i s at = same-tests (same_name x s.0) (k 
     let one : s ≡ (x, f.0) = cc in
     (same_name-exact x s.0).1 (sym (ap (λ (q : Step). q.0) one)))
 
-pub kept-number : (n : ℕ) (ss : List Step) (table : List (Option ℕ)) (w : Walk) → IsKept n ss table → walk_by n ss ≡ w → (x : Name) (o : Option ℕ) → place_of table x ≡ o →
+pub kept-place : (n : ℕ) (ss : List Step) (table : List (Option ℕ)) (w : Walk) → IsKept n ss table → walk_by n ss ≡ w → (x : Name) (o : Option ℕ) → place_of table x ≡ o →
     (i : ℕ) (s : Step) → slice_get (steps_of w) i ≡ Some s → same_name x s.0 ≡ is_place o i
-kept-number n ss table w kept e x o place i s at =
-    number-of n ss table kept x o place i s (subst (λ ts. slice_get ts i ≡ Some s) (sym (ap steps_of e) ∙ walk_by-steps n ss) at)
+kept-place n ss table w kept e x o place i s at =
+    place-of n ss table kept x o place i s (subst (λ ts. slice_get ts i ≡ Some s) (sym (ap steps_of e) ∙ walk_by-steps n ss) at)
 
 pub kept-within : (n : ℕ) (ss : List Step) (table : List (Option ℕ)) (w : Walk) → IsKept n ss table → walk_by n ss ≡ w → (x : Name) (i : ℕ) → place_of table x ≡ Some i →
     i < length (steps_of w)
@@ -183,10 +183,12 @@ kept-popped ss rest old new s popped kept put = record {
     found : (y : Name) (i : ℕ) → place_of new y ≡ Some i → (b : Bool) → same_name s.0 y ≡ b → (q : Reason) × (slice_get rest i ≡ Some (y, q))
     found y i e true t = let none : None ≡ Some i = sym (put-same old new s.0 y None put t) ∙ e in absurd (cc)
     found y i e false t =
-        let f = kept.found y i (sym (put-other old new s.0 y None put t) ∙ e) in
-        (f.0, ⊎_elim (λ a. a) (λ b.
-        absurd (true≢false (sym ((same_name-exact s.0 y).1 (ap (λ (q : Step). q.0) b.1)) ∙ t)))
-        (get-cases rest s i (y, f.0) (sym (whole i) ∙ f.1)))
+        let f = kept.found y i (sym (put-other old new s.0 y None put t) ∙ e) in (
+          f.0,
+          ⊎_elim (λ a. a) (λ b.
+              absurd (true≢false (sym ((same_name-exact s.0 y).1 (ap (λ (q : Step). q.0) b.1)) ∙ t)))
+              (get-cases rest s i (y, f.0) (sym (whole i) ∙ f.1)),
+        )
 
 -- it has a place
 pub popped-place : (ss rest : List Step) (table : List (Option ℕ)) (s : Step) → ss ≡ rest ++ s ∷ [] → IsKept 0 ss table → index_of s.0 < length table

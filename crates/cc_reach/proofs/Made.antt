@@ -1,17 +1,17 @@
 -- IN A GRAPH THAT IS WELL MADE objects lead to objects that were made.
 use Rattle.std.specs.Prelude.{IsTrue}
 use Rattle.std.specs.Option.{option_to_list}
-use Rattle.std.proofs.Common.{arith, ◌≡◌, ℕ, suc, ◌≤◌, Bool, true, false, cond, List, [], ◌∷◌, ◌++◌, length, filter, Option, Some, None, option_map, option_and_then, is_some, refl, sym, ◌∙◌, ap, subst, ⊎_elim}
+use Rattle.std.proofs.Common.{arith, ◌≡◌, ℕ, suc, ◌≤◌, Bool, true, false, cond, List, [], ◌∷◌, length, filter, Option, Some, None, option_map, option_and_then, is_some, refl, ap, subst, ⊎_elim}
 use Rattle.std.proofs.lemmas.Bool.{and_parts}
 use Rattle.cc_lists.specs.Members.{Among}
 use Rattle.cc_lists.proofs.Members.{Among-append, Among-filter, Among-passes}
 use Rattle.cc_names.specs.declared.name.Name.{Name}
 use Rattle.cc_names.specs.declared.name.Name.TheVariants as name
-use Rattle.cc_names.specs.Names.{native, object, reflector, is_native, is_script}
+use Rattle.cc_names.specs.Names.{native, reflector, is_native, is_script}
 use Rattle.cc_names.specs.Places.{script_places, where_set}
 use Rattle.cc_model.specs.Slots.{Slots, contents}
 use Rattle.cc_model.specs.Entries.{Entry, Joint}
-use Rattle.cc_model.specs.Checks.{native_of, slots_or_none}
+use Rattle.cc_model.specs.Checks.{slots_or_none}
 use Rattle.cc_model.specs.Graph.{Graph, GraphNative, GraphScript, plain_object, weak_map, proxy, delegate_of_script, native_in, script_in, slots_of_script}
 use Rattle.cc_model.specs.Places.{places_made, places_of_made_native, places_of_made_reflector, places_of_made_script, places_of_named}
 use Rattle.cc_model.specs.Reached.{names_of}

@@ -1,14 +1,13 @@
 -- TURNS OF THE LOOPS over registers, over places, and over the steps that wait: what is left to be done after each.
 use Rattle.std.specs.Prelude.{slice_index_or, slice_get}
-use Rattle.std.proofs.Common.{◌≡◌, ℕ, zero, suc, ◌+◌, ◌<◌, ◌≤◌, List, [], ◌∷◌, ◌++◌, length, take, drop, Option, Some, None, refl, sym, ◌∙◌, ap, subst, arith, drop-cons}
-use Rattle.std.proofs.lemmas.Option.{get_or_from_slice_get}
+use Rattle.std.proofs.Common.{◌≡◌, ℕ, zero, suc, ◌+◌, ◌<◌, ◌≤◌, List, [], ◌∷◌, ◌++◌, length, take, drop, Option, Some, None, refl, sym, ◌∙◌, ap, arith, drop-cons}
 use Rattle.cc_names.specs.declared.name.Name.{Name}
 use Rattle.cc_names.specs.declared.register.Reg.{Reg}
 use Rattle.cc_model.specs.declared.item.Reason.TheVariants.{Root, Edge}
 use Rattle.cc_model.specs.Answers.{Step}
 use Rattle.cc_model.specs.Slots.{Slots, contents}
 use Rattle.cc_model.specs.Derivations.{Walk, with_bank, with_edges}
-use Rattle.cc_reach.specs.Found.{IsFirstWalked, IsIdle, walk_by, with_content}
+use Rattle.cc_reach.specs.Found.{IsFirstWalked, walk_by, with_content}
 
 -- past the end nothing is left
 pub drop-past : {X : Type 0} (xs : List X) (i : ℕ) → length xs ≤ i → drop i xs ≡ []

@@ -1,16 +1,14 @@
 -- STEPS THAT ARE WANTED: one more of them is, and what is left to be done after each, from the last to the first.
 use Rattle.std.specs.Prelude.{slice_get, slice_index_or, slice_set, reverse}
-use Rattle.std.proofs.Common.{◌≡◌, ℕ, zero, suc, ◌+◌, ◌==◌, ◌<◌, ◌≤◌, Bool, true, false, ◌||◌, List, [], ◌∷◌, ◌++◌, length, take, drop, Option, Some, refl, sym, ◌∙◌, ap, subst, arith, replicate}
+use Rattle.std.proofs.Common.{◌≡◌, ℕ, zero, suc, ◌+◌, ◌==◌, ◌<◌, Bool, true, false, ◌||◌, List, [], ◌∷◌, ◌++◌, length, take, drop, Some, refl, sym, ◌∙◌, ap, arith, replicate}
 use Rattle.std.proofs.lemmas.Bool.{true≢false, eqb-true, eq-eqb}
 use Rattle.std.proofs.lemmas.Grind.{get_or-set_at}
 use Rattle.std.proofs.lemmas.List.{append-nil, get_or-set_other, reverse-append, take_more}
 use Rattle.std.proofs.lemmas.Option.{get_or_from_slice_get}
-use Rattle.cc_lists.specs.Members.{has}
 use Rattle.cc_names.specs.declared.name.Name.{Name}
 use Rattle.cc_names.specs.Names.{same_name}
 use Rattle.cc_model.specs.Answers.{Step}
 use Rattle.cc_model.specs.Derivations.{Needed, grounds, needed_for, with_needed}
-use Rattle.cc_reach.specs.Found.{is_place}
 use Rattle.cc_reach.specs.Needed.{AreWanted}
 use Rattle.cc_reach.proofs.Turns.{drop-past, take-all}
 
@@ -24,7 +22,7 @@ mark-reads marks k i l = go (k == i) refl
 
 pub wanted-found : (ss : List Step) (marks : List Bool) (x : Name) (k : ℕ) (names : List Name) → k < length marks →
     ((i : ℕ) (s : Step) → slice_get ss i ≡ Some s → same_name x s.0 ≡ (k == i)) → AreWanted ss marks names → AreWanted ss (slice_set marks k true) (x ∷ names)
-wanted-found ss marks x k names l number wanted i s at = mark-reads marks k i l ∙ (λ j. sym (number i s at) j || wanted i s at j)
+wanted-found ss marks x k names l place wanted i s at = mark-reads marks k i l ∙ (λ j. sym (place i s at) j || wanted i s at j)
 
 -- none is marked
 none-marked : (n i : ℕ) → slice_index_or (replicate n false) i false ≡ false
@@ -50,7 +48,7 @@ onto-last : (ss : List Step) (s : Step) (n : Needed) → needed_onto (ss ++ s �
 onto-last [] s n = refl
 onto-last (t ∷ ss) s n = ap (with_needed t) (onto-last ss s n)
 
--- WHAT IS LEFT from the last step to the first: the steps below a number
+-- WHAT IS LEFT from the last step to the first: the steps below a place
 pub record IsNeeding (ss : List Step) (marks : List Bool) (x : Name) (path : List Step) (i : ℕ) : Type 0 where
   pub state : Needed
   pub left : needed_onto (take i ss) state ≡ needed_for ss (x ∷ [])
@@ -91,15 +89,12 @@ needing-one ss marks more x path longer j i s next at l is pushed wanted h = rec
   wanted = wanted h.state.wanted h.wanted;
 }
 
-pub needing-done : (ss : List Step) (marks : List Bool) (x : Name) (path : List Step) (i : ℕ) → i ≡ 0 → IsNeeding ss marks x path i → reverse path ≡ (needed_for ss (x ∷ [])).steps
-needing-done ss marks x path i e h = h.told ∙ ap (λ n. n.steps) (sym (ap (λ k. needed_onto (take k ss) h.state) e) ∙ h.left)
-
 -- marks that were lent as a slice, written back
 pub written-back : (n : ℕ) (new old : List Bool) → length new ≡ n → length old ≡ n → take n (new ++ drop (length new) old) ≡ new
 written-back n new old e f =
     ap (λ ms. take n (new ++ ms)) (drop-past old (length new) (omega (arith, e, f))) ∙ (ap (take n) (append-nil new) ∙ take-all new n (omega (arith, e)))
 
--- a step by its number
+-- a step by its place
 pub step-at : (ss : List Step) (i : ℕ) → i < length ss → (s : Step) × (slice_get ss i ≡ Some s)
 step-at [] i l = absurd (omega (arith, l))
 step-at (s ∷ ss) zero l = (s, refl)

@@ -111,7 +111,7 @@ impl Found {
         self.steps.len()
     }
 
-    /// An object that was found and its reason, by number, counted from 0.
+    /// An object that was found, and its reason, by its place, counted from 0.
     pub(crate) fn step(&self, i: usize) -> (Name, Reason)
         requires { i < length (steps_of self.now) }
         ensures { slice_get (steps_of self.now) i ≡ Some result }
@@ -119,9 +119,9 @@ impl Found {
         self.steps[i]
     }
 
-    /// The number of an object; none where it was not found.
-    pub(crate) fn number(&self, name: &Name) -> Option<usize>
-        ensures number { (i : ℕ) (s : Step) → slice_get (steps_of self.now) i ≡ Some s → same_name name.now s.0 ≡ is_place result i }
+    /// The place of an object; none where it was not found.
+    pub(crate) fn place(&self, name: &Name) -> Option<usize>
+        ensures place { (i : ℕ) (s : Step) → slice_get (steps_of self.now) i ≡ Some s → same_name name.now s.0 ≡ is_place result i }
         ensures within { IfSome result (λ i. i < length (steps_of self.now)) }
     {
         match self.places.get(name) {

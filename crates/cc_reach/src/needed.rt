@@ -15,7 +15,7 @@ impl Found {
         requires { length wanted.old ≡ length (steps_of self.now) }
         ensures { (names : List TheName) → AreWanted (steps_of self.now) wanted.old names → AreWanted (steps_of self.now) wanted.new (name.now ∷ names) }
     {
-        if let Some(i) = self.number(name) {
+        if let Some(i) = self.place(name) {
             wanted[i] = true;
         }
     }
@@ -36,7 +36,11 @@ impl Found {
     }
 
     /// The steps that lead to an object, each once, itself last; none where it is not found.
-    pub(crate) fn path_to(&self, alloc: Global, name: &Name) -> Result<Vec<(Name, Reason)>, NoMemory>
+    pub(crate) fn path_to(
+        &self,
+        alloc: Global,
+        name: &Name,
+    ) -> Result<Vec<(Name, Reason)>, NoMemory>
         ensures { IfOk result (λ path. path.items ≡ (needed_for (steps_of self.now) (name.now ∷ [])).steps) }
     {
         let mut wanted = Vec::new(alloc);

@@ -15,11 +15,7 @@ use cc_names::{BANK_LENGTH, Name, NoMemory, Reg, RegNo};
 use cc_object_graph::ObjectGraph;
 
 /// The places of the entries of which an object is the map, the key or the key's delegate, the last one first.
-fn places_with(
-    graph: &ObjectGraph,
-    name: &Name,
-    entries: &mut Vec<usize>,
-) -> Result<(), NoMemory>
+fn places_with(graph: &ObjectGraph, name: &Name, entries: &mut Vec<usize>) -> Result<(), NoMemory>
     requires made { IsTrue (was_made graph.now name.now) }
     ensures { OnOk result (entries.new.items ≡ falling graph.now.entries name.now (length graph.now.entries)) }
 {

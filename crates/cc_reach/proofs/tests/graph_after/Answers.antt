@@ -1,6 +1,6 @@
 use Rattle.std.specs.Prelude.{slice_index_or}
 use Rattle.std.specs.List.{list_all}
-use Rattle.std.proofs.Common.{◌≡◌, ℕ, zero, suc, ◌<◌, ◌≤◌, Bool, true, false, ◌&&◌, List, [], ◌∷◌, length, Option, Some, None, refl, sym, ◌∙◌, ap, subst, arith}
+use Rattle.std.proofs.Common.{◌≡◌, ℕ, zero, suc, ◌<◌, ◌≤◌, true, List, [], ◌∷◌, length, Option, Some, None, refl, sym, ◌∙◌, ap, subst, arith}
 use Rattle.std.proofs.lemmas.Bool.{and_parts}
 use Rattle.cc_names.specs.Allowance.{Allowance}
 use Rattle.cc_names.specs.declared.name.Name.{Name}
@@ -10,11 +10,11 @@ use Rattle.cc_names.specs.declared.register.Reg.TheVariants.{N, S}
 use Rattle.cc_model.specs.declared.command.Command.{Command}
 use Rattle.cc_model.specs.declared.command.Command.TheVariants.{Nothing, Version2, Native, Script, WeakMap, Proxy, CopyNative, CopyScript, Drop, Set, Get, Move, Put, Take, Wrap, Unwrap, Preserve, SetEntry, GetEntry, Expose, Why, Slice, Collect, Gc, Census}
 use Rattle.cc_model.specs.declared.item.Refusal.{Refusal}
-use Rattle.cc_model.specs.Graph.{Graph, GraphNative, GraphScript, changed, move_slot, objects_of, preserve, proxy, set_entry, set_native, set_register, set_script, set_slot, step, unless_refused, with_proxy, with_script, wrapped}
+use Rattle.cc_model.specs.Graph.{Graph, GraphNative, GraphScript, changed, objects_of, preserve, set_entry, set_native, set_register, set_script, set_slot, step, unless_refused, with_proxy, wrapped}
 use Rattle.cc_model.specs.Checks.{refusal_of}
 use Rattle.cc_model.specs.Ranges.{in_range}
 use Rattle.cc_model.specs.WellMade.{IsWellMade}
-use Rattle.cc_laws_heap.proofs.Face.{empty-well, step-well}
+use Rattle.cc_laws_heap.proofs.Face.{step-well}
 use Rattle.cc_reach.proofs.tests.graph_after.Goals as goal
 
 -- NO COMMAND CHANGES THE LIMITS

@@ -1,8 +1,7 @@
-use Rattle.std.proofs.Common.{◌≡◌, ◌++◌, ◌∷◌, [], length, Some, None, is_some, sym, ◌∙◌, ap, cond, arith}
+use Rattle.std.proofs.Common.{◌≡◌, ◌++◌, ◌∷◌, [], length, Some, is_some, sym, ◌∙◌, ap, arith}
 use Rattle.std.specs.Prelude.{if◌then◌else◌}
 use Rattle.std.proofs.lemmas.Grind.{common_steps}
 use Rattle.cc_names.specs.Names.{same_name}
-use Rattle.cc_reach.specs.Places.{place_of}
 use Rattle.cc_reach.specs.Found.{walk_by}
 use Rattle.cc_reach.proofs.Kept.{IsPut, kept-added, kept-again, kept-walk, none-kept}
 use Rattle.cc_reach.proofs.found.Found.add.Goals as goal

@@ -1,5 +1,4 @@
-use Rattle.std.proofs.Common.{◌≡◌, ◌<◌, Some, length, arith}
-use Rattle.std.specs.Prelude.{slice_get}
+use Rattle.std.proofs.Common.{◌<◌, length, arith}
 use Rattle.std.proofs.lemmas.Option.{slice_get_read}
 use Rattle.cc_reach.proofs.Turns.{first-walked}
 use Rattle.cc_reach.proofs.found.Found.walk_first.Goals as goal
