@@ -4,3 +4,4 @@ pub mod Keyed
 pub mod Made
 pub mod Numbered
 pub mod Ready
+pub mod Used

@@ -7,6 +7,7 @@ ghost use Rattle.cc_model.specs.Checks.{refusal_of, value_at};
 ghost use Rattle.cc_model.specs.Graph.{empty_graph, objects_of, register, reply_to, step};
 ghost use Rattle.cc_model.specs.WellMade.{IsWellMade, was_made};
 ghost use Rattle.cc_object_graph.specs.Members.{IsPlaceOf, place_below};
+ghost use Rattle.cc_object_graph.specs.Used.{AreEmptyFrom};
 
 mod changes;
 mod checks;
@@ -16,10 +17,10 @@ mod reading;
 mod replies;
 mod writing;
 
+use crate::bank::Bank;
 use crate::entries::Entries;
 use crate::natives::Natives;
 use crate::scripts::Scripts;
-use crate::slots::Slots;
 use cc_model::{Command, Refusal, Reply};
 use cc_names::{BANK_LENGTH, Limits, Name, NoMemory, Reg, RegNo};
 use std::alloc::Global;
@@ -28,8 +29,8 @@ use std::marker::Model;
 /// An object graph: registers, objects and entries, and the limits within which objects are made.
 #[derive(Drop)]
 pub struct ObjectGraph {
-    native_registers: Slots,
-    script_registers: Slots,
+    native_registers: Bank,
+    script_registers: Bank,
     natives: Natives,
     scripts: Scripts,
     entries: Entries,
@@ -59,8 +60,8 @@ impl ObjectGraph {
         ensures { IfOk result (λ g. g ≡ empty_graph limits) }
     {
         Ok(ObjectGraph {
-            native_registers: Slots::empty(alloc, BANK_LENGTH)?,
-            script_registers: Slots::empty(alloc, BANK_LENGTH)?,
+            native_registers: Bank::empty(alloc, BANK_LENGTH)?,
+            script_registers: Bank::empty(alloc, BANK_LENGTH)?,
             natives: Natives::new(alloc),
             scripts: Scripts::new(alloc),
             entries: Entries::new(alloc),
@@ -117,6 +118,22 @@ impl ObjectGraph {
             Reg::N(r) => self.native_registers.at(r as usize),
             Reg::S(r) => self.script_registers.at(r as usize),
         }
+    }
+
+    /// The number past the last native register that was ever written; 0 where none was. From it on all are empty.
+    pub fn native_registers_used(&self) -> usize
+        ensures within { result ≤ length self.now.native_registers }
+        ensures empty { AreEmptyFrom self.now.native_registers result }
+    {
+        self.native_registers.used()
+    }
+
+    /// The same of script registers.
+    pub fn script_registers_used(&self) -> usize
+        ensures within { result ≤ length self.now.script_registers }
+        ensures empty { AreEmptyFrom self.now.script_registers result }
+    {
+        self.script_registers.used()
     }
 
     /// The value that what one script register holds has for its key in what the other holds as their map.

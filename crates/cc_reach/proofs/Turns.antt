@@ -1,12 +1,14 @@
 -- TURNS OF THE LOOPS over registers, over places, and over the steps that wait: what is left to be done after each.
 use Rattle.std.specs.Prelude.{slice_index_or, slice_get}
 use Rattle.std.proofs.Common.{◌≡◌, ℕ, zero, suc, ◌+◌, ◌<◌, ◌≤◌, List, [], ◌∷◌, ◌++◌, length, take, drop, Option, Some, None, refl, sym, ◌∙◌, ap, arith, drop-cons}
+use Rattle.std.proofs.lemmas.List.{get_or-drop}
 use Rattle.cc_names.specs.declared.name.Name.{Name}
 use Rattle.cc_names.specs.declared.register.Reg.{Reg}
 use Rattle.cc_model.specs.declared.item.Reason.TheVariants.{Root, Edge}
 use Rattle.cc_model.specs.Answers.{Step}
 use Rattle.cc_model.specs.Slots.{Slots, contents}
 use Rattle.cc_model.specs.Derivations.{Walk, with_bank, with_edges}
+use Rattle.cc_object_graph.specs.Used.{AreEmptyFrom}
 use Rattle.cc_reach.specs.Found.{IsFirstWalked, walk_by, with_content}
 
 -- past the end nothing is left
@@ -37,8 +39,14 @@ bank-turn reg slots i o w v l same e =
     ap (with_bank reg (i + 1) (drop (i + 1) slots)) (e ∙ ap (λ p. with_content w p (Root (reg i))) same)
     ∙ (sym (bank-one reg i (slice_index_or slots i None) (drop (i + 1) slots) w) ∙ ap (λ os. with_bank reg i os w) (sym (drop-one slots i l)))
 
-pub bank-end : (reg : ℕ → Reg) (slots : Slots) (i : ℕ) (w : Walk) → length slots ≤ i → with_bank reg i (drop i slots) w ≡ w
-bank-end reg slots i w l = ap (λ os. with_bank reg i os w) (drop-past slots i l)
+-- empty ones give nothing
+bank-empty : (reg : ℕ → Reg) (k : ℕ) (slots : Slots) (w : Walk) → ((i : ℕ) → slice_index_or slots i None ≡ None) → with_bank reg k slots w ≡ w
+bank-empty reg k [] w empty = refl
+bank-empty reg k (None ∷ slots) w empty = bank-empty reg (k + 1) slots w (λ i. empty (suc i))
+bank-empty reg k (Some x ∷ slots) w empty = let none : Some x ≡ None = empty zero in absurd (cc)
+
+pub bank-end : (reg : ℕ → Reg) (slots : Slots) (n i : ℕ) (w : Walk) → AreEmptyFrom slots n → n ≤ i → with_bank reg i (drop i slots) w ≡ w
+bank-end reg slots n i w empty l = bank-empty reg i (drop i slots) w (λ j. get_or-drop i slots j None ∙ empty (i + j) (omega (arith, l)))
 
 -- Places
 

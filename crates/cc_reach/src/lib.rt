@@ -5,7 +5,8 @@
 //! the reason for which it was found. This is the derivation by which `why` is answered (`derivation` of cc_model), and its names
 //! are exactly those that are reached.
 //!
-//! A search takes time in step with what it finds and with the registers, whatever else the graph has.
+//! A search takes time in step with what it finds and with the registers up to the last one that was ever written, whatever else
+//! the graph has.
 #![tactic(auto)]
 
 mod found;

@@ -11,7 +11,7 @@ ghost use Rattle.cc_reach.specs.Search.{falling, with_entry_at};
 
 use crate::found::Found;
 use cc_model::Reason;
-use cc_names::{BANK_LENGTH, Name, NoMemory, Reg, RegNo};
+use cc_names::{Name, NoMemory, Reg, RegNo};
 use cc_object_graph::ObjectGraph;
 
 /// The places of the entries of which an object is the map, the key or the key's delegate, the last one first.
@@ -36,7 +36,7 @@ impl Found {
         requires { IsWellMade graph.now }
         ensures { OnOk result (self.new ≡ with_bank reg.N 0 graph.now.native_registers self.old) }
     {
-        for r in 0..BANK_LENGTH as RegNo {
+        for r in 0..graph.native_registers_used() as RegNo {
             let register = Reg::N(r);
             self.add_content(graph.register(register), Reason::Root(register))?;
         }
@@ -48,7 +48,7 @@ impl Found {
         requires { IsWellMade graph.now }
         ensures { OnOk result (self.new ≡ with_bank reg.S 0 graph.now.script_registers self.old) }
     {
-        for r in 0..BANK_LENGTH as RegNo {
+        for r in 0..graph.script_registers_used() as RegNo {
             let register = Reg::S(r);
             self.add_content(graph.register(register), Reason::Root(register))?;
         }
