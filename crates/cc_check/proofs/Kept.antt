@@ -46,7 +46,7 @@ after_event-among names Abandoned x m = m
 after_event-unlisted : (names : List Name) (e : Event) (x : Name) → has same_name names x ≡ false → has same_name (after_event names e) x ≡ false
 after_event-unlisted names e x unlisted = ⊎_elim
     (λ t. absurd (true≢false (sym (has-there same_name same_name-exact names x
-        (after_event-among names e x (has-among same_name same_name-exact (after_event names e) x t))) ∙ unlisted)))
+    (after_event-among names e x (has-among same_name same_name-exact (after_event names e) x t))) ∙ unlisted)))
     (λ t. t)
     (cases_Bool (has same_name (after_event names e) x))
 

@@ -124,10 +124,7 @@ impl Judge {
             × (refusal_of (objects_of self.old.graph) command ≡ None) × (runs_units command ≡ false)) }
     {
         let row = self.row;
-        self.row = row.after(
-            Asked::Taken(command),
-            Reply::Refused(Refusal::NoMemory),
-        );
+        self.row = row.after(Asked::Taken(command), Reply::Refused(Refusal::NoMemory));
         may_want_memory(&self.graph, &self.listed, command)
             && self.graph.refusal(&command).is_none()
             && !runs_units(command)

@@ -56,7 +56,11 @@ impl Judge {
 
     /// Hears the next line of the transcript, and answers whether it may come there: whether the transcript can still be lawful.
     /// After `false` and after `NoMemory` the judge is only let go.
-    pub(crate) fn hear(&mut self, script: &mut Script<'_>, heard: Heard<'_>) -> Result<bool, NoMemory>
+    pub(crate) fn hear(
+        &mut self,
+        script: &mut Script<'_>,
+        heard: Heard<'_>,
+    ) -> Result<bool, NoMemory>
         requires kept { IsKept self.old }
         ensures kept { result ≡ Ok true → IsKept self.new }
         ensures yes { result ≡ Ok true → (line : List ℕ) (lines : List (List ℕ)) → IsHeard heard.entry line →

@@ -23,11 +23,7 @@ use cc_verdict::{answers_are_heard_line_by_line, answers_are_recited_line_by_lin
 
 impl Judge {
     /// Hears the next line of an answer: an event that may come, or a reply that may end it.
-    pub(crate) fn hear_within(
-        &mut self,
-        answer: Answer,
-        heard: Heard<'_>,
-    ) -> Result<bool, NoMemory>
+    pub(crate) fn hear_within(&mut self, answer: Answer, heard: Heard<'_>) -> Result<bool, NoMemory>
         requires kept { IsKept self.old }
         requires answer { self.old.answer ≡ Some answer }
         ensures { IfOk result (IsJudged heard.entry (MayGoOn (hearing_in self.old answer)) self.new) }

@@ -24,17 +24,17 @@ returns c =
     let now = c.census.new.self in
     let same : now ≡ listed = c.in_ok-names.ensures.same in
     let place_is : place g now nothing_yet ≡ after =
-        ap (λ (names : List Name). place g names nothing_yet) same ∙ ap (λ (h : Graph). place h listed nothing_yet) (sym (step-census g)) in
+    ap (λ (names : List Name). place g names nothing_yet) same ∙ ap (λ (h : Graph). place h listed nothing_yet) (sym (step-census g)) in
     let told = items_of (census_of listed) in
     let count_is : c.in_ok-count.count ≡ length listed = c.in_ok-count.ensures.key ∙ (c.len.ensures ∙ ap (λ (names : List Name). length names) same) in
     let items_are : reverse c.list.new.recital.items ≡ told = c.in_ok-list.ensures.items
-        ∙ (ap (λ (names : List Name). items_of (listing names (counted c.in_ok-count.count))) c.in_ok-names.ensures.names
-        ∙ ap (λ (n : ℕ). items_of (listing (census_order listed) (counted n))) count_is) in
+    ∙ (ap (λ (names : List Name). items_of (listing names (counted c.in_ok-count.count))) c.in_ok-names.ensures.names
+    ∙ ap (λ (n : ℕ). items_of (listing (census_order listed) (counted n))) count_is) in
     let quiet : CensusIsQuiet p.row p.state (taken Census) =
-        subst (λ (names : List Name). CensusIsQuiet p.row (record { graph = g; listed = names }) (taken Census)) same (c.in_ok-is_quiet.ensures.quiet.0 c.if-not-branch.false) in
+    subst (λ (names : List Name). CensusIsQuiet p.row (record { graph = g; listed = names }) (taken Census)) same (c.in_ok-is_quiet.ensures.quiet.0 c.if-not-branch.false) in
     IsJudged-as c.args.heard (MayRecite (reverse c.list.new.recital.items) (place g now nothing_yet)) (MayAnswer p (taken Census)) c.recite.new.self c.recite.result
-        (λ asks line lines hd.
-            let law = c.exact_answers_are_recited.ensures.census p asks (line ∷ lines) quiet in
-            let as_told = recites-as (reverse c.list.new.recital.items) told (place g now nothing_yet) after asks (line ∷ lines) items_are place_is in
-            ((λ f. as_told.0 (law.0 f)), (λ r. law.1 (as_told.1 r))))
-        c.recite.ensures
+    (λ asks line lines hd.
+    let law = c.exact_answers_are_recited.ensures.census p asks (line ∷ lines) quiet in
+    let as_told = recites-as (reverse c.list.new.recital.items) told (place g now nothing_yet) after asks (line ∷ lines) items_are place_is in
+    ((λ f. as_told.0 (law.0 f)), (λ r. law.1 (as_told.1 r))))
+    c.recite.ensures

@@ -43,11 +43,11 @@ returns c =
     let p = place_of c.args.self.now in
     let h = hearing_in c.step.new.self c.in_ok-answer.answer in
     IfOk-then c.hear_within.result (IsJudged c.args.heard (MayGoOn h) c.hear_within.new.self)
-        (IsJudged c.args.heard (MayAnswer p (taken c.args.command)) c.hear_within.new.self)
-        (λ b j. IsJudged-as c.args.heard (MayGoOn h) (MayAnswer p (taken c.args.command)) c.hear_within.new.self b
-            (λ asks line lines hd.
-                let other : line ≢ text_of_reply no_memory = λ e. true≢false (sym ((c.is.ensures line hd).1 e) ∙ c.if-is.false) in
-                let law = c.answers_are_heard.ensures.heard p c.args.command asks line lines c.requires.is_heard other in
-                subst (λ (k : Hearing). Follows p (taken c.args.command ∷ asks) (line ∷ lines) ↔ Hears asks k (line ∷ lines)) (sym c.in_ok-answer.ensures.hearing) law)
-            j)
-        c.hear_within.ensures
+    (IsJudged c.args.heard (MayAnswer p (taken c.args.command)) c.hear_within.new.self)
+    (λ b j. IsJudged-as c.args.heard (MayGoOn h) (MayAnswer p (taken c.args.command)) c.hear_within.new.self b
+    (λ asks line lines hd.
+    let other : line ≢ text_of_reply no_memory = λ e. true≢false (sym ((c.is.ensures line hd).1 e) ∙ c.if-is.false) in
+    let law = c.answers_are_heard.ensures.heard p c.args.command asks line lines c.requires.is_heard other in
+    subst (λ (k : Hearing). Follows p (taken c.args.command ∷ asks) (line ∷ lines) ↔ Hears asks k (line ∷ lines)) (sym c.in_ok-answer.ensures.hearing) law)
+    j)
+    c.hear_within.ensures

@@ -62,17 +62,17 @@ returns c =
     let after = place_after p (taken (Why x)) (why_of (leads_made g) x) in
     let graph_is : graph_after g (Why x) (Some (done_or_nothing led)) ≡ g = why-stays g x led in
     let place_is : place_of c.hear_reply.new.self ≡ after = c.hear_reply.ensures.place
-        ∙ ap (λ (h : Graph). place h c.args.self.now.listed nothing_yet) (sym graph_is) in
+    ∙ ap (λ (h : Graph). place h c.args.self.now.listed nothing_yet) (sym graph_is) in
     let told = items_of (why_of (leads_made g) x) in
     let found : c.find.new.self.reach ≡ derivation (leads_made c.hear_reply.new.self.graph) = c.in_ok-find.ensures in
     let same_graph : c.hear_reply.new.self.graph ≡ g = ap (λ (o : Place). o.state.graph) c.hear_reply.ensures.place in
     let items_are : reverse c.explain.new.recital.items ≡ told = c.in_ok-explain.ensures.items
-        ∙ (ap (λ (r : Reply). items_of (explaining c.in_ok-steps.steps.items r)) c.done_or_nothing-reply.ensures
-        ∙ reasons-are g x c.find.new.self.reach c.in_ok-steps.steps.items c.has.result (found ∙ ap (λ (h : Graph). derivation (leads_made h)) same_graph) c.in_ok-steps.ensures c.has.ensures) in
+    ∙ (ap (λ (r : Reply). items_of (explaining c.in_ok-steps.steps.items r)) c.done_or_nothing-reply.ensures
+    ∙ reasons-are g x c.find.new.self.reach c.in_ok-steps.steps.items c.has.result (found ∙ ap (λ (h : Graph). derivation (leads_made h)) same_graph) c.in_ok-steps.ensures c.has.ensures) in
     IsJudged-as c.args.heard (MayRecite (reverse c.explain.new.recital.items) (place_of c.hear_reply.new.self)) (MayAnswer p (taken (Why x))) c.recite.new.self c.recite.result
-        (λ asks line lines hd.
-            let other : line ≢ text_of_reply no_memory = λ e. true≢false (sym ((c.hear_reply.ensures.heard line hd).1 e) ∙ c.if-hear_reply.false) in
-            let law = c.reasons_are_recited.ensures.told p x asks line lines other in
-            let as_told = recites-as (reverse c.explain.new.recital.items) told (place_of c.hear_reply.new.self) after asks (line ∷ lines) items_are place_is in
-            ((λ f. as_told.0 (law.0 f)), (λ r. law.1 (as_told.1 r))))
-        c.recite.ensures
+    (λ asks line lines hd.
+    let other : line ≢ text_of_reply no_memory = λ e. true≢false (sym ((c.hear_reply.ensures.heard line hd).1 e) ∙ c.if-hear_reply.false) in
+    let law = c.reasons_are_recited.ensures.told p x asks line lines other in
+    let as_told = recites-as (reverse c.explain.new.recital.items) told (place_of c.hear_reply.new.self) after asks (line ∷ lines) items_are place_is in
+    ((λ f. as_told.0 (law.0 f)), (λ r. law.1 (as_told.1 r))))
+    c.recite.ensures

@@ -25,12 +25,12 @@ returns-in-Some-next_asked-clause-yes c = λ e line lines hd.
     let asked = ask_meant c.in-Some-next_asked.asked in
     let left = asks_left c.next_asked.new.script in
     let judged : IsJudged c.args.heard (MayAnswer (place_of j) asked) c.begin.new.self true =
-        IfOk-at c.begin.result (IsJudged c.args.heard (MayAnswer (place_of j) asked) c.begin.new.self) true c.begin.ensures e in
+    IfOk-at c.begin.result (IsJudged c.args.heard (MayAnswer (place_of j) asked) c.begin.new.self) true c.begin.ensures e in
     let y = judged.yes refl left line lines hd in
     let on = subst (λ (asks : List Ask). GoesOn (position_of j) (asks_left c.args.script.now) (line ∷ lines) ↔ Follows (place_of j) asks (line ∷ lines))
-        c.in-Some-next_asked.ensures.some
-        (next-on j (asks_left c.args.script.now) (line ∷ lines) (stands j c.in_default.is (nothing_left j.recital (sym c.is_empty.ensures ∙ c.if-not-is_empty.false)))
-        c.answers_are_recited_line_by_line.ensures.nothing c.lines_that_ask_nothing_have_no_answer.ensures.nothing) in
+    c.in-Some-next_asked.ensures.some
+    (next-on j (asks_left c.args.script.now) (line ∷ lines) (stands j c.in_default.is (nothing_left j.recital (sym c.is_empty.ensures ∙ c.if-not-is_empty.false)))
+    c.answers_are_recited_line_by_line.ensures.nothing c.lines_that_ask_nothing_have_no_answer.ensures.nothing) in
     ((λ g. y.0 (on.0 g)), (λ g. on.1 (y.1 g)))
 
 pub returns-in-Some-next_asked-clause-no : goal.returns-in-Some-next_asked-clause-no
@@ -39,19 +39,19 @@ returns-in-Some-next_asked-clause-no c = λ e line lines hd g.
     let asked = ask_meant c.in-Some-next_asked.asked in
     let left = asks_left c.next_asked.new.script in
     let judged : IsJudged c.args.heard (MayAnswer (place_of j) asked) c.begin.new.self false =
-        IfOk-at c.begin.result (IsJudged c.args.heard (MayAnswer (place_of j) asked) c.begin.new.self) false c.begin.ensures e in
+    IfOk-at c.begin.result (IsJudged c.args.heard (MayAnswer (place_of j) asked) c.begin.new.self) false c.begin.ensures e in
     let on = subst (λ (asks : List Ask). GoesOn (position_of j) (asks_left c.args.script.now) (line ∷ lines) ↔ Follows (place_of j) asks (line ∷ lines))
-        c.in-Some-next_asked.ensures.some
-        (next-on j (asks_left c.args.script.now) (line ∷ lines) (stands j c.in_default.is (nothing_left j.recital (sym c.is_empty.ensures ∙ c.if-not-is_empty.false)))
-        c.answers_are_recited_line_by_line.ensures.nothing c.lines_that_ask_nothing_have_no_answer.ensures.nothing) in
+    c.in-Some-next_asked.ensures.some
+    (next-on j (asks_left c.args.script.now) (line ∷ lines) (stands j c.in_default.is (nothing_left j.recital (sym c.is_empty.ensures ∙ c.if-not-is_empty.false)))
+    c.answers_are_recited_line_by_line.ensures.nothing c.lines_that_ask_nothing_have_no_answer.ensures.nothing) in
     judged.no refl left line lines hd (on.0 g)
 
 pub returns-in-None-clause-no : goal.returns-in-None-clause-no
 returns-in-None-clause-no c = λ e line lines hd g.
     let j = c.args.self.now in
     let on = subst (λ (asks : List Ask). GoesOn (position_of j) (asks_left c.args.script.now) (line ∷ lines) ↔ Follows (place_of j) asks (line ∷ lines))
-        c.in-None.ensures.none
-        (next-on j (asks_left c.args.script.now) (line ∷ lines) (stands j c.in_default.is (nothing_left j.recital (sym c.is_empty.ensures ∙ c.if-not-is_empty.false)))
-        c.answers_are_recited_line_by_line.ensures.nothing c.lines_that_ask_nothing_have_no_answer.ensures.nothing) in
+    c.in-None.ensures.none
+    (next-on j (asks_left c.args.script.now) (line ∷ lines) (stands j c.in_default.is (nothing_left j.recital (sym c.is_empty.ensures ∙ c.if-not-is_empty.false)))
+    c.answers_are_recited_line_by_line.ensures.nothing c.lines_that_ask_nothing_have_no_answer.ensures.nothing) in
     let over : line ∷ lines ≡ [] = (c.lines_that_ask_nothing_have_no_answer.ensures.over (place_of j) (line ∷ lines)).0 (on.0 g) in
     absurd (cc)

@@ -31,7 +31,7 @@ returns-in_ok-end-in-Some-ended_by c =
       yes = λ yes asks line lines hd.
           let is : line ≡ text_of_reply reply = c.in-Some-ended_by.ensures.line line hd in
           let law : Hears asks h (text_of_reply reply ∷ lines) ↔ (MayEnd h reply × Follows (place_ended h reply) asks lines) =
-              c.answers_are_heard_line_by_line.ensures.reply h reply asks lines c.replies_have_small_numbers.ensures in
+          c.answers_are_heard_line_by_line.ensures.reply h reply asks lines c.replies_have_small_numbers.ensures in
           let on = between _ (place_ended h reply) c.in_ok-end-in-Some-ended_by.ensures.place c.answers_are_recited_line_by_line.ensures.nothing asks lines in (
             (λ s. on.1 (law.0 (subst (λ (l : List ℕ). Hears asks h (l ∷ lines)) is s)).1),
             (λ g. subst (λ (l : List ℕ). Hears asks h (l ∷ lines)) (sym is) (law.1 (may, on.0 g))),

@@ -51,8 +51,8 @@ returns-then-is_empty c = elim c.if-is_none.branch [
       let on = between (position_of j) (place_of j) (stands j answer recital) c.answers_are_recited_line_by_line.ensures.nothing (asks_left c.args.script.now) [] in
       let n = Follows-from_next c.lines_that_ask_nothing_have_no_answer.ensures.nothing (place_of j) (asks_left c.args.script.now) [] in
       let t = ends-there laws (place_of j) (asks_left c.args.script.now) (asks_left c.next_asked.new.script) c.next_asked.result c.is_none-then-is_empty.result
-          c.is_none-then-is_empty.ensures c.next_asked.ensures.some c.next_asked.ensures.answered c.next_asked.ensures.none
-          (c.lines_that_ask_nothing_have_no_answer.ensures.over (place_of j) []) in
+      c.is_none-then-is_empty.ensures c.next_asked.ensures.some c.next_asked.ensures.answered c.next_asked.ensures.none
+      (c.lines_that_ask_nothing_have_no_answer.ensures.over (place_of j) []) in
       ((λ yes. on.1 (n.1 (t.0 yes))), (λ g. t.1 (n.0 (on.0 g))))
   | else-is_none w ↦ absurd (true≢false (sym c.if-is_empty.true ∙ (w.value-is ∙ w.if-is_none.false)))
 ]
