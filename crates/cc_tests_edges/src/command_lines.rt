@@ -19,8 +19,24 @@ const TAKEN: [&str; 10] = [
     "ccreplay make -- 7 -0",
 ];
 
+/// Lines that are taken too: what is behind the script is no transcript of it, or is none of a whole line.
+const CHECKED: [&str; 6] = [
+    "ccreplay check 0",
+    " check 36",
+    "ccreplay check +24 --natives 1",
+    "ccreplay check 0012 --scripts=0 --bytes=37",
+    "ccreplay check --bytes 37 4294967295",
+    "ccreplay check -- 12",
+];
+
+/// Lines that allow a byte less than the script and the transcript have.
+const PASSED: [&str; 2] = [
+    "ccreplay check 12 --bytes 36",
+    "ccreplay check 37 --bytes 36",
+];
+
 /// Lines whose words are not.
-const NOT_TAKEN: [&str; 33] = [
+const NOT_TAKEN: [&str; 42] = [
     "ccreplay",
     "replay",
     "ccreplay play",
@@ -54,6 +70,15 @@ const NOT_TAKEN: [&str; 33] = [
     "ccreplay make 18446744073709551616 0",
     "ccreplay make --seed 7 --count 0",
     "ccreplay make 7 0 --natives 1",
+    "ccreplay check",
+    "check 12",
+    "ccreplay check x",
+    "ccreplay check -1",
+    "ccreplay check 4294967296",
+    "ccreplay check 12 24",
+    "ccreplay check --script 12",
+    "ccreplay check 12 --natives 1000001",
+    "ccreplay check 12 --bytes",
 ];
 
 /// Lines that leave room for one native, for no plain object, and for 36 bytes.
@@ -84,6 +109,16 @@ fn answers(rt: &(impl Abort + AllocGlobal), line: &str, status: Status, written:
 fn words_are_taken(rt: HostRuntime) {
     for line in TAKEN.iter() {
         answers(&rt, line, Status::Done, b"");
+    }
+}
+
+#[test]
+fn words_of_a_check_are_taken(rt: HostRuntime) {
+    for line in CHECKED.iter() {
+        answers(&rt, line, Status::Unlawful, b"unlawful\n");
+    }
+    for line in PASSED.iter() {
+        answers(&rt, line, Status::Limit, b"");
     }
 }
 

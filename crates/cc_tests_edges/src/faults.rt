@@ -213,6 +213,106 @@ const PATHS: [Case; 9] = [
     },
 ];
 
+/// The same four lines with what they answer behind them, 70 bytes: a script and a lawful transcript of it.
+const CHECK: Case = Case {
+    words: &["ccreplay", "check", "39"],
+    input: b"native n0 1\nset n0 0 n0\ndrop n0\ncensus\n= #1\n= ok\n= ok\n+ #1\n= census 1\n",
+    written: b"lawful\n",
+    ..WHOLE
+};
+
+/// Nothing is written where a read fails, the last one too, or the limit is passed, within the script or behind it.
+const SILENT: [Case; 5] = [
+    Case {
+        gives: 1,
+        reads: (1, 71),
+        written: b"",
+        status: Status::ReadFault,
+        ..CHECK
+    },
+    Case {
+        reads: (3, 3),
+        written: b"",
+        status: Status::ReadFault,
+        ..CHECK
+    },
+    Case {
+        words: &["ccreplay", "check", "39", "--bytes", "69"],
+        written: b"",
+        status: Status::Limit,
+        ..CHECK
+    },
+    Case {
+        words: &["ccreplay", "check", "39", "--bytes", "38"],
+        written: b"",
+        status: Status::Limit,
+        ..CHECK
+    },
+    Case {
+        words: &["ccreplay", "check", "0", "--bytes", "0"],
+        written: b"",
+        status: Status::Limit,
+        ..CHECK
+    },
+];
+
+/// The verdict on what is read to its end, in pieces of any size; a front of its line where a write fails.
+const CHECKS: [Case; 10] = [
+    CHECK,
+    Case {
+        gives: 1,
+        takes: 1,
+        ..CHECK
+    },
+    Case {
+        words: &["ccreplay", "check", "39", "--bytes", "70"],
+        ..CHECK
+    },
+    Case {
+        write: 1,
+        written: b"",
+        status: Status::WriteFault,
+        ..CHECK
+    },
+    Case {
+        takes: 1,
+        write: 4,
+        written: b"law",
+        status: Status::WriteFault,
+        ..CHECK
+    },
+    Case {
+        words: &["ccreplay", "check", "38"],
+        written: b"unlawful\n",
+        status: Status::Unlawful,
+        ..CHECK
+    },
+    Case {
+        words: &["ccreplay", "check", "0"],
+        written: b"unlawful\n",
+        status: Status::Unlawful,
+        ..CHECK
+    },
+    Case {
+        words: &["ccreplay", "check", "4294967295"],
+        takes: 2,
+        written: b"unlawful\n",
+        status: Status::Unlawful,
+        ..CHECK
+    },
+    Case {
+        words: &["ccreplay", "check", "4294967295"],
+        input: b"",
+        ..CHECK
+    },
+    Case {
+        words: &["ccreplay", "check", "39", "--natives", "0"],
+        written: b"unlawful\n",
+        status: Status::Unlawful,
+        ..CHECK
+    },
+];
+
 /// The source of a case, of which the read of this number fails.
 fn source_of(rt: &(impl Abort + AllocGlobal), case: &Case, read: u64) -> BytesSource {
     let input = case.input.to_vec(rt.alloc()).expect(rt, "memory");
@@ -257,4 +357,10 @@ fn faults_of_the_outside_are_told(rt: HostRuntime) {
 #[test]
 fn faults_within_a_path_are_told(rt: HostRuntime) {
     all_run(&rt, &PATHS);
+}
+
+#[test]
+fn faults_of_a_check_are_told(rt: HostRuntime) {
+    all_run(&rt, &SILENT);
+    all_run(&rt, &CHECKS);
 }
