@@ -16,6 +16,3 @@ mod reach;
 mod search;
 
 pub use reach::Reach;
-
-#[cfg(test)]
-mod tests;
