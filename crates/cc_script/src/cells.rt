@@ -3,7 +3,7 @@
 //! A marking reads and writes bodies and colours alone, at 41 bytes an object, and what else is known of it, at 32, stays
 //! where it is. Making all white, and the look for objects of a colour, go over the colours alone, which stand
 //! together, a byte each: so a heap that lives is marked without a walk over its objects before and after.
-ghost use Rattle.std.specs.Prelude.{◌≡◌, ◌≢◌, ◌↔◌, ◌<◌, ◌≤◌, ℕ, [], Some, get_or, length, option_map, slice_set, IfOk, IsSome, IsTrue, false, OnErr, OnOk};
+ghost use Rattle.std.specs.Prelude.{◌≡◌, ◌≢◌, ◌↔◌, ◌<◌, ◌≤◌, ℕ, [], Some, get_or, is_some, length, option_map, slice_set, IfOk, IsSome, IsTrue, false, OnErr, OnOk};
 ghost use Rattle.slab.specs.Slab.{ContainsKey, Updates, get};
 ghost use Rattle.cc_names.specs.declared.kind.Colour.{Colour};
 ghost use Rattle.cc_names.specs.declared.kind.Colour.TheVariants.{Gray};
@@ -100,6 +100,13 @@ impl Cells {
         self.may_be_gray = may_be_gray_with(self.may_be_gray, colour);
         self.slab.insert_reserved(cell);
         Ok(key)
+    }
+
+    /// Whether an object stands at a key.
+    pub(crate) fn contains(&self, key: u32) -> bool
+        ensures { result ≡ is_some (get self.now key) }
+    {
+        self.slab.contains(key as usize)
     }
 
     /// What the object at a key is.

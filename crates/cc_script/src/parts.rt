@@ -78,6 +78,14 @@ impl ScriptParts {
         Ok(SKey(key))
     }
 
+    /// Whether an object stands at a key.
+    pub(crate) fn contains(&self, key: SKey) -> bool
+        requires placed { IsPlaced (lists_of self.now) }
+        ensures { result ≡ is_there (shows self.now) key.0 }
+    {
+        self.cells.contains(key.0)
+    }
+
     /// What the object at a key is.
     pub(crate) fn cell(&self, key: SKey) -> &Cell
         requires placed { IsPlaced (lists_of self.now) }

@@ -111,6 +111,20 @@ impl Scripts {
         self.parts.cell(key).being.name()
     }
 
+    /// The name of the object at a key; none exactly where the key holds nothing.
+    ///
+    /// This is the one call that may be given a key whose object is no more. Its name tells whether it is still the one that
+    /// was meant.
+    pub fn called(&self, key: SKey) -> Option<Name>
+        ensures { result ≡ name_at self.now key.0 }
+    {
+        if self.parts.contains(key) {
+            Some(self.name(key))
+        } else {
+            None
+        }
+    }
+
     /// Where the native of a reflector stands in its own heap; none exactly of what is no reflector.
     pub fn native_of(&self, key: SKey) -> Option<NKey>
         requires live { IsTrue (is_there self.now key.0) }
