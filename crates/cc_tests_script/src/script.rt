@@ -75,6 +75,13 @@ fn keeps_a_white_object(heap: &mut Scripts) -> bool {
     heap.first().is_some()
 }
 
+/// Whether a key tells the name of its object, the first one, and none once that was taken out.
+fn forgets_a_name(heap: &mut Scripts, key: SKey) -> bool {
+    let called = heap.called(key) == Some(Name::Script(ScriptNo(7)));
+    let kept = keeps_a_white_object(heap);
+    called && !kept && heap.called(key).is_none()
+}
+
 /// Makes an object, reads and writes it and takes it out; whether there was memory, and the answers are right.
 fn calls_answer(alloc: Global) -> bool {
     let mut heap = Scripts::new(alloc);
@@ -82,7 +89,7 @@ fn calls_answer(alloc: Global) -> bool {
     if let Ok(key) = made {
         return is_seven(&heap, key)
             && empties_a_slot(&mut heap, key)
-            && !keeps_a_white_object(&mut heap);
+            && forgets_a_name(&mut heap, key);
     }
     false
 }
