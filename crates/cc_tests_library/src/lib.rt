@@ -3,3 +3,5 @@
 
 #[cfg(test)]
 mod library;
+#[cfg(test)]
+mod listener;

@@ -1,0 +1,14 @@
+pub mod Keeping
+pub mod Spare
+pub mod Composing
+pub mod Storing
+pub mod Around
+pub mod Exposing
+pub mod Wrapping
+pub mod Exposed
+pub mod ScriptSteps
+pub mod Making
+pub mod Finding
+pub mod Reading
+pub mod Stopping
+pub mod Collecting

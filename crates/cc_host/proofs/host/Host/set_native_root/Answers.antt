@@ -1,0 +1,6 @@
+use Rattle.cc_host.proofs.Keeping.{step-keeps}
+use Rattle.cc_host.proofs.host.Host.set_native_root.Goals as goal
+
+pub invariant_of-self : goal.invariant_of-self
+invariant_of-self g c =
+    step-keeps c.self.inside.heaps c.root_native.new.heaps c.self.inside.collector c.self.inside.mark c.root_native.ensures.step c.self.invariant

@@ -1,0 +1,6 @@
+use Rattle.cc_host.proofs.Keeping.{step-keeps}
+use Rattle.cc_host.proofs.host.Host.set_script_root.Goals as goal
+
+pub invariant_of-self : goal.invariant_of-self
+invariant_of-self c =
+    step-keeps c.self.inside.heaps c.root_script.new.heaps c.self.inside.collector c.self.inside.mark c.root_script.ensures.step c.self.invariant

@@ -1,0 +1,32 @@
+use Rattle.std.proofs.Common.{◌≡◌, Some, sym, ◌∙◌, ap, subst}
+use Rattle.cc_counted.specs.declared.held.Held.TheVariants.{Script}
+use Rattle.cc_heaps.specs.Changes.{IsBlackHeld}
+use Rattle.cc_host.proofs.Exposed.{exposed-names, exposed-step}
+use Rattle.cc_host.proofs.Exposing.{exposed-slots, exposed-stays, same-step}
+use Rattle.cc_host.proofs.steps.expose_held.Goals as goal
+
+pub returns-in-Some-Script-clause-step : goal.returns-in-Some-Script-clause-step
+returns-in-Some-Script-clause-step c = exposed-step c.args.heaps.now c.expose_key.new.heaps c.expose_key.ensures.exposes c.requires.ready
+
+pub returns-in-Some-Script-clause-black : goal.returns-in-Some-Script-clause-black
+returns-in-Some-Script-clause-black c =
+    let of : c.in-Some-Script.field-0 ≡ Script c.in-Some-Script.key = rw c.in-Some-Script.is at c.in-Some-Script.field-0-is in
+    subst (IsBlackHeld c.expose_key.new.heaps) (sym (c.in-Some-Script.is ∙ ap (λ x. Some x) of)) c.expose_key.ensures.black
+
+pub returns-in-Some-Script-clause-stays : goal.returns-in-Some-Script-clause-stays
+returns-in-Some-Script-clause-stays c = exposed-stays c.args.heaps.now c.expose_key.new.heaps c.expose_key.ensures.exposes
+
+pub returns-in-Some-Script-clause-slots : goal.returns-in-Some-Script-clause-slots
+returns-in-Some-Script-clause-slots c = exposed-slots c.args.heaps.now c.expose_key.new.heaps c.expose_key.ensures.exposes
+
+pub returns-in-Some-Script-clause-names : goal.returns-in-Some-Script-clause-names
+returns-in-Some-Script-clause-names c = exposed-names c.args.heaps.now c.expose_key.new.heaps c.expose_key.ensures.exposes
+
+pub returns-in-Some-Script-clause-reached : goal.returns-in-Some-Script-clause-reached
+returns-in-Some-Script-clause-reached c = c.expose_key.ensures.exposes.reached
+
+pub returns-clause-step : goal.returns-clause-step
+returns-clause-step c = same-step c.args.heaps.now c.requires.ready
+
+pub returns-2-clause-step : goal.returns-2-clause-step
+returns-2-clause-step c = same-step c.args.heaps.now c.requires.ready

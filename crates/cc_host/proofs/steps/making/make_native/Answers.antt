@@ -1,0 +1,41 @@
+use Rattle.std.proofs.Common.{◌≡◌, ◌+◌, None, Some, sym, ◌∙◌, ap, arith}
+use Rattle.cc_names.specs.Names.{native}
+use Rattle.cc_heaps.specs.Changes.{native_name}
+use Rattle.cc_host.specs.Hosted.{spare}
+use Rattle.cc_host.proofs.Making.{native-held, native-beside}
+use Rattle.cc_host.proofs.steps.making.make_native.Goals as goal
+
+pub unreachable-requires : goal.unreachable-requires
+unreachable-requires g c =
+    let h = c.args.heaps.now.heap in
+    let w = c.new_native.new.self in
+    let e = c.in_ok-new_native.ensures in
+    let held = native-held h w.heap c.args.r c.args.slots (omega (arith, c.requires.within)) c.requires.slots (λ few. let full = e.full_always few in absurd (cc)) c.requires.ready.order.sound e.heap in
+    let both : None ≡ Some (native (h.natives_made + 1)) = sym (ap (native_name w) c.in-None.is) ∙ (c.native_reg.ensures.name ∙ held) in
+    absurd (cc)
+
+pub returns-clause-step : goal.returns-clause-step
+returns-clause-step g c =
+    let h = c.args.heaps.now.heap in
+    let w = c.new_native.new.self in
+    let e = c.in_ok-new_native.ensures in
+    record {
+      kept = e.kept;
+      spared = native-beside h w.heap c.args.r c.args.slots (omega (arith, c.requires.within)) c.requires.slots (λ few. let full = e.full_always few in absurd (cc)) c.requires.ready.order.sound e.heap spare (λ same. omega (arith, c.requires.within, same))
+          ∙ c.requires.ready.spared;
+      stands = λ d. e.stands;
+    }
+
+pub returns-clause-name : goal.returns-clause-name
+returns-clause-name g c =
+    let h = c.args.heaps.now.heap in
+    let w = c.new_native.new.self in
+    let e = c.in_ok-new_native.ensures in
+    sym (ap (native_name w) c.in-Some.is)
+    ∙ (c.native_reg.ensures.name ∙ native-held h w.heap c.args.r c.args.slots (omega (arith, c.requires.within)) c.requires.slots (λ few. let full = e.full_always few in absurd (cc)) c.requires.ready.order.sound e.heap)
+
+pub returns-clause-held : goal.returns-clause-held
+returns-clause-held g c =
+    let h = c.args.heaps.now.heap in
+    let e = c.in_ok-new_native.ensures in
+    native-held h c.new_native.new.self.heap c.args.r c.args.slots (omega (arith, c.requires.within)) c.requires.slots (λ few. let full = e.full_always few in absurd (cc)) c.requires.ready.order.sound e.heap

@@ -1,0 +1,25 @@
+use Rattle.std.proofs.Common.{◌∙◌, ap, subst}
+use Rattle.cc_names.specs.declared.register.Reg.TheVariants.{N}
+use Rattle.cc_model.specs.Graph as graph
+use Rattle.cc_model.specs.Heap.{Heap, register}
+use Rattle.cc_script.specs.Objects.{name_at}
+use Rattle.cc_heaps.specs.Standing.{IsReached, StandsAfter}
+use Rattle.cc_host.specs.Hosted.{spare}
+use Rattle.cc_host.proofs.Exposed.{KeepsAll-after, StandsAfter-still}
+use Rattle.cc_host.proofs.Making.{proxy-beside}
+use Rattle.cc_host.proofs.steps.making.make_proxy.Goals as goal
+
+pub returns-clause-step : goal.returns-clause-step
+returns-clause-step c =
+    let u = c.args.heaps.now in
+    let v = c.expose_key.new.heaps in
+    let w = c.new_proxy.new.self in
+    let e = c.expose_key.ensures in
+    let p = c.in_ok-new_proxy.ensures in
+    record {
+      kept = KeepsAll-after u v w e.exposes.keys e.exposes.same e.exposes.kept p.kept;
+      spared = ap (λ (h : Heap). register h (N spare)) p.heap ∙ (proxy-beside v.heap c.args.r (name_at v.scripts c.args.delegate.0) spare ∙ e.ready.spared);
+      stands = λ d. StandsAfter-still u.heap v.heap w.heap e.exposes.stands
+          (subst (λ x. IsReached v.heap x → StandsAfter v.heap w.heap (λ g. graph.with_proxy g c.args.r x)) (e.exposes.same c.args.delegate.0 c.requires.live).name p.stands
+          (e.exposes.reached _ d));
+    }

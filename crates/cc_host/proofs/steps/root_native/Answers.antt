@@ -1,0 +1,17 @@
+use Rattle.cc_heaps.proofs.FewCounts.{none-owned}
+use Rattle.cc_heaps.specs.Changes.{native_name}
+use Rattle.cc_host.proofs.Spare.{root-spared}
+use Rattle.cc_host.proofs.steps.root_native.Goals as goal
+
+pub set_native_reg-requires-clause-order : goal.set_native_reg-requires-clause-order
+set_native_reg-requires-clause-order g c = none-owned c.args.heaps.now c.requires.ready.order
+
+pub returns-clause-step : goal.returns-clause-step
+returns-clause-step g c =
+    let v = c.args.heaps.now in
+    let e = c.set_native_reg.ensures in
+    record {
+      kept = e.kept;
+      spared = root-spared v c.set_native_reg.new.self c.args.r (native_name v c.args.content) c.requires.within c.requires.ready e.heap;
+      stands = e.stands;
+    }

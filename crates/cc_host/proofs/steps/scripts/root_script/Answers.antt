@@ -1,0 +1,20 @@
+use Rattle.std.proofs.Common.{[], sym, subst}
+use Rattle.cc_heaps.specs.Changes.{script_name}
+use Rattle.cc_host.proofs.ScriptSteps.{StaysBeside, beside-none_left, beside-spared, hold_script-beside}
+use Rattle.cc_host.proofs.steps.scripts.root_script.Goals as goal
+
+pub set_script_reg-requires-clause-order : goal.set_script_reg-requires-clause-order
+set_script_reg-requires-clause-order c = ([], c.requires.ready.order)
+
+beside : (c : goal.After-set_script_reg) → StaysBeside c.args.heaps.now.heap c.set_script_reg.new.self.heap
+beside c =
+    let v = c.args.heaps.now in
+    subst (StaysBeside v.heap) (sym c.set_script_reg.ensures.heap) (hold_script-beside v.heap c.requires.ready.order.sound.well_formed c.args.r (script_name v c.args.content))
+
+pub returns-clause-step : goal.returns-clause-step
+returns-clause-step c =
+    let e = c.set_script_reg.ensures in
+    record { kept = e.kept; spared = beside-spared c.args.heaps.now c.set_script_reg.new.self (beside c) c.requires.ready.spared; stands = e.stands }
+
+pub returns-clause-none_left : goal.returns-clause-none_left
+returns-clause-none_left c = beside-none_left c.args.heaps.now c.set_script_reg.new.self (beside c)

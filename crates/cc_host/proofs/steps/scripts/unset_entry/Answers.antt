@@ -1,0 +1,20 @@
+use Rattle.std.proofs.Common.{[], None, sym, subst}
+use Rattle.cc_script.specs.Objects.{name_at}
+use Rattle.cc_host.proofs.ScriptSteps.{StaysBeside, beside-none_left, beside-spared, entry-beside}
+use Rattle.cc_host.proofs.steps.scripts.unset_entry.Goals as goal
+
+pub unset_entry-requires-clause-order : goal.unset_entry-requires-clause-order
+unset_entry-requires-clause-order c = ([], c.requires.ready.order)
+
+beside : (c : goal.After-unset_entry) → StaysBeside c.args.heaps.now.heap c.unset_entry.new.self.heap
+beside c =
+    let v = c.args.heaps.now in
+    subst (StaysBeside v.heap) (sym c.unset_entry.ensures.heap) (entry-beside v.heap (name_at v.scripts c.args.the_map.0) (name_at v.scripts c.args.key.0) None)
+
+pub returns-clause-step : goal.returns-clause-step
+returns-clause-step c =
+    let e = c.unset_entry.ensures in
+    record { kept = e.kept; spared = beside-spared c.args.heaps.now c.unset_entry.new.self (beside c) c.requires.ready.spared; stands = λ d. e.stands d.0 d.1 }
+
+pub returns-clause-none_left : goal.returns-clause-none_left
+returns-clause-none_left c = beside-none_left c.args.heaps.now c.unset_entry.new.self (beside c)

@@ -1,0 +1,65 @@
+use Rattle.std.proofs.Common.{[], Some, sym, subst}
+use Rattle.std.proofs.lemmas.Result.{on_err_weaker, on_ok_weaker}
+use Rattle.cc_lists.specs.Members.{Among}
+use Rattle.cc_names.specs.Names.{native}
+use Rattle.cc_model.specs.Graph as graph
+use Rattle.cc_heaps.specs.Keyed.{the_number}
+use Rattle.cc_heaps.specs.Changes.{native_name}
+use Rattle.cc_heaps.specs.Keeping.{KeepsAll}
+use Rattle.cc_heaps.specs.Standing.{IsReached, StandsAfter}
+use Rattle.cc_heaps.proofs.FewCounts.{none-owned}
+use Rattle.cc_heaps.proofs.Kept.{KeepsAll-reached}
+use Rattle.cc_host.specs.Holding.{IsLetGo}
+use Rattle.cc_host.proofs.Around.{around-step, nothing-step}
+use Rattle.cc_host.proofs.Composing.{tells-after}
+use Rattle.cc_host.proofs.Spare.{wrapped-leaves}
+use Rattle.cc_host.proofs.Storing.{held-reached, native_name-is}
+use Rattle.cc_host.proofs.Wrapping.{wrapped-natives, wrapped-none_left}
+use Rattle.cc_host.proofs.steps.wrap_native.Given as given
+use Rattle.cc_host.proofs.steps.wrap_native.Goals as goal
+
+pub wrap-made-requires-clause-order : goal.wrap-made-requires-clause-order
+wrap-made-requires-clause-order g c = none-owned c.hold.new.heaps (c.hold.ensures.held.kept.order [] c.requires.ready.order)
+
+pub let_go-requires : goal.let_go-requires
+let_go-requires g c =
+    let h = c.hold.ensures.held in
+    let k = KeepsAll-reached c.wrap-made.ensures.kept (held-reached c.args.heaps.now c.hold.new.heaps h c.requires.live) in
+    record { order = k.order [] (h.kept.order [] c.requires.ready.order) }
+
+kept : (g : given.Over) (c : goal.After-let_go g) → KeepsAll c.hold.new.heaps c.wrap-made.new.heaps
+kept g c = KeepsAll-reached c.wrap-made.ensures.kept (held-reached c.args.heaps.now c.hold.new.heaps c.hold.ensures.held c.requires.live)
+
+pub returns-clause-step : goal.returns-clause-step
+returns-clause-step g c =
+    let v = c.args.heaps.now in
+    let w = c.hold.new.heaps in
+    let u = c.wrap-made.new.heaps in
+    let h = c.hold.ensures.held in
+    let x = native_name v (Some c.args.key) in
+    on_ok_weaker c.wrap-made.result (λ stands. around-step v w u c.let_go.new.heaps c.requires.ready h (kept g c) c.let_go.ensures.empty (IsReached v.heap x)
+    (λ k. graph.wrapped k x) (wrapped-leaves x) (λ p. p)
+    (λ p. subst (λ z. StandsAfter w.heap u.heap (λ k. graph.wrapped k z)) (sym (native_name-is v w h.keys c.args.key c.requires.live))
+    (stands (held-reached v w h c.requires.live)))) c.wrap-made.ensures.stands
+
+pub returns-clause-tried : goal.returns-clause-tried
+returns-clause-tried g c =
+    let v = c.args.heaps.now in
+    let w = c.hold.new.heaps in
+    on_err_weaker c.wrap-made.result (λ same. nothing-step v w c.let_go.new.heaps c.requires.ready c.hold.ensures.held
+    (subst (λ u. IsLetGo u c.let_go.new.heaps) same c.let_go.ensures.empty)) c.wrap-made.ensures.same
+
+pub returns-clause-tells : goal.returns-clause-tells
+returns-clause-tells g c =
+    let v = c.args.heaps.now in
+    let w = c.hold.new.heaps in
+    let u = c.wrap-made.new.heaps in
+    let h = c.hold.ensures.held in
+    let e = c.wrap-made.ensures in
+    let k = the_number w c.args.key.0 in
+    let early = h.kept.order [] c.requires.ready.order in
+    let late = (kept g c).order [] early in
+    tells-after v.heap u.heap c.let_go.new.heaps.heap (g.N.Notices.telling c.args.out.now) (g.N.Notices.telling c.hold.new.out) (g.N.Notices.telling c.let_go.new.out) c.hold.ensures.told
+    (λ x m. wrapped-none_left w u k c.wrap-made.result early late e.heap e.same x (subst (Among x) (sym h.names) m))
+    (λ j m. subst (Among (native j)) h.names (wrapped-natives w u k c.wrap-made.result early late e.heap e.same j m))
+    c.let_go.ensures.tells

@@ -1,0 +1,40 @@
+-- WHAT A CALL OF A HOST COMES TO.
+use Rattle.std.specs.Prelude.{◌≡◌, ℕ, Option, Some, None}
+use Rattle.cc_names.specs.declared.name.Name.{Name}
+use Rattle.cc_model.specs.Graph.{Graph, preserve, set_slot}
+use Rattle.cc_model.specs.Telling.{Telling}
+use Rattle.cc_gc.specs.Sparing.{KeepsWhatIsReached}
+use Rattle.cc_collector.specs.Collected.{TellsWhatLeaves}
+use Rattle.cc_heaps.specs.Changes.{KeepsKeys}
+use Rattle.cc_heaps.specs.Leaving.{TellsWhatIsFreed}
+use Rattle.cc_heaps.specs.Standing.{StandsAfter, StillStands}
+use Rattle.cc_host.specs.Hosted.{Hosted}
+use Rattle.cc_host.specs.declared.object.Object.{Object}
+
+-- with no premise
+abbrev pub Always : Type 0
+Always = Unit {0}
+
+-- A CALL CHANGES THE GRAPH SO, where the premise holds: that what is handed in is reached. Also where it doesn't hold no
+-- object gets another key, and the running collection goes on.
+pub record Does (premise : Type 0) (change : Graph → Graph) (old new : Hosted) : Type 0 where
+  pub stands : premise → StandsAfter old.heaps.heap new.heaps.heap change
+  pub keys : KeepsKeys old.heaps new.heaps
+  pub running : new.running ≡ old.running
+  pub mark : new.mark ≡ old.mark
+
+-- WHAT LEFT BY A CALL IS TOLD: natives that lost their last reference, each once, and nothing else
+abbrev pub TellsFreed : Hosted → Hosted → Telling → Telling → Type 0
+TellsFreed old new before after = TellsWhatIsFreed old.heaps.heap new.heaps.heap before after
+
+-- A COLLECTION LEAVES THE GRAPH as it is; what the roots reach stays as it was, and what leaves is told
+pub record Collects (old new : Hosted) (before after : Telling) : Type 0 where
+  pub stands : StillStands old.heaps.heap new.heaps.heap
+  pub keeps : KeepsWhatIsReached old.heaps.heap new.heaps.heap
+  pub tells : TellsWhatLeaves old.heaps.heap new.heaps.heap before after
+  pub keys : KeepsKeys old.heaps new.heaps
+  pub mark : new.mark ≡ old.mark
+
+-- slot i of an object written; a reflector is preserved before
+abbrev pub stored : Object → ℕ → Option Name → Graph → Graph
+stored x i y g = set_slot (preserve g (Some x.name)) (Some x.name) i y

@@ -1,0 +1,84 @@
+-- WHAT A HOST IS: the heaps, the collection that runs in them, and the mark by which its objects are known.
+use Rattle.std.specs.Prelude.{◌≡◌, ℕ, Bool, false, Option, Some, None, option_map}
+use Rattle.cc_names.specs.declared.name.Name.{Name}
+use Rattle.cc_names.specs.declared.name.Name.TheVariants as name
+use Rattle.cc_names.specs.declared.register.Reg.TheVariants.{N}
+use Rattle.cc_names.specs.Names.{native, same_name}
+use Rattle.cc_model.specs.Checks.{slots_or_none}
+use Rattle.cc_model.specs.Collecting.{Machine}
+use Rattle.cc_model.specs.Heap.{register, slots_in}
+use Rattle.cc_model.specs.Slots.{Slots}
+use Rattle.cc_script.specs.Objects.{name_at}
+use Rattle.cc_builder.specs.Building.{Built}
+use Rattle.cc_laws_run.specs.Doomed.{IsSuspectedNow}
+use Rattle.cc_heaps.specs.Keyed.{Keyed, number_at}
+use Rattle.cc_heaps.specs.Standing.{IsReached}
+use Rattle.cc_collector.specs.Kept.{RunsIn, machine_of}
+use Rattle.cc_host.specs.declared.host.TheConstants.{ROOTS}
+use Rattle.cc_host.specs.declared.object.Object.{Object}
+
+pub record Hosted : Type 0 where
+  pub heaps : Keyed
+  pub running : Option Built
+  pub mark : ℕ
+
+-- the heaps and the running collection, as the plain run has them
+abbrev pub machine : Hosted → Machine
+machine h = machine_of h.heaps.heap h.running
+
+-- so many native registers are roots, and so many script registers
+abbrev pub roots : ℕ
+roots = ROOTS
+
+-- the native register behind them, which the host keeps for itself
+abbrev pub spare : ℕ
+spare = ROOTS
+
+-- WHAT A HOST KEEPS between its calls: the collector runs in the heaps, no native that nothing reaches is forgotten, and the
+-- register that the host keeps for itself holds nothing
+pub record IsKept (h : Hosted) : Type 0 where
+  pub runs : RunsIn h.heaps h.running
+  pub suspected : IsSuspectedNow (machine h)
+  pub spared : register h.heaps.heap (N spare) ≡ None
+
+-- Objects
+
+-- the name of what stands at the key of an object, among natives where it names a native, else among script objects
+abbrev pub name_found : Hosted → Object → Option Name
+name_found h x = elim x.name [
+  | name.Native k ↦ option_map native (number_at h.heaps x.key)
+  | name.Script k ↦ name_at h.heaps.scripts x.key
+  | name.Reflector k ↦ name_at h.heaps.scripts x.key
+]
+
+abbrev pub is_name : Name → Option Name → Bool
+is_name x None = false
+is_name x (Some y) = same_name y x
+
+-- whether an object is there: at its key stands what it names
+abbrev pub is_found : Hosted → Object → Bool
+is_found h x = is_name x.name (name_found h x)
+
+-- THE OBJECT IS THERE, and it is this host's
+abbrev pub IsThere : Hosted → Object → Type 0
+IsThere h x = (x.mark ≡ h.mark) × (name_found h x ≡ Some x.name)
+
+-- what is handed in or read, by its name
+abbrev pub named : Option Object → Option Name
+named x = option_map (λ o. o.name) x
+
+abbrev pub IsThereIfAny : Hosted → Option Object → Type 0
+IsThereIfAny h None = Unit {0}
+IsThereIfAny h (Some x) = IsThere h x
+
+-- its slots; none of a weak map, of a proxy, and of what is not there
+abbrev pub slots_of : Hosted → Object → Slots
+slots_of h x = slots_or_none (slots_in h.heaps.heap x.name)
+
+-- A ROOT REACHES IT
+abbrev pub IsRooted : Hosted → Object → Type 0
+IsRooted h x = IsReached h.heaps.heap (Some x.name)
+
+-- or nothing is handed in
+abbrev pub IsRootedIfAny : Hosted → Option Object → Type 0
+IsRootedIfAny h x = IsReached h.heaps.heap (named x)

@@ -1,0 +1,6 @@
+pub mod Hosted
+pub mod Stops
+pub mod Calls
+pub mod Steps
+pub mod Holding
+pub mod Exposing

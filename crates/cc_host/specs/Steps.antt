@@ -1,0 +1,32 @@
+-- A STEP OF A HOST: one change of the heaps that may come at any time.
+use Rattle.std.specs.Prelude.{◌≡◌, [], Option, Some, None}
+use Rattle.cc_names.specs.declared.number.NKey.{NKey}
+use Rattle.cc_names.specs.declared.number.SKey.{SKey}
+use Rattle.cc_names.specs.declared.register.Reg.TheVariants.{N}
+use Rattle.cc_names.specs.declared.name.Name.{Name}
+use Rattle.cc_names.specs.Names.{native}
+use Rattle.cc_model.specs.Graph.{Graph}
+use Rattle.cc_model.specs.Heap.{Heap, register}
+use Rattle.cc_heaps.specs.Keyed.{Keyed, IsInOrder}
+use Rattle.cc_heaps.specs.Changes.{native_name, script_name}
+use Rattle.cc_heaps.specs.Keeping.{KeepsAll}
+use Rattle.cc_heaps.specs.Standing.{StandsAfter}
+use Rattle.cc_counted.specs.declared.held.Held.{Held}
+use Rattle.cc_heaps.specs.Changes.{IsThere, held_name}
+use Rattle.cc_host.specs.Hosted.{spare}
+
+-- what the heaps are before it: in order, nothing owned, and the host's own register empty
+pub record IsReady (v : Keyed) : Type 0 where
+  pub order : IsInOrder [] v
+  pub spared : register v.heap (N spare) ≡ None
+
+-- IT KEEPS ALL, leaves the host's own register empty, and changes the graph so where the premise holds
+pub record IsStep (premise : Type 0) (change : Graph → Graph) (old new : Keyed) : Type 0 where
+  pub kept : KeepsAll old new
+  pub spared : register new.heap (N spare) ≡ None
+  pub stands : premise → StandsAfter old.heap new.heap change
+
+-- what is held is as it was: it is there, under its name
+pub record StaysThere (old new : Keyed) : Type 0 where
+  pub there : (x : Option Held) → IsThere old x → IsThere new x
+  pub same : (x : Option Held) → IsThere old x → held_name new x ≡ held_name old x

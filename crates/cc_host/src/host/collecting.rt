@@ -1,0 +1,106 @@
+//! Collections, whole and in slices.
+ghost use Rattle.std.specs.Prelude.{◌≡◌, ◌≢◌, ◌<◌, ℕ, [], None, Ok, OnErr, OnOk, is_some};
+ghost use Rattle.cc_model.specs.End.{at_end, refused};
+ghost use Rattle.cc_laws_run.specs.Doomed.{IsSuspectedNow};
+ghost use Rattle.cc_heaps.specs.Keeping.{KeepsHeaps};
+ghost use Rattle.cc_heaps.specs.Standing.{StillStands};
+ghost use Rattle.cc_gc.specs.Sparing.{KeepsWhatIsReached};
+ghost use Rattle.cc_collector.specs.Collected.{IsCollected, IsSliced, IsSwept, TellsWhatLeaves, progress_of};
+ghost use Rattle.cc_collector.specs.Kept.{RunsIn, machine_of};
+ghost use Rattle.cc_collector.specs.Settled.{HasWhatIsReached};
+ghost use Rattle.cc_host.specs.Calls.{Collects};
+ghost use Rattle.cc_host.specs.Hosted.{machine};
+
+use crate::host::Host;
+use cc_collector::{Collector, Ended, Steps};
+use cc_heaps::Heaps;
+use cc_model::Notices;
+use cc_names::NoMemory;
+use std::marker::Brand;
+use std::sync::ledger::{Blank, Ledger};
+
+impl Host {
+    /// Whether a collection runs.
+    pub fn running(&self) -> bool
+        ensures { result ≡ is_some self.now.running }
+    {
+        self.collector.running()
+    }
+
+    /// A few units of the running collection, or of one that begins here where none runs: to be called in each frame of a
+    /// program. See `Collector::slice`.
+    ///
+    /// `Ended::Yes` where a collection came to its end. `NoMemory`, where memory was wanted: the collection is given up, which
+    /// is told, and nothing is lost or forgotten.
+    pub fn slice<N: Notices>(&mut self, units: u32, out: &mut N) -> Result<Ended, NoMemory>
+        ensures collects { Collects self.old self.new (N.telling out.old) (N.telling out.new) }
+        ensures sliced { (steps : ℕ) × IsSliced units (machine self.old) (machine self.new) (progress_of result) 0 steps (N.telling out.old) (N.telling out.new) }
+        ensures over { result ≢ Ok Ended.No → self.new.running ≡ None }
+    {
+        slice::<Brand, N>(
+            &mut self.heaps,
+            &mut self.collector,
+            units,
+            out,
+            Blank::new(1),
+        )
+    }
+
+    /// A whole collection; one that runs is ended first. See `Collector::whole`.
+    ///
+    /// `NoMemory` as in a slice.
+    pub fn collect<N: Notices>(&mut self, out: &mut N) -> Result<(), NoMemory>
+        ensures collects { Collects self.old self.new (N.telling out.old) (N.telling out.new) }
+        ensures done { OnOk result (IsCollected (machine self.old) (machine self.new) at_end (N.telling out.old) (N.telling out.new)) }
+        ensures refused { OnErr result (IsCollected (machine self.old) (machine self.new) refused (N.telling out.old) (N.telling out.new)) }
+        ensures over { self.new.running ≡ None }
+    {
+        self.collector.whole(&mut self.heaps, out)
+    }
+
+    /// A script collection, before which a collection that runs is ended. See `Collector::gc`.
+    pub fn gc<N: Notices>(&mut self, out: &mut N)
+        ensures collects { Collects self.old self.new (N.telling out.old) (N.telling out.new) }
+        ensures swept { IsSwept (machine self.old) (machine self.new) (N.telling out.old) (N.telling out.new) }
+        ensures over { self.new.running ≡ None }
+    {
+        self.collector.gc(&mut self.heaps, out);
+    }
+
+    /// Leaves exactly what the roots reach: `gc`, a whole collection, and `gc`. See `Collector::settle`.
+    ///
+    /// `NoMemory`, where memory was wanted: nothing is lost or forgotten, and it can be called again.
+    pub fn settle<N: Notices>(&mut self, out: &mut N) -> Result<(), NoMemory>
+        ensures exact { OnOk result (HasWhatIsReached self.new.heaps.heap) }
+        ensures collects { Collects self.old self.new (N.telling out.old) (N.telling out.new) }
+        ensures over { self.new.running ≡ None }
+    {
+        self.collector.settle(&mut self.heaps, out)
+    }
+}
+
+/// Units of a collection that nobody counts.
+fn slice<L: Ledger, N: Notices>(
+    heaps: &mut Heaps,
+    collector: &mut Collector,
+    units: u32,
+    out: &mut N,
+    blank: Blank,
+) -> Result<Ended, NoMemory>
+    requires runs { RunsIn heaps.old collector.old }
+    requires name { blank.name ≡ L.name }
+    requires parts { blank.parts ≡ L.parts }
+    requires some { 0 < L.parts }
+    ensures sliced { (steps : ℕ) × IsSliced units (machine_of heaps.old.heap collector.old) (machine_of heaps.new.heap collector.new)
+        (progress_of result) 0 steps (N.telling out.old) (N.telling out.new) }
+    ensures over { result ≢ Ok Ended.No → collector.new ≡ None }
+    ensures keeps { KeepsWhatIsReached heaps.old.heap heaps.new.heap }
+    ensures tells { TellsWhatLeaves heaps.old.heap heaps.new.heap (N.telling out.old) (N.telling out.new) }
+    ensures stands { StillStands heaps.old.heap heaps.new.heap }
+    ensures suspected { IsSuspectedNow (machine_of heaps.old.heap collector.old) → IsSuspectedNow (machine_of heaps.new.heap collector.new) }
+    ensures kept { KeepsHeaps [] [] heaps.old heaps.new }
+    ensures runs { RunsIn heaps.new collector.new }
+{
+    let mut steps = Steps::<L>::new(blank);
+    collector.slice(heaps, units, out, &mut steps)
+}

@@ -1,0 +1,43 @@
+//! Entries of weak maps.
+ghost use Rattle.std.specs.Prelude.{◌≡◌, Some, None, OnErr, OnOk};
+ghost use Rattle.cc_model.specs.Graph as graph;
+ghost use Rattle.cc_host.specs.Calls.{Always, Does};
+ghost use Rattle.cc_host.specs.Hosted.{IsRooted};
+ghost use Rattle.cc_host.specs.Stops.{IsStoppedBy, IsStoppedOrRefused, stop_entry, stop_setting};
+
+use crate::host::Host;
+use crate::object::Object;
+use crate::steps;
+use crate::stop::Stop;
+
+impl Host {
+    /// A key has a value in a weak map from then on: its entry keeps its place, or goes last where there was none. A key that
+    /// is a reflector is preserved.
+    ///
+    /// `NoMemory` leaves the graph as it is (`tried`), and comes only where there was no entry.
+    pub fn set_entry(&mut self, the_map: Object, key: Object, value: Object) -> Result<(), Stop>
+        ensures stops { IsStoppedOrRefused (stop_setting self.old the_map key value) result }
+        ensures does { OnOk result (Does (IsRooted self.old the_map × IsRooted self.old key × IsRooted self.old value)
+            (λ g. graph.set_entry g (Some the_map.name) (Some key.name) (Some value.name)) self.old self.new) }
+        ensures tried { OnErr result (Does Always (λ g. g) self.old self.new) }
+    {
+        let the_map = self.map(the_map)?;
+        let key = self.script(key)?;
+        let value = self.script(value)?;
+        steps::set_entry(&mut self.heaps, the_map, key, value)?;
+        Ok(())
+    }
+
+    /// A key has no value in a weak map from then on. Takes no memory.
+    pub fn unset_entry(&mut self, the_map: Object, key: Object) -> Result<(), Stop>
+        ensures stops { IsStoppedBy (stop_entry self.old the_map key) result }
+        ensures does { OnOk result (Does (IsRooted self.old the_map × IsRooted self.old key)
+            (λ g. graph.set_entry g (Some the_map.name) (Some key.name) None) self.old self.new) }
+        ensures same { OnErr result (self.new ≡ self.old) }
+    {
+        let the_map = self.map(the_map)?;
+        let key = self.script(key)?;
+        steps::unset_entry(&mut self.heaps, the_map, key);
+        Ok(())
+    }
+}

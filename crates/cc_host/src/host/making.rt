@@ -1,0 +1,107 @@
+//! Objects made. Each stands in a root from then on.
+ghost use Rattle.std.specs.Prelude.{◌≡◌, ◌+◌, Some, None, Err, IfOk, OnErr, OnOk};
+ghost use Rattle.cc_names.specs.Names.{native, object};
+ghost use Rattle.cc_names.specs.declared.register.Reg.TheVariants.{N as n_register, S as s_register};
+ghost use Rattle.cc_model.specs.declared.command.Command.TheVariants as command;
+ghost use Rattle.cc_model.specs.Graph as graph;
+ghost use Rattle.cc_model.specs.Heap.{register};
+ghost use Rattle.cc_host.specs.Calls.{Always, Does, TellsFreed};
+ghost use Rattle.cc_host.specs.Hosted.{IsRooted, IsThere};
+ghost use Rattle.cc_host.specs.Stops.{IsStoppedOrRefused, are_natives_made, are_scripts_made, stop_making, stop_proxy};
+
+use crate::host::{Host, ROOTS};
+use crate::object::Object;
+use crate::steps::{make_map, make_native, make_plain, make_proxy};
+use crate::stop::Stop;
+use cc_model::Notices;
+use cc_names::{MOST_SLOTS, RegNo, SlotNo};
+
+impl Host {
+    /// Makes a native with `slots` empty slots (0 to 256), which native root `r` holds from then on.
+    ///
+    /// What the root held is given up, and what then has no reference is deleted and told.
+    pub fn new_native<N: Notices>(
+        &mut self,
+        r: RegNo,
+        slots: SlotNo,
+        out: &mut N,
+    ) -> Result<Object, Stop>
+        ensures stops { IsStoppedOrRefused (stop_making r slots (are_natives_made self.old)) result }
+        ensures does { OnOk result (Does Always (λ g. graph.step g (command.Native r slots)) self.old self.new) }
+        ensures there { IfOk result (λ x. IsThere self.new x) }
+        ensures name { IfOk result (λ x. x.name ≡ native (self.old.heaps.heap.natives_made + 1)) }
+        ensures held { IfOk result (λ x. register self.new.heaps.heap (n_register r) ≡ Some x.name) }
+        ensures same { OnErr result (self.new ≡ self.old) }
+        ensures tells { TellsFreed self.old self.new (N.telling out.old) (N.telling out.new) }
+    {
+        if r >= ROOTS || slots > MOST_SLOTS {
+            return Err(Stop::Index);
+        }
+        let key = make_native(&mut self.heaps, r, slots, out)?;
+        match self.of_native(Some(key)) {
+            Some(made) => Ok(made),
+            None => unreachable!(),
+        }
+    }
+
+    /// Makes a plain script object with `slots` empty slots (0 to 256), which script root `r` holds from then on.
+    pub fn new_plain(&mut self, r: RegNo, slots: SlotNo) -> Result<Object, Stop>
+        ensures stops { IsStoppedOrRefused (stop_making r slots (are_scripts_made self.old)) result }
+        ensures does { OnOk result (Does Always (λ g. graph.step g (command.Script r slots)) self.old self.new) }
+        ensures there { IfOk result (λ x. IsThere self.new x) }
+        ensures name { IfOk result (λ x. x.name ≡ object (self.old.heaps.heap.scripts_made + 1)) }
+        ensures held { IfOk result (λ x. register self.new.heaps.heap (s_register r) ≡ Some x.name) }
+        ensures same { OnErr result (self.new ≡ self.old) }
+    {
+        if r >= ROOTS || slots > MOST_SLOTS {
+            return Err(Stop::Index);
+        }
+        let key = make_plain(&mut self.heaps, r, slots)?;
+        match self.of_script(Some(key)) {
+            Some(made) => Ok(made),
+            None => unreachable!(),
+        }
+    }
+
+    /// Makes a weak map without entries, which script root `r` holds from then on.
+    pub fn new_map(&mut self, r: RegNo) -> Result<Object, Stop>
+        ensures stops { IsStoppedOrRefused (stop_making r 0 (are_scripts_made self.old)) result }
+        ensures does { OnOk result (Does Always (λ g. graph.step g (command.WeakMap r)) self.old self.new) }
+        ensures there { IfOk result (λ x. IsThere self.new x) }
+        ensures name { IfOk result (λ x. x.name ≡ object (self.old.heaps.heap.scripts_made + 1)) }
+        ensures held { IfOk result (λ x. register self.new.heaps.heap (s_register r) ≡ Some x.name) }
+        ensures same { OnErr result (self.new ≡ self.old) }
+    {
+        if r >= ROOTS {
+            return Err(Stop::Index);
+        }
+        let key = make_map(&mut self.heaps, r)?;
+        match self.of_script(Some(key)) {
+            Some(made) => Ok(made),
+            None => unreachable!(),
+        }
+    }
+
+    /// Makes a proxy of a script object, its delegate for good, which script root `r` holds from then on. A delegate that is a
+    /// reflector is preserved.
+    ///
+    /// `Full` and `NoMemory` leave the graph as it is (`tried`): the delegate was exposed to script.
+    pub fn new_proxy(&mut self, r: RegNo, delegate: Object) -> Result<Object, Stop>
+        ensures stops { IsStoppedOrRefused (stop_proxy self.old delegate r) result }
+        ensures does { OnOk result (Does (IsRooted self.old delegate) (λ g. graph.with_proxy g r (Some delegate.name)) self.old self.new) }
+        ensures there { IfOk result (λ x. IsThere self.new x) }
+        ensures name { IfOk result (λ x. x.name ≡ object (self.old.heaps.heap.scripts_made + 1)) }
+        ensures held { IfOk result (λ x. register self.new.heaps.heap (s_register r) ≡ Some x.name) }
+        ensures tried { OnErr result (Does Always (λ g. g) self.old self.new) }
+    {
+        let delegate = self.script(delegate)?;
+        if r >= ROOTS {
+            return Err(Stop::Index);
+        }
+        let key = make_proxy(&mut self.heaps, r, delegate)?;
+        match self.of_script(Some(key)) {
+            Some(made) => Ok(made),
+            None => unreachable!(),
+        }
+    }
+}

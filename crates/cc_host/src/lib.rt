@@ -1,0 +1,23 @@
+//! A host of the collector whose calls ask nothing of who calls: both heaps, and the collector that runs in them.
+//!
+//! What a program keeps of an object is an `Object`: its name, the key at which it stands, and the mark of its host. It may be
+//! kept for ever. Each call takes any `Object` at all, and answers a `Stop` exactly where it can't do what is asked: for one
+//! of another host, one that is gone, one of the wrong kind, an index that is not there, a limit reached, want of memory. Then
+//! nothing changed. No call has a `requires`.
+//!
+//! What is alive is what the roots reach: 1023 roots hold natives, and 1023 hold script objects. The host sees to all that
+//! the heaps want of a caller: what is stored is exposed to script before, a reflector that is written is preserved before,
+//! and a native that is written is held meanwhile, so that nothing is forgotten.
+//!
+//! The contracts say of each call what it makes of an object graph from which nothing is freed (`Does`), and of each
+//! collection that it leaves the graph as it is, tells what leaves, and spares what the roots reach (`Collects`).
+#![tactic(auto)]
+
+mod host;
+mod object;
+mod steps;
+mod stop;
+
+pub use host::{Host, ROOTS};
+pub use object::Object;
+pub use stop::Stop;

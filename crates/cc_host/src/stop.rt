@@ -1,0 +1,52 @@
+//! Why a host did not do what was asked.
+ghost use Rattle.std.specs.Prelude.{◌≡◌};
+ghost use Rattle.cc_host.specs.Stops.{stop_of_making, out_of_memory};
+
+use cc_heaps::MakeStop;
+use cc_names::NoMemory;
+use thiserror::Error;
+
+/// Why a host did not do what was asked. Nothing changed.
+///
+/// The objects of a call are tried in the order in which they are handed in, each for the first three; then the indexes,
+/// then the limit, then memory.
+#[derive(Clone, Copy, Debug, PartialEq, Eq, Drop, Error)]
+pub enum Stop {
+    /// An object is of another host.
+    #[error("an object is of another host")]
+    Foreign,
+    /// An object of this host is not there: it was freed, or there never was one.
+    #[error("an object is gone")]
+    Gone,
+    /// An object is of the wrong kind.
+    #[error("an object is of the wrong kind")]
+    Kind,
+    /// An index is not below the number of roots, or of an object's slots; or a number of slots is above 256.
+    #[error("there is no such root or slot")]
+    Index,
+    /// As many objects as the limit were ever made.
+    #[error("no more may be made")]
+    Full,
+    /// Want of memory.
+    #[error("out of memory")]
+    NoMemory,
+}
+
+impl From<NoMemory> for Stop {
+    ghost from_gives = { λ _ e. e ≡ out_of_memory };
+
+    fn from(_error: NoMemory) -> Stop {
+        Stop::NoMemory
+    }
+}
+
+impl From<MakeStop> for Stop {
+    ghost from_gives = { λ stop e. e ≡ stop_of_making stop };
+
+    fn from(stop: MakeStop) -> Stop {
+        match stop {
+            MakeStop::Full => Stop::Full,
+            MakeStop::NoMemory => Stop::NoMemory,
+        }
+    }
+}
