@@ -9,15 +9,19 @@
 //! the heaps want of a caller: what is stored is exposed to script before, a reflector that is written is preserved before,
 //! and a native that is written is held meanwhile, so that nothing is forgotten.
 //!
+//! What goes is told to any receiver; `Queue` keeps it until the program fetches it.
+//!
 //! The contracts say of each call what it makes of an object graph from which nothing is freed (`Does`), and of each
 //! collection that it leaves the graph as it is, tells what leaves, and spares what the roots reach (`Collects`).
 #![tactic(auto)]
 
 mod host;
 mod object;
+mod queue;
 mod steps;
 mod stop;
 
 pub use host::{Host, ROOTS};
 pub use object::Object;
+pub use queue::Queue;
 pub use stop::Stop;

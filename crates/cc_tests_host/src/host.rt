@@ -1,7 +1,7 @@
 //! A host in use: cycles in frames, each cause of a stop, objects of another host, and objects whose key is another's by now.
 use cc_collector::Ended;
-use cc_host::{Host, Object, ROOTS, Stop};
-use cc_model::Notebook;
+use cc_host::{Host, Object, Queue, ROOTS, Stop};
+use cc_model::{Event, Item, Notebook};
 use cc_names::{Kind, Limits, Name, NativeNo, RegNo, ScriptNo};
 use std::alloc::Global;
 use std::test::Fail;
@@ -327,6 +327,28 @@ fn tells_of_a_cycle(alloc: Global) -> bool {
 #[test]
 fn what_goes_is_told(rt: HostRuntime) {
     assert!(rt; tells_of_a_cycle(rt.alloc()));
+}
+
+// What a queue was told of a native that is let go, item by item.
+fn fetches(host: &mut Host, told: &mut Queue) -> bool {
+    let made = host.new_native(0, 0, told).is_ok();
+    let let_go = host.set_native_root(0, None, told).is_ok();
+    let freed = told.next() == Some(Item::Event(Event::Freed(Name::Native(NativeNo(1)))));
+    told.mend();
+    made & let_go & freed & told.next().is_none() & !told.is_broken()
+}
+
+fn fetches_what_is_told(alloc: Global) -> bool {
+    let mut told = Queue::new(alloc);
+    match Host::new(alloc, Limits::new(10, 10, 0), 1) {
+        Ok(mut host) => fetches(&mut host, &mut told),
+        Err(_) => false,
+    }
+}
+
+#[test]
+fn what_is_told_is_fetched_once(rt: HostRuntime) {
+    assert!(rt; fetches_what_is_told(rt.alloc()));
 }
 
 #[test]
