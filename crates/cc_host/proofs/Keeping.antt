@@ -1,5 +1,5 @@
 -- A STEP KEEPS WHAT A HOST KEEPS, and is what a call comes to.
-use Rattle.std.proofs.Common.{◌≡◌, ℕ, Option, refl}
+use Rattle.std.proofs.Common.{ℕ, Option, refl}
 use Rattle.cc_model.specs.Graph.{Graph}
 use Rattle.cc_laws_run.specs.Doomed.{candidates_now}
 use Rattle.cc_builder.specs.Building.{Built}
@@ -7,15 +7,12 @@ use Rattle.cc_heaps.specs.Keyed.{Keyed}
 use Rattle.cc_collector.specs.Kept.{running_snapshot}
 use Rattle.cc_collector.proofs.GoingOn.{RunsIn-kept}
 use Rattle.cc_host.specs.Hosted.{Hosted, IsKept}
-use Rattle.cc_host.specs.Steps.{IsReady, IsStep}
+use Rattle.cc_host.specs.Steps.{IsStep}
 use Rattle.cc_host.specs.Calls.{Does}
 
 -- the host of these heaps
 abbrev pub hosted : Keyed → Option Built → ℕ → Hosted
 hosted v c m = record { heaps = v; running = c; mark = m }
-
-pub kept-ready : (v : Keyed) (c : Option Built) (m : ℕ) → IsKept (hosted v c m) → IsReady v
-kept-ready v c m k = record { order = k.runs.order; spared = k.spared }
 
 module _ {premise : Type 0} {change : Graph → Graph} (v w : Keyed) (c : Option Built) (m : ℕ) (t : IsStep premise change v w) where
   pub step-keeps : IsKept (hosted v c m) → IsKept (hosted w c m)

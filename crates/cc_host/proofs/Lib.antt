@@ -12,3 +12,4 @@ pub mod Finding
 pub mod Reading
 pub mod Stopping
 pub mod Collecting
+pub mod Rooted

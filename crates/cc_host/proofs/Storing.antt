@@ -87,7 +87,7 @@ black-same v w e (Some (held.Script key)) b = ap (λ os. colour_at os key.0) e �
 -- What is reached
 
 -- what a native register holds
-register-reached : (h : Heap) (r : ℕ) (x : Name) → get_or h.native_registers r None ≡ Some x → ReachedIn (view h) x
+pub register-reached : (h : Heap) (r : ℕ) (x : Name) → get_or h.native_registers r None ≡ Some x → ReachedIn (view h) x
 register-reached h r x e = derive-root (view h).registers (view h).edges (rules_of (joints h.entries)) x
     (Among-left x (contents h.native_registers) (contents h.script_registers) (contents-get h.native_registers r x e))
 

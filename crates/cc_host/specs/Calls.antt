@@ -1,5 +1,5 @@
 -- WHAT A CALL OF A HOST COMES TO.
-use Rattle.std.specs.Prelude.{◌≡◌, ℕ, Option, Some, None}
+use Rattle.std.specs.Prelude.{◌≡◌, ℕ, Option, Some}
 use Rattle.cc_names.specs.declared.name.Name.{Name}
 use Rattle.cc_model.specs.Graph.{Graph, preserve, set_slot}
 use Rattle.cc_model.specs.Telling.{Telling}

@@ -1,14 +1,9 @@
 -- A STEP OF A HOST: one change of the heaps that may come at any time.
-use Rattle.std.specs.Prelude.{◌≡◌, [], Option, Some, None}
-use Rattle.cc_names.specs.declared.number.NKey.{NKey}
-use Rattle.cc_names.specs.declared.number.SKey.{SKey}
+use Rattle.std.specs.Prelude.{◌≡◌, [], Option, None}
 use Rattle.cc_names.specs.declared.register.Reg.TheVariants.{N}
-use Rattle.cc_names.specs.declared.name.Name.{Name}
-use Rattle.cc_names.specs.Names.{native}
 use Rattle.cc_model.specs.Graph.{Graph}
-use Rattle.cc_model.specs.Heap.{Heap, register}
+use Rattle.cc_model.specs.Heap.{register}
 use Rattle.cc_heaps.specs.Keyed.{Keyed, IsInOrder}
-use Rattle.cc_heaps.specs.Changes.{native_name, script_name}
 use Rattle.cc_heaps.specs.Keeping.{KeepsAll}
 use Rattle.cc_heaps.specs.Standing.{StandsAfter}
 use Rattle.cc_counted.specs.declared.held.Held.{Held}

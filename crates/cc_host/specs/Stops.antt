@@ -1,9 +1,13 @@
 -- WHEN A CALL IS REFUSED: each cause is tested, in one order, and the first that is so is the answer.
-use Rattle.std.specs.Prelude.{◌≡◌, ◌==◌, ℕ, Bool, true, false, not, length, nat_le, nat_lt, Option, Some, None, Result, Err, IsOk}
+use Rattle.std.specs.Prelude.{◌≡◌, ◌==◌, ℕ, Bool, true, false, not, length, nat_le, nat_lt, Option, Some, None, is_none, option_and_then, Result, Err, IsOk}
 use Rattle.cc_names.specs.declared.kind.Kind.{Kind}
 use Rattle.cc_names.specs.declared.kind.Kind.TheVariants as kind
+use Rattle.cc_names.specs.declared.register.Reg.TheVariants.{N}
 use Rattle.cc_names.specs.Names.{is_native, is_reflector}
 use Rattle.cc_names.specs.Sizes.{most_slots}
+use Rattle.cc_model.specs.Checks.{slots_or_none}
+use Rattle.cc_model.specs.Heap.{register, slots_in}
+use Rattle.cc_model.specs.Slots.{Slots}
 use Rattle.cc_heaps.specs.declared.make_stop.MakeStop.{MakeStop}
 use Rattle.cc_heaps.specs.declared.make_stop.MakeStop.TheVariants as make
 use Rattle.cc_script.specs.Objects.{kind_at}
@@ -125,3 +129,13 @@ stop_entry h m k = first (stop_map h m) (stop_script h k)
 
 abbrev pub stop_setting : Hosted → Object → Object → Object → Option Stop
 stop_setting h m k v = first (stop_entry h m k) (stop_script h v)
+
+-- a slot of the native in a root is written: of what a root does not hold, it is gone
+abbrev pub slots_at_root : Hosted → ℕ → Slots
+slots_at_root h r = slots_or_none (option_and_then (slots_in h.heaps.heap) (register h.heaps.heap (N r)))
+
+abbrev pub stop_storing_at_root : Hosted → ℕ → ℕ → Option Object → Option Stop
+stop_storing_at_root h r i y =
+    first (stop_root r)
+    (first (where_so (is_none (register h.heaps.heap (N r))) Gone)
+    (first (stop_if_any stop_at h y) (where_so (nat_le (length (slots_at_root h r)) i) Index)))

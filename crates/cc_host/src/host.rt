@@ -12,6 +12,7 @@ mod collecting;
 mod entries;
 mod making;
 mod reading;
+mod rooted;
 mod writing;
 
 use crate::object::Object;

@@ -1,14 +1,15 @@
 //! The steps of a host: each is one change of the heaps, which keeps all that the collector wants of them.
 //!
 //! What is written is in a register of the host's own meanwhile, so that it is reached; what is stored is exposed before, so
-//! that it is black. When the native leaves that register again it is a suspect, and the next collection looks at it.
+//! that it is black. When the native leaves that register again it is a suspect, and the next collection looks at it. What a
+//! root holds needs no other register, and stays what it was.
 ghost use Rattle.std.specs.Prelude.{◌≡◌, ◌<◌, ℕ, [], length, Option, Some, None, IsSome, IfOk, OnOk, OnErr};
 ghost use Rattle.cc_names.specs.declared.name.Name.{Name};
 ghost use Rattle.cc_names.specs.declared.register.Reg.TheVariants.{N as n_register};
 ghost use Rattle.cc_model.specs.Checks.{reflector_of};
 ghost use Rattle.cc_model.specs.End.{slots_now};
 ghost use Rattle.cc_model.specs.Graph as graph;
-ghost use Rattle.cc_model.specs.Heap.{native_at};
+ghost use Rattle.cc_model.specs.Heap.{native_at, register};
 ghost use Rattle.cc_model.specs.Telling.{TellsEvents};
 ghost use Rattle.cc_model.specs.WellFormed.{names_there};
 ghost use Rattle.cc_counted.specs.Counts.{slots_of};
@@ -126,6 +127,28 @@ pub(crate) fn store_native<N: Notices>(
 {
     expose_held(heaps, content);
     store_black(heaps, key, i, content, out);
+}
+
+/// Slot `i` of the native in a root holds a native or a script object from then on, or nothing. The root keeps the native
+/// reached, so being written makes it no suspect.
+pub(crate) fn store_rooted<N: Notices>(
+    heaps: &mut Heaps,
+    r: RegNo,
+    key: NKey,
+    i: SlotNo,
+    content: Option<Held>,
+    out: &mut N,
+)
+    requires ready { IsReady heaps.old }
+    requires rooted { register heaps.old.heap (n_register r) ≡ native_name heaps.old (Some key) }
+    requires live { IsSome (number_at heaps.old key.0) }
+    requires within { i < length (slots_of (counts_of heaps.old) key.0) }
+    requires there { IsThere heaps.old content }
+    ensures step { IsStep (IsReached heaps.old.heap (held_name heaps.old content)) (λ g. graph.set_slot g (native_name heaps.old (Some key)) i (held_name heaps.old content)) heaps.old heaps.new }
+    ensures tells { TellsWhatIsFreed heaps.old.heap heaps.new.heap (N.telling out.old) (N.telling out.new) }
+{
+    expose_held(heaps, content);
+    heaps.store_native(key, i, content, out);
 }
 
 /// Slot `i` of `to` holds from then on what slot `j` of `from` held, which is empty then.

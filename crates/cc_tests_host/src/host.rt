@@ -351,6 +351,54 @@ fn what_is_told_is_fetched_once(rt: HostRuntime) {
     assert!(rt; fetches_what_is_told(rt.alloc()));
 }
 
+// A slot of what a root holds is written, which makes it no suspect; as another object it is one.
+fn writes_at_a_root(host: &mut Host, native: Object, script: Object, out: &mut Notebook) -> bool {
+    let collected = host.collect(out).is_ok() & !host.has_suspects();
+    let written = host.store_at_root(0, 1, Some(script), out).is_ok();
+    let held = (host.slot(native, 1) == Ok(Some(script))) & !host.has_suspects();
+    let suspected = host.store(native, 1, Some(script), out).is_ok() & host.has_suspects();
+    collected & written & held & suspected
+}
+
+// Each cause for which a root is not written at.
+fn stops_at_a_root(host: &mut Host, script: Object, out: &mut Notebook) -> bool {
+    let foreign = Object {
+        name: script.name,
+        key: script.key,
+        mark: 2,
+    };
+    let gone = Object {
+        name: Name::Script(ScriptNo(9)),
+        key: script.key,
+        mark: 1,
+    };
+    (host.store_at_root(ROOTS, 0, None, out) == Err(Stop::Index))
+        & (host.store_at_root(1, 0, None, out) == Err(Stop::Gone))
+        & (host.store_at_root(0, 0, Some(foreign), out) == Err(Stop::Foreign))
+        & (host.store_at_root(0, 0, Some(gone), out) == Err(Stop::Gone))
+        & (host.store_at_root(0, 2, None, out) == Err(Stop::Index))
+}
+
+fn uses_a_root(host: &mut Host, out: &mut Notebook) -> bool {
+    let (Ok(native), Ok(script)) = (host.new_native(0, 2, out), host.new_plain(0, 0)) else {
+        return false;
+    };
+    writes_at_a_root(host, native, script, out) & stops_at_a_root(host, script, out)
+}
+
+fn stores_at_a_root(alloc: Global) -> bool {
+    let mut out = Notebook::new(alloc);
+    match Host::new(alloc, Limits::new(10, 10, 0), 1) {
+        Ok(mut host) => uses_a_root(&mut host, &mut out),
+        Err(_) => false,
+    }
+}
+
+#[test]
+fn store_at_a_root_makes_no_suspect(rt: HostRuntime) {
+    assert!(rt; stores_at_a_root(rt.alloc()));
+}
+
 #[test]
 fn stop_is_printed(rt: HostRuntime) -> Result<(), Fail> {
     let stop = Stop::Foreign;

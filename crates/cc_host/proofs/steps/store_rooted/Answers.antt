@@ -1,0 +1,35 @@
+use Rattle.std.proofs.Common.{[], sym, subst}
+use Rattle.cc_lists.specs.Members.{Among}
+use Rattle.cc_names.specs.Names.{native}
+use Rattle.cc_model.proofs.Tellings.{Tells-nil}
+use Rattle.cc_heaps.proofs.FewCounts.{none-owned}
+use Rattle.cc_host.proofs.Composing.{tells-after}
+use Rattle.cc_host.proofs.Rooted.{rooted-step}
+use Rattle.cc_host.proofs.Storing.{live-same, within-same}
+use Rattle.cc_host.proofs.steps.store_rooted.Goals as goal
+
+pub store_native-requires : goal.store_native-requires
+store_native-requires g c =
+    let v = c.args.heaps.now in
+    let w = c.expose_held.new.heaps in
+    let e = c.expose_held.ensures in
+    record {
+      order = none-owned w (e.step.kept.order [] c.requires.ready.order);
+      live = live-same v w e.keys c.args.key c.requires.live;
+      within = within-same v w e.keys e.slots c.args.key.0 c.args.i c.requires.within;
+      there = e.stays.there c.args.content c.requires.there;
+    }
+
+pub returns-clause-step : goal.returns-clause-step
+returns-clause-step g c =
+    let e = c.expose_held.ensures in
+    let s = c.store_native.ensures in
+    rooted-step c.args.heaps.now c.expose_held.new.heaps c.store_native.new.self c.args.r c.args.key c.args.i c.args.content
+    c.requires.ready c.requires.rooted c.requires.live c.requires.there e.keys e.stays e.step e.reached e.black s.heap s.kept s.stands
+
+pub returns-clause-tells : goal.returns-clause-tells
+returns-clause-tells g c =
+    let names = c.expose_held.ensures.names in
+    let before = g.N.Notices.telling c.args.out.now in
+    tells-after c.args.heaps.now.heap c.expose_held.new.heaps.heap c.store_native.new.self.heap before before (g.N.Notices.telling c.store_native.new.out)
+    (Tells-nil before) (λ x m. subst (Among x) (sym names) m) (λ j m. subst (Among (native j)) names m) c.store_native.ensures.tells
