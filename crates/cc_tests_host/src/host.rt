@@ -1,68 +1,106 @@
 //! A host in use: cycles in frames, each cause of a stop, objects of another host, and objects whose key is another's by now.
+//!
+//! Each function makes a few calls alone, since the check of a long one takes minutes.
 use cc_collector::Ended;
 use cc_host::{Host, Object, Queue, ROOTS, Stop};
 use cc_model::{Event, Item, Notebook};
-use cc_names::{Kind, Limits, Name, NativeNo, RegNo, ScriptNo};
+use cc_names::{Kind, Limits, Name, NativeNo, ScriptNo};
 use std::alloc::Global;
 use std::test::Fail;
 
-// A native of two slots in a root, and its reflector, which script root 0 holds.
-fn make(host: &mut Host, r: RegNo, out: &mut Notebook) -> Option<(Object, Object)> {
-    let Ok(native) = host.new_native(r, 2, out) else {
-        return None;
-    };
-    let Ok(reflector) = host.wrap(native, out) else {
-        return None;
-    };
-    if host.set_script_root(0, Some(reflector)).is_err() {
-        return None;
+// A native of two slots in native root 0, and its reflector in script root 0.
+fn make(host: &mut Host, out: &mut Notebook) -> bool {
+    match host.new_native(0, 2, out) {
+        Ok(native) => wrap(host, native, out),
+        Err(_) => false,
     }
-    Some((native, reflector))
 }
 
-// A cycle through both heaps: a native holds a closure, and the closure holds the native's reflector.
+fn wrap(host: &mut Host, native: Object, out: &mut Notebook) -> bool {
+    match host.wrap(native, out) {
+        Ok(reflector) => host.set_script_root(0, Some(reflector)).is_ok(),
+        Err(_) => false,
+    }
+}
+
+// What the roots of the tests hold; where one holds nothing, an object that never was.
+fn native(host: &Host) -> Object {
+    match host.native_root(0) {
+        Some(x) => x,
+        None => nobody(host),
+    }
+}
+
+fn reflector(host: &Host) -> Object {
+    match host.script_root(0) {
+        Some(x) => x,
+        None => nobody(host),
+    }
+}
+
+fn closure(host: &Host) -> Object {
+    match host.script_root(1) {
+        Some(x) => x,
+        None => nobody(host),
+    }
+}
+
+fn nobody(host: &Host) -> Object {
+    Object {
+        name: Name::Script(ScriptNo(999)),
+        key: 4_294_967_295,
+        mark: host.mark(),
+    }
+}
+
+// A closure in script root 1 holds the reflector, and the native holds the closure.
+fn close_over(host: &mut Host, out: &mut Notebook) -> bool {
+    let made = host.new_plain(1, 1).is_ok();
+    let (x, p, c) = (native(host), reflector(host), closure(host));
+    let closed = host.store(c, 0, Some(p), out).is_ok();
+    made & closed & host.store(x, 0, Some(c), out).is_ok()
+}
+
+fn let_go(host: &mut Host, out: &mut Notebook) -> bool {
+    let scripts = host.set_script_root(0, None).is_ok() & host.set_script_root(1, None).is_ok();
+    scripts & host.set_native_root(0, None, out).is_ok()
+}
+
+// A cycle through both heaps, which no root holds.
 fn make_cycle(host: &mut Host, out: &mut Notebook) -> bool {
-    let Some((native, reflector)) = make(host, 0, out) else {
-        return false;
-    };
-    let Ok(closure) = host.new_plain(1, 1) else {
-        return false;
-    };
-    let closed = host.store(closure, 0, Some(reflector), out).is_ok();
-    let listens = host.store(native, 0, Some(closure), out).is_ok();
-    let gone = host.set_script_root(0, None).is_ok() & host.set_script_root(1, None).is_ok();
-    closed & listens & gone & host.set_native_root(0, None, out).is_ok()
+    make(host, out) & close_over(host, out) & let_go(host, out)
 }
 
-fn slices(host: &mut Host, out: &mut Notebook) -> bool {
-    host.slice(20, out).is_ok()
+// Cycles in frames
+
+fn makes_a_hundred(host: &mut Host, out: &mut Notebook) -> bool {
+    let mut made = true;
+    for _ in 0..100 {
+        made &= make_cycle(host, out);
+        made &= host.slice(20, out).is_ok();
+    }
+    host.gc(out);
+    made
 }
 
-// A thousand cycles, with a slice after each, and a script collection after each hundred.
-fn makes_cycles_in_frames(host: &mut Host, out: &mut Notebook) -> bool {
+fn makes_a_thousand(host: &mut Host, out: &mut Notebook) -> bool {
     let mut made = true;
     for _ in 0..10 {
-        for _ in 0..100 {
-            made &= make_cycle(host, out);
-            made &= slices(host, out);
-        }
-        host.gc(out);
+        made &= makes_a_hundred(host, out);
     }
     made
 }
 
-// What is left once all of them are let go, and how much of it was taken before the end.
-fn takes_cycles(host: &mut Host, out: &mut Notebook) -> bool {
-    let made = makes_cycles_in_frames(host, out);
+fn takes_all(host: &mut Host, out: &mut Notebook) -> bool {
     let last = make_cycle(host, out) & host.has_suspects();
     let settled = host.settle(out).is_ok();
-    made & last & settled & !host.has_suspects() & !host.running()
+    last & settled & !host.has_suspects() & !host.running()
 }
 
 fn takes_a_thousand_cycles(alloc: Global) -> bool {
     let mut out = Notebook::new(alloc);
     match Host::new(alloc, Limits::new(1_001, 1_001, 0), 1) {
-        Ok(mut host) => takes_cycles(&mut host, &mut out),
+        Ok(mut host) => makes_a_thousand(&mut host, &mut out) & takes_all(&mut host, &mut out),
         Err(_) => false,
     }
 }
@@ -72,88 +110,76 @@ fn thousand_cycles_go_in_frames(rt: HostRuntime) {
     assert!(rt; takes_a_thousand_cycles(rt.alloc()));
 }
 
-// Reads answer what was written.
-fn reads(host: &Host, native: Object, reflector: Object, closure: Object) -> bool {
-    let held = host.slot(native, 1) == Ok(Some(closure));
-    let empty = host.slot(native, 0) == Ok(None);
-    let closed = host.slot(closure, 0) == Ok(Some(reflector));
-    let counts = (host.slots(native) == Ok(2)) & (host.slots(closure) == Ok(1));
-    let kinds = (host.kind(closure) == Ok(Kind::Plain))
-        & (host.kind(reflector) == Ok(Kind::Reflector));
-    let behind = host.unwrap(reflector) == Ok(Some(native));
-    let before = host.unwrap(closure) == Ok(None);
-    held & empty & closed & counts & kinds & behind & before
+// Answers
+
+fn reads_slots(host: &Host) -> bool {
+    let (x, c) = (native(host), closure(host));
+    let held = host.slot(x, 1) == Ok(Some(c));
+    let empty = host.slot(x, 0) == Ok(None);
+    held & empty & (host.slots(c) == Ok(1))
+}
+
+fn reads_kinds(host: &Host) -> bool {
+    let (p, c) = (reflector(host), closure(host));
+    let kinds = host.kind(p) == Ok(Kind::Reflector);
+    let behind = host.unwrap(p) == Ok(Some(native(host)));
+    kinds & behind & (host.unwrap(c) == Ok(None))
 }
 
 // A slot of a reflector is written, which preserves it; what was in slot 0 is moved to slot 1.
 fn writes(host: &mut Host, out: &mut Notebook) -> bool {
-    let Some((native, reflector)) = make(host, 0, out) else {
-        return false;
-    };
-    let Ok(closure) = host.new_plain(1, 1) else {
-        return false;
-    };
-    let closed = host.store(closure, 0, Some(reflector), out).is_ok();
-    let written = host.store(reflector, 3, Some(closure), out).is_ok();
-    let listens = host.store(native, 0, Some(closure), out).is_ok();
-    let moved = host.move_slot(native, 1, native, 0, out).is_ok();
-    let preserved = host.preserve(reflector).is_ok();
-    let rooted = (host.native_root(0) == Some(native)) & (host.script_root(1) == Some(closure));
-    closed
-        & written
-        & listens
-        & moved
-        & preserved
-        & rooted
-        & reads(host, native, reflector, closure)
+    let (x, p, c) = (native(host), reflector(host), closure(host));
+    let written = host.store(p, 3, Some(c), out).is_ok();
+    let moved = host.move_slot(x, 1, x, 0, out).is_ok();
+    written & moved & host.preserve(p).is_ok()
 }
 
-// An entry is set, read and taken out; a proxy stands for its delegate.
-fn enters(host: &mut Host) -> bool {
-    let (Ok(the_map), Ok(key), Ok(value)) = (
-        host.new_map(2),
-        host.new_plain(3, 0),
-        host.new_plain(4, 0),
-    ) else {
-        return false;
-    };
-    let Ok(proxy) = host.new_proxy(5, key) else {
-        return false;
-    };
-    let set = host.set_entry(the_map, key, value).is_ok()
-        & host.set_entry(the_map, proxy, value).is_ok();
-    let read = host.entry(the_map, key) == Ok(Some(value));
-    let unset = host.unset_entry(the_map, key).is_ok();
-    let kinds = (host.kind(the_map) == Ok(Kind::Map)) & (host.kind(proxy) == Ok(Kind::Proxy));
-    set & read
-        & unset
-        & kinds
-        & (host.entry(the_map, key) == Ok(None))
-        & (host.entry(the_map, proxy) == Ok(Some(value)))
+// A weak map in script root 2, and a proxy of the closure in script root 3.
+fn makes_a_map(host: &mut Host) -> bool {
+    let c = closure(host);
+    host.new_map(2).is_ok() & host.new_proxy(3, c).is_ok()
 }
 
-// Why an object is there.
+fn enters(host: &mut Host, the_map: Object, proxy: Object) -> bool {
+    let p = reflector(host);
+    let set = host.set_entry(the_map, proxy, p).is_ok();
+    let read = host.entry(the_map, proxy) == Ok(Some(p));
+    let unset = host.unset_entry(the_map, proxy).is_ok();
+    set & read & unset & (host.entry(the_map, proxy) == Ok(None))
+}
+
+fn enters_at_roots(host: &mut Host) -> bool {
+    match (host.script_root(2), host.script_root(3)) {
+        (Some(the_map), Some(proxy)) => {
+            enters(host, the_map, proxy) & host.set_script_root(3, None).is_ok()
+        }
+        _ => false,
+    }
+}
+
+// Why an object is there, and that nothing leads to it once it is let go.
 fn explains(alloc: Global, host: &mut Host, out: &mut Notebook) -> bool {
-    let Some(native) = host.native_root(0) else {
-        return false;
-    };
-    let there = host.why(alloc, native, out) == Ok(true);
-    let let_go = host.set_native_root(0, None, out).is_ok()
-        & host.set_script_root(0, None).is_ok()
-        & host.set_script_root(1, None).is_ok();
-    let gone = host.why(alloc, native, out) == Ok(false);
-    let collected = host.collect(out).is_ok();
-    there & let_go & gone & collected & host.is_there(native)
+    let x = native(host);
+    let there = host.why(alloc, x, out) == Ok(true);
+    let gone = let_go(host, out) & (host.why(alloc, x, out) == Ok(false));
+    there & gone & host.collect(out).is_ok()
+}
+
+fn prepares(host: &mut Host, out: &mut Notebook) -> bool {
+    make(host, out) & close_over(host, out) & writes(host, out)
+}
+
+fn answers_all(alloc: Global, host: &mut Host, out: &mut Notebook) -> bool {
+    let prepared = prepares(host, out);
+    let read = reads_slots(host) & reads_kinds(host);
+    let entered = makes_a_map(host) & enters_at_roots(host);
+    prepared & read & entered & explains(alloc, host, out)
 }
 
 fn answers(alloc: Global) -> bool {
     let mut out = Notebook::new(alloc);
     match Host::new(alloc, Limits::new(10, 10, 0), 7) {
-        Ok(mut host) => {
-            let written = writes(&mut host, &mut out);
-            let entered = enters(&mut host);
-            written & entered & explains(alloc, &mut host, &mut out) & (host.mark() == 7)
-        }
+        Ok(mut host) => answers_all(alloc, &mut host, &mut out),
         Err(_) => false,
     }
 }
@@ -163,52 +189,51 @@ fn calls_answer(rt: HostRuntime) {
     assert!(rt; answers(rt.alloc()));
 }
 
-// Each cause of a stop, at a host in which one more native and no more script object may be made.
-fn stops_by_kind_and_index(
-    host: &mut Host,
-    native: Object,
-    reflector: Object,
-    out: &mut Notebook,
-) -> bool {
-    let kinds = (host.store(reflector, 0, Some(native), out) == Err(Stop::Kind))
-        & (host.wrap(reflector, out) == Err(Stop::Kind))
-        & (host.preserve(native) == Err(Stop::Kind))
-        & (host.kind(native) == Err(Stop::Kind))
-        & (host.set_entry(reflector, reflector, reflector) == Err(Stop::Kind))
-        & (host.unset_entry(native, reflector) == Err(Stop::Kind))
-        & (host.set_native_root(0, Some(reflector), out) == Err(Stop::Kind))
-        & (host.set_script_root(0, Some(native)) == Err(Stop::Kind));
-    let indexes = (host.slot(native, 2) == Err(Stop::Index))
-        & (host.store(native, 2, None, out) == Err(Stop::Index))
-        & (host.store(reflector, 4, None, out) == Err(Stop::Index))
-        & (host.move_slot(native, 0, native, 2, out) == Err(Stop::Index))
-        & (host.set_native_root(ROOTS, None, out) == Err(Stop::Index))
-        & (host.set_script_root(ROOTS, None) == Err(Stop::Index))
-        & (host.new_native(ROOTS, 0, out) == Err(Stop::Index))
-        & (host.new_native(0, 257, out) == Err(Stop::Index))
-        & (host.new_plain(0, 257) == Err(Stop::Index));
-    kinds & indexes
+// Each cause of a stop
+
+fn stops_writing_by_kind(host: &mut Host, out: &mut Notebook) -> bool {
+    let (x, p) = (native(host), reflector(host));
+    (host.store(p, 0, Some(x), out) == Err(Stop::Kind))
+        & (host.wrap(p, out) == Err(Stop::Kind))
+        & (host.preserve(x) == Err(Stop::Kind))
 }
 
-fn stops_at_the_limit(host: &mut Host, reflector: Object, out: &mut Notebook) -> bool {
-    let made = host.new_native(1, 0, out).is_ok();
-    let full = (host.new_native(1, 0, out) == Err(Stop::Full))
-        & (host.new_plain(1, 0) == Err(Stop::Full))
+fn stops_entering_by_kind(host: &mut Host) -> bool {
+    let (x, p) = (native(host), reflector(host));
+    (host.set_entry(p, p, p) == Err(Stop::Kind))
+        & (host.unset_entry(x, p) == Err(Stop::Kind))
+        & (host.set_script_root(0, Some(x)) == Err(Stop::Kind))
+}
+
+fn stops_at_slots(host: &mut Host, out: &mut Notebook) -> bool {
+    let (x, p) = (native(host), reflector(host));
+    (host.slot(x, 2) == Err(Stop::Index))
+        & (host.store(p, 4, None, out) == Err(Stop::Index))
+        & (host.move_slot(x, 0, x, 2, out) == Err(Stop::Index))
+}
+
+fn stops_at_roots(host: &mut Host, out: &mut Notebook) -> bool {
+    (host.set_native_root(ROOTS, None, out) == Err(Stop::Index))
+        & (host.set_script_root(ROOTS, None) == Err(Stop::Index))
+        & (host.new_native(0, 257, out) == Err(Stop::Index))
+}
+
+fn stops_at_the_limit(host: &mut Host, out: &mut Notebook) -> bool {
+    let p = reflector(host);
+    (host.new_native(1, 0, out) == Err(Stop::Full))
         & (host.new_map(1) == Err(Stop::Full))
-        & (host.new_proxy(1, reflector) == Err(Stop::Full));
-    made & full
+        & (host.new_proxy(1, p) == Err(Stop::Full))
 }
 
 fn stops(host: &mut Host, out: &mut Notebook) -> bool {
-    let Some((native, reflector)) = make(host, 0, out) else {
-        return false;
-    };
-    stops_by_kind_and_index(host, native, reflector, out) & stops_at_the_limit(host, reflector, out)
+    let kinds = make(host, out) & stops_writing_by_kind(host, out) & stops_entering_by_kind(host);
+    let indexes = stops_at_slots(host, out) & stops_at_roots(host, out);
+    kinds & indexes & stops_at_the_limit(host, out)
 }
 
 fn stops_by_each_cause(alloc: Global) -> bool {
     let mut out = Notebook::new(alloc);
-    match Host::new(alloc, Limits::new(2, 0, 0), 1) {
+    match Host::new(alloc, Limits::new(1, 0, 0), 1) {
         Ok(mut host) => stops(&mut host, &mut out),
         Err(_) => false,
     }
@@ -220,26 +245,31 @@ fn each_cause_stops_a_call(rt: HostRuntime) {
 }
 
 // The objects of one host at another, where the same natives stand at the same keys.
-fn refuses_foreign(one: &mut Host, other: &mut Host, out: &mut Notebook) -> bool {
-    let (Some((x, p)), Some((y, q))) = (make(one, 0, out), make(other, 0, out)) else {
-        return false;
-    };
-    let alike = (x.name == y.name) & (x.key == y.key) & (p.name == q.name);
-    let apart = !one.is_there(y) & !other.is_there(p) & one.is_there(x);
-    let foreign = (one.store(x, 0, Some(y), out) == Err(Stop::Foreign))
-        & (one.store(y, 0, Some(x), out) == Err(Stop::Foreign))
-        & (other.unwrap(p) == Err(Stop::Foreign));
-    alike & apart & foreign
+fn refuses_foreign(host: &mut Host, x: Object, out: &mut Notebook) -> bool {
+    let own = native(host);
+    let alike = (own.name == x.name) & (own.key == x.key);
+    let apart = host.is_there(own) & !host.is_there(x);
+    alike & apart & (host.store(own, 0, Some(x), out) == Err(Stop::Foreign))
+}
+
+fn refuses_each_other(one: &mut Host, other: &mut Host, out: &mut Notebook) -> bool {
+    let made = make(one, out) & make(other, out);
+    let x = native(other);
+    made & refuses_foreign(one, x, out)
+}
+
+fn refuses_in_new_hosts(alloc: Global, one: &mut Host) -> bool {
+    let mut out = Notebook::new(alloc);
+    match Host::new(alloc, Limits::new(10, 10, 0), 2) {
+        Ok(mut other) => refuses_each_other(one, &mut other, &mut out),
+        Err(_) => false,
+    }
 }
 
 fn refuses_objects_of_another_host(alloc: Global) -> bool {
-    let mut out = Notebook::new(alloc);
-    match (
-        Host::new(alloc, Limits::new(10, 10, 0), 1),
-        Host::new(alloc, Limits::new(10, 10, 0), 2),
-    ) {
-        (Ok(mut one), Ok(mut other)) => refuses_foreign(&mut one, &mut other, &mut out),
-        _ => false,
+    match Host::new(alloc, Limits::new(10, 10, 0), 1) {
+        Ok(mut one) => refuses_in_new_hosts(alloc, &mut one),
+        Err(_) => false,
     }
 }
 
@@ -248,37 +278,34 @@ fn object_of_another_host_is_refused(rt: HostRuntime) {
     assert!(rt; refuses_objects_of_another_host(rt.alloc()));
 }
 
-// A native and a script object are freed, and others stand at their keys.
+// A native and a script object in the roots.
+fn make_two(host: &mut Host, out: &mut Notebook) -> bool {
+    host.new_native(0, 1, out).is_ok() & host.new_plain(0, 1).is_ok()
+}
+
+fn refuses_both(host: &Host, x: Object, y: Object) -> bool {
+    (host.slot(x, 0) == Err(Stop::Gone)) & (host.slot(y, 0) == Err(Stop::Gone)) & !host.is_there(x)
+}
+
+// Both were freed, and others stand at their keys.
 fn refuses_gone(host: &mut Host, out: &mut Notebook) -> bool {
-    let (Ok(native), Ok(script)) = (host.new_native(0, 1, out), host.new_plain(0, 1)) else {
-        return false;
-    };
-    let let_go = host.set_native_root(0, None, out).is_ok() & host.set_script_root(0, None).is_ok();
+    let made = make_two(host, out);
+    let (x, y) = (native(host), reflector(host));
+    let gone = let_go(host, out);
     host.gc(out);
-    let (Ok(later), Ok(script_later)) = (host.new_native(0, 1, out), host.new_plain(0, 1)) else {
-        return false;
-    };
-    let reused = (later.key == native.key) & (script_later.key == script.key);
-    let gone = (host.slot(native, 0) == Err(Stop::Gone))
-        & (host.slot(script, 0) == Err(Stop::Gone))
-        & (host.store(later, 0, Some(native), out) == Err(Stop::Gone))
-        & (host.wrap(native, out) == Err(Stop::Gone));
-    let_go & reused & gone & host.is_there(later) & !host.is_there(native) & !host.is_there(script)
+    let again = make_two(host, out);
+    let reused = (native(host).key == x.key) & (reflector(host).key == y.key);
+    made & gone & again & reused & refuses_both(host, x, y)
 }
 
 // Objects that never were, at keys that never were.
 fn refuses_made_up(host: &Host) -> bool {
-    let native = Object {
+    let x = Object {
         name: Name::Native(NativeNo(9)),
         key: 4_294_967_295,
         mark: 1,
     };
-    let script = Object {
-        name: Name::Script(ScriptNo(9)),
-        key: 4_294_967_295,
-        mark: 1,
-    };
-    (host.slots(native) == Err(Stop::Gone)) & (host.slots(script) == Err(Stop::Gone))
+    (host.slots(x) == Err(Stop::Gone)) & (host.slots(nobody(host)) == Err(Stop::Gone))
 }
 
 fn refuses_stale_objects(alloc: Global) -> bool {
@@ -352,38 +379,24 @@ fn what_is_told_is_fetched_once(rt: HostRuntime) {
 }
 
 // A slot of what a root holds is written, which makes it no suspect; as another object it is one.
-fn writes_at_a_root(host: &mut Host, native: Object, script: Object, out: &mut Notebook) -> bool {
-    let collected = host.collect(out).is_ok() & !host.has_suspects();
-    let written = host.store_at_root(0, 1, Some(script), out).is_ok();
-    let held = (host.slot(native, 1) == Ok(Some(script))) & !host.has_suspects();
-    let suspected = host.store(native, 1, Some(script), out).is_ok() & host.has_suspects();
-    collected & written & held & suspected
+fn writes_at_a_root(host: &mut Host, out: &mut Notebook) -> bool {
+    let (x, y) = (native(host), reflector(host));
+    let written = host.store_at_root(0, 0, Some(y), out).is_ok() & !host.has_suspects();
+    written & host.store(x, 0, Some(y), out).is_ok() & host.has_suspects()
 }
 
 // Each cause for which a root is not written at.
-fn stops_at_a_root(host: &mut Host, script: Object, out: &mut Notebook) -> bool {
-    let foreign = Object {
-        name: script.name,
-        key: script.key,
-        mark: 2,
-    };
-    let gone = Object {
-        name: Name::Script(ScriptNo(9)),
-        key: script.key,
-        mark: 1,
-    };
-    (host.store_at_root(ROOTS, 0, None, out) == Err(Stop::Index))
-        & (host.store_at_root(1, 0, None, out) == Err(Stop::Gone))
-        & (host.store_at_root(0, 0, Some(foreign), out) == Err(Stop::Foreign))
-        & (host.store_at_root(0, 0, Some(gone), out) == Err(Stop::Gone))
+fn stops_at_a_root(host: &mut Host, out: &mut Notebook) -> bool {
+    let x = nobody(host);
+    (host.store_at_root(1, 0, None, out) == Err(Stop::Gone))
+        & (host.store_at_root(0, 0, Some(x), out) == Err(Stop::Gone))
         & (host.store_at_root(0, 2, None, out) == Err(Stop::Index))
 }
 
 fn uses_a_root(host: &mut Host, out: &mut Notebook) -> bool {
-    let (Ok(native), Ok(script)) = (host.new_native(0, 2, out), host.new_plain(0, 0)) else {
-        return false;
-    };
-    writes_at_a_root(host, native, script, out) & stops_at_a_root(host, script, out)
+    let made = make_two(host, out);
+    let idle = host.collect(out).is_ok() & !host.has_suspects();
+    made & idle & writes_at_a_root(host, out) & stops_at_a_root(host, out)
 }
 
 fn stores_at_a_root(alloc: Global) -> bool {
