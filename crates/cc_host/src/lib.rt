@@ -3,7 +3,8 @@
 //! What a program keeps of an object is an `Object`: its name, the key at which it stands, and the mark of its host. It may be
 //! kept for ever. Each call takes any `Object` at all, and answers a `Stop` exactly where it can't do what is asked: for one
 //! of another host, one that is gone, one of the wrong kind, an index that is not there, a limit reached, want of memory. Then
-//! nothing changed. No call has a `requires`.
+//! nothing changed; but three calls that want memory, `wrap`, `set_entry` and `new_proxy`, may have exposed an object or made a
+//! native a suspect by then, and leave the graph as it is. No call has a `requires`.
 //!
 //! What is alive is what the roots reach: 1023 roots hold natives, and 1023 hold script objects. The host sees to all that
 //! the heaps want of a caller: what is stored is exposed to script before, a reflector that is written is preserved before,

@@ -4,6 +4,7 @@ ghost use Rattle.std.specs.Prelude.{◌≡◌, false, [], ◌∷◌, None, Some,
 ghost use Rattle.cc_model.specs.declared.item.Item.{Item};
 
 use cc_model::{Item, Notices};
+use cc_names::NoMemory;
 use std::alloc::Global;
 use std::collections::VecDeque;
 use std::marker::Model;
@@ -46,6 +47,14 @@ impl Queue {
         ensures none { result ≡ None → (self.new ≡ self.old) × (self.old.items ≡ Some []) }
     {
         self.items.pop_front()
+    }
+
+    /// Takes room for so many items more than wait now. It changes nothing that is seen; `NoMemory` where there is none.
+    pub fn reserve(&mut self, items: usize) -> Result<(), NoMemory>
+        ensures { self.new ≡ self.old }
+    {
+        self.items.reserve(items)?;
+        Ok(())
     }
 
     /// Whether an item was left out.

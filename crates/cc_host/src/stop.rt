@@ -6,7 +6,8 @@ use cc_heaps::MakeStop;
 use cc_names::NoMemory;
 use thiserror::Error;
 
-/// Why a host did not do what was asked. Nothing changed.
+/// Why a host did not do what was asked. Nothing changed; but at want of memory in `wrap`, `set_entry` and `new_proxy`, and at
+/// `Full` in the last, an object may have been exposed, or have become a suspect. The graph is as it was then too.
 ///
 /// The objects of a call are tried in the order in which they are handed in, each for the first three; then the indexes,
 /// then the limit, then memory.

@@ -122,6 +122,20 @@ impl Host {
         Ok(self.of_script(self.heaps.weak().get(the_map, key)))
     }
 
+    /// How many natives there are. It takes the same time however many.
+    pub fn natives(&self) -> usize
+        ensures { result ≡ length self.now.heaps.heap.natives }
+    {
+        self.heaps.counted().len()
+    }
+
+    /// How many script objects there are. It takes the same time however many.
+    pub fn scripts(&self) -> usize
+        ensures { result ≡ length self.now.heaps.heap.scripts }
+    {
+        self.heaps.scripts().len()
+    }
+
     /// Whether any native is a suspect, or was touched: whether a collection has natives to look at.
     pub fn has_suspects(&self) -> bool
         ensures some { IsTrue result → self.now.heaps.heap.buffer ≢ [] }

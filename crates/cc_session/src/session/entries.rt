@@ -1,0 +1,36 @@
+//! Entries of weak maps.
+ghost use Rattle.std.specs.Prelude.{◌≡◌, Some, None, OnErr, OnOk};
+ghost use Rattle.cc_model.specs.Graph as graph;
+ghost use Rattle.cc_host.specs.Calls.{Always, Does};
+ghost use Rattle.cc_host.specs.Hosted.{IsRooted};
+ghost use Rattle.cc_host.specs.Stops.{IsStoppedBy, IsStoppedOrRefused, stop_entry, stop_setting};
+ghost use Rattle.cc_session.specs.Sessions.{Quiet};
+
+use crate::session::Session;
+use cc_host::{Object, Stop};
+
+impl Session {
+    /// A key has a value in a weak map from then on: see `Host::set_entry`.
+    ///
+    /// `NoMemory` leaves the graph as it is (`tried`), and comes only where there was no entry.
+    pub fn set_entry(&mut self, the_map: Object, key: Object, value: Object) -> Result<(), Stop>
+        ensures stops { IsStoppedOrRefused (stop_setting self.old.host the_map key value) result }
+        ensures does { OnOk result (Does (IsRooted self.old.host the_map × IsRooted self.old.host key × IsRooted self.old.host value)
+            (λ g. graph.set_entry g (Some the_map.name) (Some key.name) (Some value.name)) self.old.host self.new.host) }
+        ensures tried { OnErr result (Does Always (λ g. g) self.old.host self.new.host) }
+        ensures quiet { Quiet self.old self.new }
+    {
+        self.host.set_entry(the_map, key, value)
+    }
+
+    /// A key has no value in a weak map from then on. Takes no memory.
+    pub fn unset_entry(&mut self, the_map: Object, key: Object) -> Result<(), Stop>
+        ensures stops { IsStoppedBy (stop_entry self.old.host the_map key) result }
+        ensures does { OnOk result (Does (IsRooted self.old.host the_map × IsRooted self.old.host key)
+            (λ g. graph.set_entry g (Some the_map.name) (Some key.name) None) self.old.host self.new.host) }
+        ensures same { OnErr result (self.new ≡ self.old) }
+        ensures quiet { Quiet self.old self.new }
+    {
+        self.host.unset_entry(the_map, key)
+    }
+}

@@ -1,0 +1,92 @@
+//! Objects made. Each stands in a numbered root from then on.
+ghost use Rattle.std.specs.Prelude.{◌≡◌, ◌+◌, Some, IfOk, OnErr, OnOk};
+ghost use Rattle.cc_names.specs.Names.{native, object};
+ghost use Rattle.cc_names.specs.declared.register.Reg.TheVariants.{N as n_register, S as s_register};
+ghost use Rattle.cc_model.specs.declared.command.Command.TheVariants as command;
+ghost use Rattle.cc_model.specs.Graph as graph;
+ghost use Rattle.cc_model.specs.Heap.{register};
+ghost use Rattle.cc_host.specs.Calls.{Always, Does, TellsFreed};
+ghost use Rattle.cc_host.specs.Hosted.{IsRooted, IsThere};
+ghost use Rattle.cc_host.specs.Stops.{are_natives_made, are_scripts_made};
+ghost use Rattle.cc_session.specs.Sessions.{Aside, Quiet};
+ghost use Rattle.cc_session.specs.Refusals.{IsStoppedOrWants, stop_native_made, stop_proxy_made, stop_script_made};
+
+use crate::session::{NUMBERED_ROOTS, Session};
+use cc_host::{Object, Stop};
+use cc_names::{MOST_SLOTS, RegNo, SlotNo};
+
+impl Session {
+    /// Makes a native with `slots` empty slots (0 to 255), which numbered native root `r` holds from then on.
+    ///
+    /// What the root held is given up, and what then has no reference is deleted and told.
+    pub fn new_native(&mut self, r: RegNo, slots: SlotNo) -> Result<Object, Stop>
+        ensures stops { IsStoppedOrWants (stop_native_made r slots (are_natives_made self.old.host)) result }
+        ensures does { OnOk result (Does Always (λ g. graph.step g (command.Native r slots)) self.old.host self.new.host) }
+        ensures there { IfOk result (λ x. IsThere self.new.host x) }
+        ensures name { IfOk result (λ x. x.name ≡ native (self.old.host.heaps.heap.natives_made + 1)) }
+        ensures held { IfOk result (λ x. register self.new.host.heaps.heap (n_register r) ≡ Some x.name) }
+        ensures same { OnErr result (self.new ≡ self.old) }
+        ensures tells { TellsFreed self.old.host self.new.host self.old.told self.new.told }
+        ensures aside { Aside self.old self.new }
+    {
+        if r >= NUMBERED_ROOTS || slots >= MOST_SLOTS {
+            return Err(Stop::Index);
+        }
+        self.take_room()?;
+        self.host.new_native(r, slots, &mut self.told)
+    }
+
+    /// Makes a plain script object with `slots` empty slots (0 to 256), which numbered script root `r` holds from then on.
+    pub fn new_plain(&mut self, r: RegNo, slots: SlotNo) -> Result<Object, Stop>
+        ensures stops { IsStoppedOrWants (stop_script_made r slots (are_scripts_made self.old.host)) result }
+        ensures does { OnOk result (Does Always (λ g. graph.step g (command.Script r slots)) self.old.host self.new.host) }
+        ensures there { IfOk result (λ x. IsThere self.new.host x) }
+        ensures name { IfOk result (λ x. x.name ≡ object (self.old.host.heaps.heap.scripts_made + 1)) }
+        ensures held { IfOk result (λ x. register self.new.host.heaps.heap (s_register r) ≡ Some x.name) }
+        ensures same { OnErr result (self.new ≡ self.old) }
+        ensures quiet { Quiet self.old self.new }
+    {
+        if r >= NUMBERED_ROOTS || slots > MOST_SLOTS {
+            return Err(Stop::Index);
+        }
+        self.take_room()?;
+        self.host.new_plain(r, slots)
+    }
+
+    /// Makes a weak map without entries, which numbered script root `r` holds from then on.
+    pub fn new_map(&mut self, r: RegNo) -> Result<Object, Stop>
+        ensures stops { IsStoppedOrWants (stop_script_made r 0 (are_scripts_made self.old.host)) result }
+        ensures does { OnOk result (Does Always (λ g. graph.step g (command.WeakMap r)) self.old.host self.new.host) }
+        ensures there { IfOk result (λ x. IsThere self.new.host x) }
+        ensures name { IfOk result (λ x. x.name ≡ object (self.old.host.heaps.heap.scripts_made + 1)) }
+        ensures held { IfOk result (λ x. register self.new.host.heaps.heap (s_register r) ≡ Some x.name) }
+        ensures same { OnErr result (self.new ≡ self.old) }
+        ensures quiet { Quiet self.old self.new }
+    {
+        if r >= NUMBERED_ROOTS {
+            return Err(Stop::Index);
+        }
+        self.take_room()?;
+        self.host.new_map(r)
+    }
+
+    /// Makes a proxy of a script object, its delegate for good, which numbered script root `r` holds from then on. A delegate
+    /// that is a reflector is preserved.
+    ///
+    /// `Full` and `NoMemory` leave the graph as it is (`tried`): the delegate may have been exposed to script.
+    pub fn new_proxy(&mut self, r: RegNo, delegate: Object) -> Result<Object, Stop>
+        ensures stops { IsStoppedOrWants (stop_proxy_made self.old.host delegate r) result }
+        ensures does { OnOk result (Does (IsRooted self.old.host delegate) (λ g. graph.with_proxy g r (Some delegate.name)) self.old.host self.new.host) }
+        ensures there { IfOk result (λ x. IsThere self.new.host x) }
+        ensures name { IfOk result (λ x. x.name ≡ object (self.old.host.heaps.heap.scripts_made + 1)) }
+        ensures held { IfOk result (λ x. register self.new.host.heaps.heap (s_register r) ≡ Some x.name) }
+        ensures tried { OnErr result (Does Always (λ g. g) self.old.host self.new.host) }
+        ensures quiet { Quiet self.old self.new }
+    {
+        if r >= NUMBERED_ROOTS {
+            return Err(Stop::Index);
+        }
+        self.take_room()?;
+        self.host.new_proxy(r, delegate)
+    }
+}

@@ -1,0 +1,121 @@
+//! What roots, slots and entries hold, and why an object is there.
+ghost use Rattle.std.specs.Prelude.{◌≡◌, ◌≢◌, ◌<◌, ◌≤◌, [], length, map, Some, None, true, false, is_some, IfOk, OnErr, OnOk, IsTrue, slice_index_or};
+ghost use Rattle.cc_names.specs.declared.register.Reg.TheVariants.{N as n_register, S as s_register};
+ghost use Rattle.cc_model.specs.Answers.{item_of_step};
+ghost use Rattle.cc_model.specs.Checks.{native_of, value_at};
+ghost use Rattle.cc_model.specs.Derivations.{is_led_to, leads_in, path_to};
+ghost use Rattle.cc_model.specs.Heap.{objects_of, register};
+ghost use Rattle.cc_model.specs.Telling.{Tells};
+ghost use Rattle.cc_script.specs.Objects.{kind_at};
+ghost use Rattle.cc_host.specs.Hosted.{IsThereIfAny, named, slots_of};
+ghost use Rattle.cc_host.specs.Stops.{IsStoppedBy, IsStoppedOrRefused, stop_at, stop_entry, stop_reading, stop_script};
+ghost use Rattle.cc_session.specs.Sessions.{numbered};
+
+use crate::session::{NUMBERED_ROOTS, Session};
+use cc_host::{Object, Stop};
+use cc_names::{Kind, RegNo, SlotNo};
+
+impl Session {
+    /// What a numbered native root holds; none where it holds nothing, and where there is no such root.
+    pub fn native_root(&self, r: RegNo) -> Option<Object>
+        ensures name { r < numbered → named result ≡ register self.now.host.heaps.heap (n_register r) }
+        ensures none { numbered ≤ r → result ≡ None }
+        ensures there { IsThereIfAny self.now.host result }
+    {
+        if r >= NUMBERED_ROOTS {
+            return None;
+        }
+        self.host.native_root(r)
+    }
+
+    /// What a numbered script root holds; none where it holds nothing, and where there is no such root.
+    pub fn script_root(&self, r: RegNo) -> Option<Object>
+        ensures name { r < numbered → named result ≡ register self.now.host.heaps.heap (s_register r) }
+        ensures none { numbered ≤ r → result ≡ None }
+        ensures there { IsThereIfAny self.now.host result }
+    {
+        if r >= NUMBERED_ROOTS {
+            return None;
+        }
+        self.host.script_root(r)
+    }
+
+    /// What kind of script object an object is.
+    pub fn kind(&self, x: Object) -> Result<Kind, Stop>
+        ensures stops { IsStoppedBy (stop_script self.now.host x) result }
+        ensures kind { IfOk result (λ kind. kind_at self.now.host.heaps.scripts x.key ≡ Some kind) }
+    {
+        self.host.kind(x)
+    }
+
+    /// How many slots an object has: 0 to 256. A weak map and a proxy have none.
+    pub fn slots(&self, x: Object) -> Result<SlotNo, Stop>
+        ensures stops { IsStoppedBy (stop_at self.now.host x) result }
+        ensures count { IfOk result (λ count. count ≡ length (slots_of self.now.host x)) }
+    {
+        self.host.slots(x)
+    }
+
+    /// What slot `i` of an object holds, counted from 0.
+    pub fn slot(&self, x: Object, i: SlotNo) -> Result<Option<Object>, Stop>
+        ensures stops { IsStoppedBy (stop_reading self.now.host x i) result }
+        ensures name { IfOk result (λ held. named held ≡ slice_index_or (slots_of self.now.host x) i None) }
+        ensures there { IfOk result (λ held. IsThereIfAny self.now.host held) }
+    {
+        self.host.slot(x, i)
+    }
+
+    /// The native that a reflector stands for; none of any other script object.
+    pub fn unwrap(&self, x: Object) -> Result<Option<Object>, Stop>
+        ensures stops { IsStoppedBy (stop_script self.now.host x) result }
+        ensures name { IfOk result (λ native. named native ≡ native_of (Some x.name)) }
+        ensures there { IfOk result (λ native. IsThereIfAny self.now.host native) }
+    {
+        self.host.unwrap(x)
+    }
+
+    /// The value that a key has in a weak map; none where it has none.
+    pub fn entry(&self, the_map: Object, key: Object) -> Result<Option<Object>, Stop>
+        ensures stops { IsStoppedBy (stop_entry self.now.host the_map key) result }
+        ensures value { IfOk result (λ value. named value ≡ value_at (objects_of self.now.host.heaps.heap) (Some the_map.name) (Some key.name)) }
+        ensures there { IfOk result (λ value. IsThereIfAny self.now.host value) }
+    {
+        self.host.entry(the_map, key)
+    }
+
+    /// How many natives there are, the tables of roots among them. It takes the same time however many.
+    pub fn natives(&self) -> usize
+        ensures { result ≡ length self.now.host.heaps.heap.natives }
+    {
+        self.host.natives()
+    }
+
+    /// How many script objects there are. It takes the same time however many.
+    pub fn scripts(&self) -> usize
+        ensures { result ≡ length self.now.host.heaps.heap.scripts }
+    {
+        self.host.scripts()
+    }
+
+    /// Whether any native is a suspect, or was touched: whether a collection has natives to look at.
+    pub fn has_suspects(&self) -> bool
+        ensures some { IsTrue result → self.now.host.heaps.heap.buffer ≢ [] }
+        ensures none { result ≡ false → self.now.host.heaps.heap.buffer ≡ [] }
+    {
+        self.host.has_suspects()
+    }
+
+    /// Why an object is there: the steps by which the roots lead to it, each once and itself last, are fetched by `next_step`
+    /// from then on, behind those that were not fetched. `false`, and no step, exactly where nothing leads to it.
+    ///
+    /// Nothing else changes. `NoMemory` tells no step.
+    pub fn why(&mut self, x: Object) -> Result<bool, Stop>
+        ensures stops { IsStoppedOrRefused (stop_at self.old.host x) result }
+        ensures led { IfOk result (λ b. b ≡ is_led_to (leads_in self.old.host.heaps.heap) x.name) }
+        ensures told { OnOk result (Tells self.old.steps self.new.steps (map item_of_step (path_to (leads_in self.old.host.heaps.heap) x.name))) }
+        ensures err { OnErr result (self.new ≡ self.old) }
+        ensures rest { self.new ≡ record self.old { steps = self.new.steps } }
+    {
+        self.host.why(self.alloc, x, &mut self.steps)
+    }
+}

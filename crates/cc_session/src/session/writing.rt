@@ -1,0 +1,158 @@
+//! Roots and slots written, reflectors, and the program's numbers.
+ghost use Rattle.std.specs.Prelude.{◌≡◌, ◌≢◌, ℕ, Some, IfOk, OnErr, OnOk};
+ghost use Rattle.cc_names.specs.Names.{number_of};
+ghost use Rattle.cc_names.specs.declared.register.Reg.TheVariants.{N as n_register, S as s_register};
+ghost use Rattle.cc_model.specs.Checks.{reflector_of};
+ghost use Rattle.cc_model.specs.Graph as graph;
+ghost use Rattle.cc_heaps.specs.Changes.{slot_held};
+ghost use Rattle.cc_heaps.specs.Standing.{IsReachedOrReflects};
+ghost use Rattle.cc_host.specs.Calls.{Always, Does, TellsFreed, stored};
+ghost use Rattle.cc_host.specs.Hosted.{IsRooted, IsRootedIfAny, IsThere, named};
+ghost use Rattle.cc_host.specs.Stops.{IsStoppedBy, IsStoppedOrRefused, stop_native, stop_reflector, stop_script};
+ghost use Rattle.cc_session.specs.Sessions.{Aside, Quiet, data_at};
+ghost use Rattle.cc_session.specs.Refusals.{IsStoppedOrWants, stop_moved, stop_numbered, stop_stored, stop_table};
+
+use crate::session::{NUMBERED_ROOTS, Session};
+use cc_host::{Object, Stop};
+use cc_names::{MOST_SLOTS, Name, RegNo, SlotNo};
+
+impl Session {
+    /// Numbered native root `r` holds a native from then on, or nothing.
+    ///
+    /// What it held is given up, and what then has no reference is deleted and told. Takes no memory.
+    pub fn set_native_root(&mut self, r: RegNo, x: Option<Object>) -> Result<(), Stop>
+        ensures stops { IsStoppedBy (stop_numbered stop_native self.old.host r x) result }
+        ensures does { OnOk result (Does (IsRootedIfAny self.old.host x) (λ g. graph.set_register g (n_register r) (named x)) self.old.host self.new.host) }
+        ensures same { OnErr result (self.new ≡ self.old) }
+        ensures tells { TellsFreed self.old.host self.new.host self.old.told self.new.told }
+        ensures aside { Aside self.old self.new }
+    {
+        if r >= NUMBERED_ROOTS {
+            return Err(Stop::Index);
+        }
+        self.host.set_native_root(r, x, &mut self.told)
+    }
+
+    /// Numbered script root `r` holds a script object from then on, or nothing. Takes no memory.
+    pub fn set_script_root(&mut self, r: RegNo, x: Option<Object>) -> Result<(), Stop>
+        ensures stops { IsStoppedBy (stop_numbered stop_script self.old.host r x) result }
+        ensures does { OnOk result (Does (IsReachedOrReflects self.old.host.heaps.heap (named x)) (λ g. graph.set_register g (s_register r) (named x)) self.old.host self.new.host) }
+        ensures same { OnErr result (self.new ≡ self.old) }
+        ensures quiet { Quiet self.old self.new }
+    {
+        if r >= NUMBERED_ROOTS {
+            return Err(Stop::Index);
+        }
+        self.host.set_script_root(r, x)
+    }
+
+    // An object that is there, and no table of roots.
+    fn look(&self, x: Object) -> Result<(), Stop>
+        ensures { IsStoppedBy (stop_table self.now.host x) result }
+    {
+        let slots = self.host.slots(x)?;
+        match x.name {
+            Name::Native(_) if slots == MOST_SLOTS => Err(Stop::Gone),
+            Name::Native(_) | Name::Script(_) | Name::Reflector(_) => Ok(()),
+        }
+    }
+
+    /// Slot `i` of an object, counted from 0, holds another object from then on, or nothing: see `Host::store`. Takes no memory.
+    pub fn store(&mut self, x: Object, i: SlotNo, y: Option<Object>) -> Result<(), Stop>
+        ensures stops { IsStoppedBy (stop_stored self.old.host x i y) result }
+        ensures does { OnOk result (Does (IsRooted self.old.host x × IsRootedIfAny self.old.host y) (stored x i (named y)) self.old.host self.new.host) }
+        ensures same { OnErr result (self.new ≡ self.old) }
+        ensures tells { TellsFreed self.old.host self.new.host self.old.told self.new.told }
+        ensures aside { Aside self.old self.new }
+    {
+        self.look(x)?;
+        self.host.store(x, i, y, &mut self.told)
+    }
+
+    /// Slot `i` of the native `to`, counted from 0, holds from then on what slot `j` of the native `from` held, which is empty
+    /// then: see `Host::move_slot`. Takes no memory.
+    pub fn move_slot(&mut self, to: Object, i: SlotNo, from: Object, j: SlotNo) -> Result<(), Stop>
+        ensures stops { IsStoppedBy (stop_moved self.old.host to i from j) result }
+        ensures does { OnOk result (Does (IsRooted self.old.host to × IsRooted self.old.host from)
+            (λ g. graph.move_slot g (Some to.name) i (Some from.name) j (slot_held self.old.host.heaps.heap (number_of from.name) j)) self.old.host self.new.host) }
+        ensures same { OnErr result (self.new ≡ self.old) }
+        ensures tells { TellsFreed self.old.host self.new.host self.old.told self.new.told }
+        ensures aside { Aside self.old self.new }
+    {
+        self.look(to)?;
+        self.look(from)?;
+        self.host.move_slot(to, i, from, j, &mut self.told)
+    }
+
+    /// The reflector of a native, for script: see `Host::wrap`. Put it into a root, or into a slot, for by itself it is held by
+    /// nothing.
+    ///
+    /// `NoMemory` leaves the graph as it is (`tried`).
+    pub fn wrap(&mut self, x: Object) -> Result<Object, Stop>
+        ensures stops { IsStoppedOrWants (stop_native self.old.host x) result }
+        ensures does { OnOk result (Does (IsRooted self.old.host x) (λ g. graph.wrapped g (Some x.name)) self.old.host self.new.host) }
+        ensures there { IfOk result (λ y. IsThere self.new.host y) }
+        ensures name { IfOk result (λ y. Some y.name ≡ reflector_of (Some x.name)) }
+        ensures tried { OnErr result (Does Always (λ g. g) self.old.host self.new.host) }
+        ensures tells { TellsFreed self.old.host self.new.host self.old.told self.new.told }
+        ensures aside { Aside self.old self.new }
+    {
+        self.take_room()?;
+        self.host.wrap(x, &mut self.told)
+    }
+
+    /// A reflector is preserved from then on: its native holds it. Takes no memory.
+    pub fn preserve(&mut self, x: Object) -> Result<(), Stop>
+        ensures stops { IsStoppedBy (stop_reflector self.old.host x) result }
+        ensures does { OnOk result (Does (IsRooted self.old.host x) (λ g. graph.preserve g (Some x.name)) self.old.host self.new.host) }
+        ensures same { OnErr result (self.new ≡ self.old) }
+        ensures quiet { Quiet self.old self.new }
+    {
+        self.host.preserve(x)
+    }
+
+    // The program's numbers
+
+    /// The number that the program gave a native, 0 where it gave none.
+    pub fn data(&self, x: Object) -> Result<u64, Stop>
+        ensures stops { IsStoppedBy (stop_native self.now.host x) result }
+        ensures data { IfOk result (λ data. data ≡ data_at self.now.books (number_of x.name)) }
+    {
+        let number = self.number(x)?;
+        Ok(self.book.data(number))
+    }
+
+    // The number of a native that is there.
+    fn number(&self, x: Object) -> Result<u32, Stop>
+        ensures stops { IsStoppedBy (stop_native self.now.host x) result }
+        ensures number { IfOk result (λ number. number ≡ number_of x.name) }
+    {
+        self.host.slots(x)?;
+        match x.name {
+            Name::Native(number) => Ok(number.0),
+            Name::Script(_) | Name::Reflector(_) => Err(Stop::Kind),
+        }
+    }
+
+    /// Gives a native a number, an address say, that the program finds again by `data`, and by `data_of` once the native is
+    /// gone. It takes 8 bytes for each native that was made before it. `NoMemory` changes no number.
+    pub fn set_data(&mut self, x: Object, data: u64) -> Result<(), Stop>
+        ensures stops { IsStoppedOrRefused (stop_native self.old.host x) result }
+        ensures given { OnOk result (data_at self.new.books (number_of x.name) ≡ data) }
+        ensures others { (n : ℕ) → n ≢ number_of x.name → data_at self.new.books n ≡ data_at self.old.books n }
+        ensures err { OnErr result ((n : ℕ) → data_at self.new.books n ≡ data_at self.old.books n) }
+        ensures rest { self.new ≡ record self.old { books = record self.old.books { data = self.new.books.data } } }
+    {
+        let number = self.number(x)?;
+        self.book.set_data(number, data)?;
+        Ok(())
+    }
+
+    /// The number that the program gave the native with this number, there or gone; 0 where it gave none. To be asked for what
+    /// was told.
+    pub fn data_of(&self, number: u32) -> u64
+        ensures { result ≡ data_at self.now.books number }
+    {
+        self.book.data(number)
+    }
+}
