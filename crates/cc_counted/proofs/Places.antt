@@ -1,5 +1,5 @@
 -- Natives by key and by number: each number stands at one key, and is found there.
-use Rattle.std.proofs.Common.{◌≡◌, ℕ, ◌≤◌, Bool, List, map, length, Option, Some, None, option_map, refl, sym, ◌∙◌, ap, subst, count_by, ◌==◌}
+use Rattle.std.proofs.Common.{◌≡◌, ℕ, ◌≤◌, Bool, List, map, length, Option, Some, None, is_some, option_map, refl, sym, ◌∙◌, ap, subst, count_by, ◌==◌}
 use Rattle.std.proofs.Math.ListN.{get_or-map}
 use Rattle.std.proofs.lemmas.Bool.{eq-eqb}
 use Rattle.std.proofs.lemmas.List.{length-map}
@@ -8,6 +8,8 @@ use Rattle.cc_lists.specs.Members.{Among}
 use Rattle.cc_lists.proofs.Members.{Among-map, Among-map_cases}
 use Rattle.cc_lists.proofs.Counting.{count_by-map}
 use Rattle.cc_lists.proofs.ListWrites.{only-member}
+use Rattle.cc_chain.specs.Chains.{AllDiffer}
+use Rattle.cc_chain.proofs.Occupied.{few-differ, occupied-length, parts-differ}
 use Rattle.cc_model.specs.Heap.{HeapNative, native_at}
 use Rattle.cc_model.specs.WellFormed.{IsRising}
 use Rattle.cc_laws_heap.proofs.Face.{IsRising-distinct, IsRising-once, native_at-member}
@@ -65,6 +67,13 @@ module _ (l : Lists) (p : IsPlaced l) where
 
   pub natives-distinct : HasDistinctNumbers (heap_of (counts_of l))
   natives-distinct = IsRising-distinct (heap_of (counts_of l)) natives-rising
+
+  -- the order has each key once, so there are as many natives as keys at which one stands
+  order-differs : AllDiffer l.order
+  order-differs = parts-differ (the_number (keyed l.cells)) l.order (few-differ (map (the_number (keyed l.cells)) l.order) (IsRising-once (map (the_number (keyed l.cells)) l.order) p.rising))
+
+  pub natives-counted : count_by is_some l.cells ≡ length (counts_of l).natives
+  natives-counted = occupied-length l.cells l.order order-differs p.in_order p.ordered ∙ sym (length-natives l)
 
   -- no number stands at two keys
   pub one_key : (a b : ℕ) (c d : Placed) → cell_at l.cells a ≡ Some c → cell_at l.cells b ≡ Some d → c.number ≡ d.number → a ≡ b

@@ -215,6 +215,13 @@ impl Counted {
         self.natives.number(key)
     }
 
+    /// How many natives there are. It takes the same time however many there are.
+    pub fn len(&self) -> usize
+        ensures { result ≡ length self.now.natives }
+    {
+        self.natives.len()
+    }
+
     /// The native with the least number; none exactly where there is none.
     pub fn first(&self) -> Option<NKey>
         ensures number { option_and_then (λ k. number_at self.now k.0) result ≡ first_number self.now.natives }

@@ -1,5 +1,5 @@
 //! The natives by key, and the lists that go through them.
-ghost use Rattle.std.specs.Prelude.{◌≡◌, ◌≢◌, true, false, ◌+◌, ◌<◌, ◌≤◌, [], ◌∷◌, ◌++◌, length, drop, Some, None, option_map, IsSome, IsTrue, IfOk, OnErr, replicate, slice_index_or, vec_capacity, vec_len};
+ghost use Rattle.std.specs.Prelude.{◌≡◌, ◌≢◌, true, false, ◌+◌, ◌<◌, ◌≤◌, [], ◌∷◌, ◌++◌, length, count_by, drop, Some, None, is_some, option_map, IsSome, IsTrue, IfOk, OnErr, replicate, slice_index_or, vec_capacity, vec_len};
 ghost use Rattle.cc_lists.specs.Members.{Among};
 ghost use Rattle.cc_lists.specs.Walks.{first_of};
 ghost use Rattle.cc_chain.specs.Chains.{behind};
@@ -74,6 +74,13 @@ impl Natives {
             Some(node) => Some(node.cell.number),
             None => None,
         }
+    }
+
+    /// How many natives there are.
+    pub(crate) fn len(&self) -> usize
+        ensures { result ≡ count_by is_some self.now.lists.cells }
+    {
+        self.nodes.slab.len()
     }
 
     /// Lowers the count of the native at a key, and returns it.

@@ -1,5 +1,5 @@
 //! The natives, with a table by number that counts what each refers to in the script heap.
-ghost use Rattle.std.specs.Prelude.{◌≡◌, ◌≢◌, true, false, ℕ, ◌+◌, ◌<◌, ◌≤◌, ◌==◌, ◌&&◌, [], ◌∷◌, ◌++◌, length, drop, Some, None, is_some, option_map, if◌then◌else◌, IsSome, IsTrue, IfNone, IfOk, IfSome, OnErr, replicate, slice_index_or};
+ghost use Rattle.std.specs.Prelude.{◌≡◌, ◌≢◌, true, false, ℕ, ◌+◌, ◌<◌, ◌≤◌, ◌==◌, ◌&&◌, [], ◌∷◌, ◌++◌, length, count_by, drop, Some, None, is_some, option_map, if◌then◌else◌, IsSome, IsTrue, IfNone, IfOk, IfSome, OnErr, replicate, slice_index_or};
 ghost use Rattle.cc_lists.specs.Members.{Among};
 ghost use Rattle.cc_lists.specs.Walks.{first_of};
 ghost use Rattle.cc_names.specs.Sizes.{most_slots};
@@ -63,6 +63,13 @@ impl Population {
         ensures { option_map (λ n. n.0) result ≡ option_map (λ c. c.number) (cell_at self.now.lists.cells key.0) }
     {
         self.natives.number(key)
+    }
+
+    /// How many natives there are.
+    pub(crate) fn len(&self) -> usize
+        ensures { result ≡ count_by is_some self.now.lists.cells }
+    {
+        self.natives.len()
     }
 
     // What natives refer to

@@ -1,14 +1,13 @@
 -- ONE OBJECT CHANGED AT ITS KEY.
-use Rattle.std.proofs.Common.{◌≡◌, ◌≢◌, ℕ, ◌<◌, ◌≤◌, true, false, length, Some, None, refl, sym, ◌∙◌, ap, subst, ⊎_elim, ◌⊎◌, inl, inr, ◌==◌, arith}
+use Rattle.std.proofs.Common.{◌≡◌, ◌≢◌, ℕ, ◌<◌, ◌≤◌, length, Some, None, sym, ◌∙◌, ap, subst, ⊎_elim, ◌⊎◌, arith}
 use Rattle.std.proofs.lemmas.Bool.{cases_lt, eq-eqb, ne_eqb}
 use Rattle.std.proofs.lemmas.Bool.Decides.{eqb_tells}
 use Rattle.std.proofs.lemmas.List.{get_or-set_same, get_or-set_other, get_or_past}
 use Rattle.std.proofs.lemmas.Simd.{map-map}
-use Rattle.cc_lists.specs.Members.{Among}
 use Rattle.cc_lists.proofs.ListWrites.{map-agree}
 use Rattle.cc_names.specs.Sizes.{most_slots}
 use Rattle.cc_script.specs.Objects.{Object, FitsKind, FitsDelegate, change_object}
-use Rattle.cc_script.specs.Lists.{Placed, Lists, cell_at, placed_or_nothing, with_key, shown_at, objects_of, with_cell, IsPlaced}
+use Rattle.cc_script.specs.Lists.{Placed, Lists, cell_at, with_key, objects_of, with_cell, IsPlaced}
 use Rattle.cc_script.proofs.Keys.{changed_at}
 
 module _ (l : Lists) (p : IsPlaced l) (key : ℕ) (c d : Placed) (at : cell_at l.cells key ≡ Some c) where

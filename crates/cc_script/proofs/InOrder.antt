@@ -1,5 +1,5 @@
 -- THE COLOUR ORDER IS KEPT by each change of the objects.
-use Rattle.std.proofs.Common.{◌≡◌, ◌≢◌, ℕ, zero, suc, Bool, true, false, not, cond, List, [], ◌∷◌, ◌++◌, replicate, Option, Some, None, option_map, refl, sym, ◌∙◌, ap, subst, ⊎_elim, ◌⊎◌, inl, inr, ◌==◌, arith}
+use Rattle.std.proofs.Common.{◌≡◌, ◌≢◌, ℕ, zero, suc, Bool, true, false, not, List, [], ◌∷◌, ◌++◌, replicate, Option, Some, None, option_map, refl, sym, ◌∙◌, ap, subst, ⊎_elim, ◌⊎◌, inl, inr, ◌==◌, arith}
 use Rattle.std.specs.List.{find}
 use Rattle.std.proofs.Math.ListN.{set}
 use Rattle.std.proofs.lemmas.Bool.{ne_eqb, true≢false, false≢true}
@@ -10,7 +10,7 @@ use Rattle.cc_lists.proofs.ListWrites.{Among-set_cases, changed_where-either}
 use Rattle.cc_lists.proofs.Searching.{find-filter}
 use Rattle.cc_names.specs.declared.kind.Colour.{Colour}
 use Rattle.cc_names.specs.declared.kind.Colour.TheVariants.{White}
-use Rattle.cc_script.specs.Objects.{Object, object_at, is_there, colour_at, change_object, with_slot, with_colour, without_object, whitened, is_below, IsNotBelow, places_of}
+use Rattle.cc_script.specs.Objects.{Object, object_at, is_there, colour_at, change_object, with_slot, without_object, whitened, is_below, IsNotBelow, places_of}
 use Rattle.cc_script.specs.ColourOrder.{HasColourOrder}
 use Rattle.cc_script.proofs.PlacesOf.{slot-place, delegate-place, place-cases}
 use Rattle.cc_script.proofs.Keys.{object_at-map, changed_at, changed_at-key, changed_at-same}

@@ -1,6 +1,7 @@
 -- A SLAB AND A LIST BESIDE IT: what is read at a key, and what a write of either changes.
-use Rattle.std.proofs.Common.{◌≡◌, ◌≢◌, ℕ, ◌<◌, zero, suc, List, [], ◌∷◌, length, drop, get_or, Option, Some, None, option_map, is_some, true, refl, sym, ◌∙◌, ap, arith}
+use Rattle.std.proofs.Common.{◌≡◌, ◌≢◌, ℕ, ◌<◌, zero, suc, List, [], ◌∷◌, length, count_by, drop, get_or, Option, Some, None, option_map, is_some, true, refl, sym, ◌∙◌, ap, arith}
 use Rattle.std.proofs.Math.ListN.{set}
+use Rattle.cc_lists.proofs.Counting.{count_by-cons}
 use Rattle.slab.specs.Slab.{Slab, ContainsKey, Updates, get}
 use Rattle.cc_script.specs.Paired.{paired, paired_slab, Reaches}
 
@@ -21,6 +22,16 @@ module _ {X Y Z : Type 0} (pair : Y → X → Z) (none : Y) where
   -- it stands there where something stands in the slab
   pub paired-held : (slots : List (Option X)) (apart : List Y) (key : ℕ) → is_some (get_or (paired pair none slots apart) key None) ≡ is_some (get_or slots key None)
   paired-held slots apart key = ap is_some (paired-at slots apart key) ∙ map-held (get_or apart key none) (get_or slots key None)
+
+  -- so there are as many
+  pub paired-counted : (slots : List (Option X)) (apart : List Y) → count_by is_some (paired pair none slots apart) ≡ count_by is_some slots
+  paired-counted [] apart = refl
+  paired-counted (o ∷ slots) apart = rw (
+    count_by-cons is_some (option_map (pair (get_or apart 0 none)) o) (paired pair none slots (drop 1 apart)),
+    count_by-cons is_some o slots,
+    map-held (get_or apart 0 none) o,
+    paired-counted slots (drop 1 apart),
+  ) refl
 
   -- the slab written
   pub paired-set : (slots : List (Option X)) (apart : List Y) (key : ℕ) (o : Option X) →

@@ -1,10 +1,12 @@
 -- OBJECTS BY KEY: what the list shows at a key is what stands there.
-use Rattle.std.proofs.Common.{◌≡◌, ℕ, true, false, Option, Some, None, option_map, option_and_then, is_some, refl, sym, ◌∙◌, ap, subst, ◌==◌, arith}
+use Rattle.std.proofs.Common.{◌≡◌, ℕ, true, false, Option, Some, None, option_map, option_and_then, is_some, refl, sym, ◌∙◌, ap, subst, ◌==◌, arith, count_by, length}
 use Rattle.std.specs.List.{find}
 use Rattle.std.proofs.lemmas.Bool.{false≢true}
+use Rattle.std.proofs.lemmas.List.{length-map}
 use Rattle.cc_lists.specs.Members.{Among}
 use Rattle.cc_lists.proofs.Members.{Among-map_cases}
 use Rattle.cc_lists.proofs.Searching.{find-map}
+use Rattle.cc_chain.proofs.Occupied.{few-differ, occupied-length}
 use Rattle.cc_script.specs.Objects.{Object, colour_at, delegate_at, object_at, is_there, slots_at, slots_or_none}
 use Rattle.cc_script.specs.Lists.{Placed, Lists, cell_at, placed_or_nothing, with_key, shown_at, objects_of, IsPlaced}
 use Rattle.cc_script.proofs.Keys.{find-key, find-no_key}
@@ -52,3 +54,7 @@ module _ (l : Lists) (p : IsPlaced l) where
       let f = p.in_order k.0 k.1 in
       subst (λ (z : Object). object_at (objects_of l) z.key ≡ Some z) k.2
       (object_at-placed k.0 f.0 f.1 ∙ ap (λ c. Some (with_key k.0 (placed_or_nothing c))) (sym f.1))
+
+  -- the order has each key once, so there are as many objects as keys at which one stands
+  pub objects-counted : count_by is_some l.cells ≡ length (objects_of l)
+  objects-counted = occupied-length l.cells l.order (few-differ l.order p.once) p.in_order p.ordered ∙ sym (length-map l.order (shown_at l.cells))

@@ -9,7 +9,7 @@ use Rattle.cc_lists.proofs.Members.{Among-append}
 use Rattle.cc_lists.proofs.Counting.{count_by-map}
 use Rattle.cc_lists.proofs.Filtering.{count_by-wider}
 use Rattle.cc_names.specs.declared.kind.Colour.{Colour}
-use Rattle.cc_script.specs.Objects.{Object, object_at, is_there, delegate_at, places_at, places_of, places_or_none, slots_at, slots_or_none, change_object, is_below, raised}
+use Rattle.cc_script.specs.Objects.{Object, object_at, is_there, delegate_at, places_at, places_of, places_or_none, slots_at, change_object, is_below, raised}
 use Rattle.cc_script.specs.Marking.{Marking, is_lower, raise_key, raise_slot, raise_each, count_lower, to_do, AreRaised}
 use Rattle.cc_script.proofs.Keys.{object_at-among, object_at-key, object_at-map, changed_at, changed_at-key, changed_at-same}
 use Rattle.cc_script.proofs.PlacesOf.{places-read, places-same}

@@ -1,12 +1,12 @@
 -- ALL OBJECTS MADE WHITE at once.
-use Rattle.std.proofs.Common.{◌≡◌, ℕ, ◌≤◌, List, map, length, Option, Some, None, option_map, refl, sym, ◌∙◌, ap, subst, arith}
+use Rattle.std.proofs.Common.{◌≡◌, ℕ, ◌≤◌, List, map, length, Option, Some, None, option_map, sym, ◌∙◌, ap, subst, arith}
 use Rattle.std.proofs.Math.ListN.{get_or-map}
 use Rattle.std.proofs.lemmas.Simd.{map-map}
 use Rattle.cc_lists.proofs.ListWrites.{map-agree}
 use Rattle.cc_names.specs.declared.kind.Colour.TheVariants.{White}
 use Rattle.cc_names.specs.Sizes.{most_slots}
-use Rattle.cc_script.specs.Objects.{FitsKind, FitsDelegate, with_colour, whitened}
-use Rattle.cc_script.specs.Lists.{Placed, Lists, cell_at, painted, placed_or_nothing, with_key, shown_at, objects_of, IsPlaced}
+use Rattle.cc_script.specs.Objects.{FitsKind, FitsDelegate, whitened}
+use Rattle.cc_script.specs.Lists.{Placed, Lists, cell_at, painted, objects_of, IsPlaced}
 
 -- the objects by key, all white
 abbrev all_white : List (Option Placed) → List (Option Placed)

@@ -1,6 +1,6 @@
 -- WHERE EACH SLOT HOLDS WHAT IS THERE, it does after each call but `remove`; and what is there stays there.
 use Rattle.cc_lists.proofs.Held.{is_some-found}
-use Rattle.std.proofs.Common.{◌≡◌, ℕ, true, List, [], ◌∷◌, ◌++◌, map, replicate, Some, None, is_some, sym, ◌∙◌, ap, subst, ⊎_elim, refl, arith}
+use Rattle.std.proofs.Common.{◌≡◌, ℕ, true, List, [], ◌∷◌, ◌++◌, map, replicate, Some, None, is_some, sym, ap, subst, ⊎_elim, refl, arith}
 use Rattle.cc_lists.specs.Members.{Among}
 use Rattle.cc_lists.proofs.Members.{Among-append, Among-map_cases}
 use Rattle.cc_names.specs.declared.kind.Colour.{Colour}

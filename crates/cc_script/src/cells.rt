@@ -4,7 +4,7 @@
 //! where it is. Making all white, and the look for objects of a colour, go over the colours alone, which stand
 //! together, a byte each: so a heap that lives is marked without a walk over its objects before and after.
 ghost use Rattle.std.specs.Prelude.{◌≡◌, ◌≢◌, ◌↔◌, ◌<◌, ◌≤◌, ℕ, [], Some, get_or, is_some, length, option_map, slice_set, IfOk, IsSome, IsTrue, false, OnErr, OnOk};
-ghost use Rattle.slab.specs.Slab.{ContainsKey, Updates, get};
+ghost use Rattle.slab.specs.Slab.{ContainsKey, Updates, get, slab_len};
 ghost use Rattle.cc_names.specs.declared.kind.Colour.{Colour};
 ghost use Rattle.cc_names.specs.declared.kind.Colour.TheVariants.{Gray};
 ghost use Rattle.cc_script.specs.Lists.{cell_at, painted, slots_placed, written};
@@ -107,6 +107,13 @@ impl Cells {
         ensures { result ≡ is_some (get self.now key) }
     {
         self.slab.contains(key as usize)
+    }
+
+    /// How many objects there are.
+    pub(crate) fn len(&self) -> usize
+        ensures { result ≡ slab_len self.now }
+    {
+        self.slab.len()
     }
 
     /// What the object at a key is.

@@ -86,6 +86,14 @@ impl ScriptParts {
         self.cells.contains(key.0)
     }
 
+    /// How many objects there are.
+    pub(crate) fn len(&self) -> usize
+        requires placed { IsPlaced (lists_of self.now) }
+        ensures { result ≡ length (shows self.now) }
+    {
+        self.cells.len()
+    }
+
     /// What the object at a key is.
     pub(crate) fn cell(&self, key: SKey) -> &Cell
         requires placed { IsPlaced (lists_of self.now) }

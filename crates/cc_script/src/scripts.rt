@@ -187,6 +187,13 @@ impl Scripts {
         self.parts.set_slot(key, i, item);
     }
 
+    /// How many script objects there are. It takes the same time however many there are.
+    pub fn len(&self) -> usize
+        ensures { result ≡ length self.now }
+    {
+        self.parts.len()
+    }
+
     /// The object that was made first; none exactly where there is none.
     pub fn first(&self) -> Option<SKey>
         ensures key { option_map (λ k. k.0) result ≡ first_key self.now }
