@@ -1,0 +1,140 @@
+/* ccollect.h: a cycle collector over counted natives and traced script objects, for programs in C and C++.
+ *
+ * The library is proved: what a call makes of the objects, what it answers, and that a collection takes nothing that a root
+ * reaches, are contracts of its Rattle source (crates/cc_c, crates/cc_session, crates/cc_host). They hold for every argument,
+ * also for one that is stale, of another collector or made up, as long as the program keeps to what follows.
+ *
+ * WHAT C OWES, which nothing proves.
+ * - A `cc_collector` is the program's memory, two words. All zeros is a closed one (CC_COLLECTOR_CLOSED). From cc_open to cc_close
+ *   the library owns what it points to: it is not written, copied or freed by the program. What is not closed is leaked.
+ * - Every pointer that is handed in is valid, aligned and not null; it is read or written during the call alone. No two
+ *   pointers of one call overlap, and none points into the collector.
+ * - One collector is used by one thread at a time, and on the thread that opened it. No call comes from a signal handler. The
+ *   library calls nothing of the program: what happened is fetched by cc_next_told. Several collectors are independent.
+ * - Memory is malloc's, by way of rattle_alloc, rattle_realloc and rattle_dealloc: ccollect_heap.c has them, and a program with
+ *   an allocator of its own writes its own three.
+ *
+ * OBJECTS. A `cc_object` names an object for good; it may be kept for ever, and keeping it keeps nothing alive. Once the object
+ * is no more each call that it is handed to answers CC_GONE, whatever stands in its place by then. One whose kind is CC_NOTHING
+ * is no object: so a root or a slot is emptied, and so an empty one is answered. Numbers count from 1, in two numberings
+ * (natives; plain objects, weak maps and proxies); a reflector has the number of its native. No number is used twice, but that a
+ * native that lost its reflector gets another of the same number.
+ *
+ * ROOTS. What no root reaches is garbage. 128 roots of natives and 128 of script objects have numbers, from 0: what is made
+ * stands in one of them. Beside them cc_hold keeps any object until cc_release, as many as wanted; a cc_root that was released
+ * is refused (CC_GONE) for ever.
+ *
+ * WHAT IS TOLD. Calls that delete and collections tell what they did, in its order, and cc_next_told hands it out. CC_UNLINKED: a
+ * collection took the native's references away; it may be told again at a later collection, while a script object still holds
+ * the native. CC_FREED comes once, and is the last of an object. CC_ABANDONED: a collection was given up for want of memory. With
+ * a native comes the number that cc_set_data gave it. Room for what one collection can tell is taken when objects are made: a
+ * program that fetches between two collections loses nothing; what was lost all the same shows in cc_is_told_broken.
+ *
+ * STATUS. Each call answers one of the CC_ numbers. Unless it is CC_OK nothing was changed and no out-parameter written, but that
+ * of cc_slice, cc_collect and cc_settle CC_NO_MEMORY means that a collection was given up, and nothing is lost; and of cc_wrap,
+ * cc_set_entry, cc_new_proxy and cc_hold, where it leaves every object as it is. */
+#ifndef CCOLLECT_H
+#define CCOLLECT_H
+#include <stdint.h>
+#ifdef __cplusplus
+extern "C" {
+#endif
+
+enum {
+    CC_OK = 0,
+    CC_CLOSED = 1,    /* the collector is not open */
+    CC_OPEN = 2,      /* it is open already */
+    CC_FOREIGN = 3,   /* an object or root is of another collector */
+    CC_GONE = 4,      /* an object is not there; a root is not in use; no object where one must be */
+    CC_KIND = 5,      /* an object is of the wrong kind */
+    CC_INDEX = 6,     /* there is no such root or slot; or too many slots */
+    CC_FULL = 7,      /* as many objects as the limit were ever made; or no place is left for a root */
+    CC_NO_MEMORY = 8,
+    CC_LIMIT = 9,     /* a limit above 1000000 */
+    CC_NONE = 10      /* nothing more was told */
+};
+enum { CC_NOTHING = 0, CC_NATIVE = 1, CC_SCRIPT = 2, CC_REFLECTOR = 3 };
+enum { CC_UNLINKED = 1, CC_FREED = 2, CC_ABANDONED = 3 };
+enum { CC_PLAIN = 1, CC_MAP = 2, CC_REFLECTS = 3, CC_PROXY = 4 };
+enum { CC_BY_ROOT = 1, CC_BY_OBJECT = 2, CC_BY_ENTRY = 3 };
+
+typedef struct cc_collector { uint64_t state; void *at; } cc_collector;
+typedef struct cc_object { uint64_t mark; uint32_t key; uint32_t number; uint32_t kind; } cc_object;
+typedef struct cc_root { uint64_t mark; uint64_t serial; uint32_t index; } cc_root;
+typedef struct cc_told { uint64_t data; uint32_t what; uint32_t kind; uint32_t number; } cc_told;
+/* An object on the way to one that was asked for, and why it is reached: a root holds it (by_kind CC_NATIVE or CC_SCRIPT, and
+ * by_number the root's), or an object refers to it, or an entry of a weak map (by) gives it to a key. A native root from 128 on
+ * holds a table of the roots that cc_hold made, which is a native. */
+typedef struct cc_step {
+    uint32_t kind, number, why, by_kind, by_number, key_kind, key_number;
+} cc_step;
+#define CC_COLLECTOR_CLOSED { 0, 0 }
+
+/* As many natives, and as many script objects, may ever be made; each 0 to 1000000. Two collectors that are open at one time
+ * have different marks: then the objects of the one are CC_FOREIGN to the other. */
+uint32_t cc_open(cc_collector *, uint64_t mark, uint32_t natives, uint32_t scripts);
+/* Frees all that it has, and tells nothing. A closed one stays closed. */
+void cc_close(cc_collector *);
+
+/* What is made stands in numbered root r, in place of what stood there. A native has 0 to 255 slots, a plain object 0 to 256. */
+uint32_t cc_new_native(cc_collector *, uint16_t r, uint16_t slots, cc_object *made);
+uint32_t cc_new_plain(cc_collector *, uint16_t r, uint16_t slots, cc_object *made);
+uint32_t cc_new_map(cc_collector *, uint16_t r, cc_object *made);
+uint32_t cc_new_proxy(cc_collector *, uint16_t r, const cc_object *delegate, cc_object *made);
+
+/* Roots. */
+uint32_t cc_set_native_root(cc_collector *, uint16_t r, const cc_object *);
+uint32_t cc_set_script_root(cc_collector *, uint16_t r, const cc_object *);
+uint32_t cc_native_root(cc_collector *, uint16_t r, cc_object *held);
+uint32_t cc_script_root(cc_collector *, uint16_t r, cc_object *held);
+uint32_t cc_hold(cc_collector *, const cc_object *, cc_root *root);
+uint32_t cc_release(cc_collector *, const cc_root *);
+uint32_t cc_held(cc_collector *, const cc_root *, cc_object *held);
+
+/* Slots, counted from 0. Natives hold natives and script objects; script objects hold script objects. */
+uint32_t cc_slots(cc_collector *, const cc_object *, uint16_t *slots);
+uint32_t cc_slot(cc_collector *, const cc_object *, uint16_t i, cc_object *held);
+uint32_t cc_store(cc_collector *, const cc_object *, uint16_t i, const cc_object *content);
+/* Slot i of `to` gets what slot j of `from` held, which is empty then. */
+uint32_t cc_move_slot(cc_collector *, const cc_object *to, uint16_t i, const cc_object *from, uint16_t j);
+
+/* Reflectors: of a native, for script. */
+uint32_t cc_wrap(cc_collector *, const cc_object *native, cc_object *reflector);
+uint32_t cc_unwrap(cc_collector *, const cc_object *, cc_object *native);
+uint32_t cc_preserve(cc_collector *, const cc_object *reflector);
+uint32_t cc_kind(cc_collector *, const cc_object *, uint32_t *kind);
+
+/* Entries of weak maps. */
+uint32_t cc_set_entry(cc_collector *, const cc_object *map, const cc_object *key, const cc_object *value);
+uint32_t cc_unset_entry(cc_collector *, const cc_object *map, const cc_object *key);
+uint32_t cc_entry(cc_collector *, const cc_object *map, const cc_object *key, cc_object *value);
+
+/* Collections. cc_slice does so many units of the running one, or begins one; *over is 1 where it came to its end, else 0. */
+uint32_t cc_slice(cc_collector *, uint32_t units, uint32_t *over);
+uint32_t cc_collect(cc_collector *);
+uint32_t cc_gc(cc_collector *);
+/* Leaves exactly what the roots reach. */
+uint32_t cc_settle(cc_collector *);
+uint32_t cc_running(cc_collector *, uint32_t *running);
+
+/* What was told: CC_NONE where all was fetched. */
+uint32_t cc_next_told(cc_collector *, cc_told *);
+/* *broken is 1 where an item was lost for want of memory, and each later one is until cc_mend_told. */
+uint32_t cc_is_told_broken(cc_collector *, uint32_t *broken);
+uint32_t cc_mend_told(cc_collector *);
+
+/* Questions. The answer of cc_is_there is its status. */
+uint32_t cc_is_there(cc_collector *, const cc_object *);
+uint32_t cc_natives(cc_collector *, uint64_t *natives);
+uint32_t cc_scripts(cc_collector *, uint64_t *scripts);
+uint32_t cc_has_suspects(cc_collector *, uint32_t *some);
+/* *led is 1 where roots lead to it: then cc_next_step hands out the steps, the object itself last, and CC_NONE behind them. */
+uint32_t cc_why(cc_collector *, const cc_object *, uint32_t *led);
+uint32_t cc_next_step(cc_collector *, cc_step *);
+uint32_t cc_data(cc_collector *, const cc_object *native, uint64_t *data);
+uint32_t cc_set_data(cc_collector *, const cc_object *native, uint64_t data);
+
+#ifdef __cplusplus
+}
+#endif
+#endif
