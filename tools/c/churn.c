@@ -10,10 +10,10 @@
  * - What is told as unlinked or freed is not reached at that time, and nothing is freed twice.
  * - After each settle the library has exactly what the model reaches: as many natives and script objects, each of them there
  *   with the contents of the model, and all others gone and told as freed.
- * - The steps of cc_why are steps in the model.
+ * - The steps of cc_why are steps in the model, and there are none where nothing leads to the object.
  *
- * Operations are done to objects that are reached alone, as the contracts speak of these; and to objects that are gone, of
- * another collector and made up, which must be refused.
+ * Operations are done to objects that are reached, since the contracts speak of these. Some are written that nothing reaches any
+ * more, which must change nothing of what is reached. Objects that are gone, of another collector and made up must be refused.
  *
  * The meaning is that of docs/COMMANDS.md. A native refers to what its slots hold, and to its reflector once that is preserved;
  * a reflector to what its slots hold and to its native; a proxy to its delegate. An entry gives its value where map and key are
@@ -31,8 +31,8 @@ enum {
     MOST_ENTRIES = 1 << 14,
     MOST_SLOTS = 5,
     MANY = 1500,       /* from so many objects on, roots are emptied more often */
-    NATIVE_LIMIT = 3700, /* so many a collector ever makes; then another is opened */
-    SCRIPT_LIMIT = 6000,
+    NATIVE_LIMIT = 3700,
+    SCRIPT_LIMIT = 6000, /* so many a collector ever makes of each; then another is opened */
     BETWEEN = 3000,    /* operations between two settles */
     STALE = 64,
     UNUSED = 255       /* in place of a kind: no thing is here */
@@ -92,7 +92,7 @@ static uint32_t stale_count;
 
 static cc_collector c = CC_COLLECTOR_CLOSED;
 static uint64_t mark;
-static unsigned long operation, done[32];
+static unsigned long operation;
 static unsigned long told_freed, told_unlinked, settles, refused, steps_seen, collectors, most_live;
 
 static void fail(const char *what, uint32_t t) {
@@ -278,6 +278,16 @@ static uint32_t draw_holder(void) {
     return 0;
 }
 
+/* Something that nothing reaches, and that is still there. None where none is drawn. */
+static uint32_t draw_unreached(void) {
+    mark_reached();
+    for (unsigned i = 0; i < 32; i++) {
+        uint32_t t = draw(thing_count);
+        if (t != 0 && things[t].what != UNUSED && !things[t].is_freed && !is_reached(t)) return t;
+    }
+    return 0;
+}
+
 /* OPERATIONS. */
 
 static void open_collector(void) {
@@ -294,7 +304,8 @@ static void make_native(void) {
     uint32_t r = draw(NUMBERED);
     uint8_t slots = (uint8_t)draw(MOST_SLOTS + 1);
     TRY(cc_new_native(&c, (uint16_t)r, slots, &made));
-    SO(made.kind == CC_NATIVE && made.mark == mark && made.number > last_native && made.number <= NATIVE_LIMIT, "a wrong name", 0);
+    SO(made.kind == CC_NATIVE && made.mark == mark, "a native is no native of this collector", 0);
+    SO(made.number > last_native && made.number <= NATIVE_LIMIT, "a native has a wrong number", 0);
     last_native = made.number;
     natives_made++;
     uint32_t t = add_thing(&made, 0, slots, 0);
@@ -362,6 +373,14 @@ static void store(void) {
     things[x].slot[i] = y;
 }
 
+/* It refers to something else from then on, and nobody sees it. A reflector is left alone: it may be that of a native that is
+ * reached, and would be preserved. */
+static void store_unreached(void) {
+    uint32_t x = draw_unreached(), y = draw_script();
+    if (x == 0 || things[x].slots == 0 || things[x].what == CC_REFLECTS) return;
+    TRY(cc_store(&c, object_of(x), (uint16_t)draw(things[x].slots), object_of(y)));
+}
+
 static void move_slot(void) {
     uint32_t to = draw_native(), from = draw_native();
     if (to == 0 || from == 0 || things[to].slots == 0 || things[from].slots == 0) return;
@@ -378,7 +397,8 @@ static void wrap(void) {
     uint32_t native = draw_native(), t;
     if (native == 0) return;
     TRY(cc_wrap(&c, object_of(native), &made));
-    SO(made.kind == CC_REFLECTOR && made.mark == mark && made.number == things[native].object.number, "a wrong reflector", native);
+    SO(made.kind == CC_REFLECTOR && made.mark == mark, "a reflector is none of this collector", native);
+    SO(made.number == things[native].object.number, "a reflector has another number than its native", native);
     if (has_reflector(native)) {
         t = things[native].other;
         SO(is_same(&made, &things[t].object), "a native has another reflector, though it lost none", native);
@@ -554,6 +574,15 @@ static bool is_step(const cc_step *s, uint32_t t) {
     if (i < entry_count && entries[i].value == t) return true;
     i = find_entry(by, t); /* key is the delegate of t, which is a key */
     return i < entry_count && things[t].what == CC_PROXY && things[t].other == key;
+}
+
+static void ask_why_not(void) {
+    cc_step s;
+    uint32_t t = draw_unreached(), led;
+    if (t == 0) return;
+    TRY(cc_why(&c, object_of(t), &led));
+    SO(led == 0, "roots lead to an object that nothing reaches", t);
+    WANT(cc_next_step(&c, &s), CC_NONE);
 }
 
 static void ask_why(void) {
@@ -796,19 +825,16 @@ static void change_collectors(void) {
     open_collector();
 }
 
-/* How often each operation is drawn, of a thousand. */
+/* How often each operation is drawn, of all shares. */
 static const struct {
     uint32_t share;
     void (*run)(void);
-    const char *name;
 } operations[] = {
-    {80, make_native, "native"}, {80, make_plain, "plain"},        {20, make_map, "map"},
-    {30, make_proxy, "proxy"},   {90, set_native_root, "root"},    {80, set_script_root, "root"},
-    {210, store, "store"},       {30, move_slot, "move"},          {70, wrap, "wrap"},
-    {50, set_entry, "entry"},    {20, unset_entry, "unset"},       {30, read_entry, "read entry"},
-    {25, hold, "hold"},          {25, release, "release"},         {60, read_thing, "read"},
-    {10, change_data, "data"},   {30, call_wrongly, "refused"},    {6, ask_why, "why"},
-    {50, slice, "slice"},        {2, collect, "collect"},          {6, collect_scripts, "gc"},
+    {80, make_native}, {80, make_plain},      {20, make_map},     {30, make_proxy}, {90, set_native_root},
+    {210, store},      {10, store_unreached}, {30, move_slot},    {70, wrap},       {80, set_script_root},
+    {50, set_entry},   {20, unset_entry},     {30, read_entry},   {25, hold},       {25, release},
+    {60, read_thing},  {10, change_data},     {30, call_wrongly}, {6, ask_why},     {4, ask_why_not},
+    {50, slice},       {2, collect},          {6, collect_scripts},
 };
 enum { KINDS = sizeof operations / sizeof operations[0] };
 
@@ -822,7 +848,6 @@ int main(int count, char **words) {
         uint32_t share = draw(shares), kind = 0;
         while (share >= operations[kind].share) share -= operations[kind++].share;
         operations[kind].run();
-        done[kind]++;
         fetch();
         if (operation % BETWEEN == 0) settle();
         if (last_native > NATIVE_LIMIT - 50 || last_script > SCRIPT_LIMIT - 50) change_collectors();

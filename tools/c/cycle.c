@@ -313,6 +313,7 @@ static void meet_each_status(cc_collector *c, const struct page *p) {
     WANT(cc_slot(c, &native, 1, &out), CC_INDEX);
     WANT(cc_store(c, &native, 1, &plain), CC_INDEX);
     WANT(cc_set_native_root(c, 128, &native), CC_INDEX);
+    WANT(cc_native_root(c, 128, &out), CC_INDEX);
     WANT(cc_new_native(c, 128, 1, &out), CC_INDEX);
     WANT(cc_new_native(c, 9, 256, &out), CC_INDEX);
     WANT(cc_new_plain(c, 9, 257, &out), CC_INDEX);

@@ -148,23 +148,31 @@ static void fetch(struct program *m) {
 }
 
 /* A call that is asked again until there is memory for it. Where there was none, what the roots reach is as it was. */
-#define ASK(m, call)                                                                                                    \
-    do {                                                                                                                \
-        uint32_t answer_;                                                                                               \
-        while (before_ = take_picture(m), (answer_ = (call)) == CC_NO_MEMORY) after_refusal(m, before_, #call, __LINE__); \
-        expect_status(answer_, CC_OK, #call, __FILE__, __LINE__);                                                       \
-        fetch(m);                                                                                                       \
+#define ASK(m, call)                                                                                  \
+    do {                                                                                              \
+        uint64_t before_;                                                                             \
+        uint32_t answer_;                                                                             \
+        while (before_ = picture_before(m), (answer_ = (call)) == CC_NO_MEMORY)                       \
+            after_refusal(m, before_, #call, __LINE__);                                               \
+        expect_status(answer_, CC_OK, #call, __FILE__, __LINE__);                                     \
+        fetch(m);                                                                                     \
     } while (0)
 
 /* The same of a collection, which leaves what the roots reach also where it is done. */
-#define COLLECT(m, call)                                            \
-    do {                                                            \
-        ASK(m, call);                                               \
-        if (before_ != take_picture(m)) {                           \
-            printf("%s changed what the roots reach\n", #call);     \
-            exit(1);                                                \
-        }                                                           \
+#define COLLECT(m, call)                                        \
+    do {                                                        \
+        const uint64_t first_ = take_picture(m);                \
+        ASK(m, call);                                           \
+        if (first_ != take_picture(m)) {                        \
+            printf("%s changed what the roots reach\n", #call); \
+            exit(1);                                            \
+        }                                                       \
     } while (0)
+
+/* None is taken where nothing can be refused any more. */
+static uint64_t picture_before(struct program *m) {
+    return asked < first_refused + in_a_row - 1 ? take_picture(m) : 0;
+}
 
 static void after_refusal(struct program *m, uint64_t before, const char *call, int line) {
     m->refusals++;
@@ -177,7 +185,6 @@ static void after_refusal(struct program *m, uint64_t before, const char *call, 
 }
 
 static void make_element(struct program *m, uint16_t i) {
-    uint64_t before_;
     cc_object found;
     /* root 0 still holds the one before, which must stay there where this one finds no memory */
     ASK(m, cc_new_native(&m->c, 0, 2, &m->native[i]));
@@ -205,7 +212,6 @@ static void make_element(struct program *m, uint16_t i) {
 }
 
 static void ask_why(struct program *m, const cc_object *x) {
-    uint64_t before_;
     cc_step step;
     uint32_t led;
     ASK(m, cc_why(&m->c, x, &led));
@@ -215,7 +221,6 @@ static void ask_why(struct program *m, const cc_object *x) {
 }
 
 static void go_through_slices(struct program *m) {
-    uint64_t before_;
     uint32_t over = 0, running = 0;
     for (unsigned i = 0; over == 0 && i < 1000; i++) {
         /* one that is given up is over too, and the next slice begins another */
@@ -228,7 +233,6 @@ static void go_through_slices(struct program *m) {
 
 /* One round: six elements, of which each holds the one before; half of them are let go, then the rest. */
 static void go_round(struct program *m) {
-    uint64_t before_;
     uint32_t over;
     ASK(m, cc_new_map(&m->c, 2, &m->map));
     m->scripts_made++;
@@ -258,7 +262,7 @@ static void go_round(struct program *m) {
 }
 
 static void check_end(struct program *m) {
-    uint64_t before_, natives, scripts;
+    uint64_t natives, scripts;
     unsigned freed = 0;
     ASK(m, cc_set_script_root(&m->c, 2, &nothing));
     ASK(m, cc_settle(&m->c));
@@ -296,7 +300,6 @@ static void close_collector(struct program *m) {
 
 /* A collector is closed with all that it has, while a collection runs. */
 static void close_in_the_middle(struct program *m) {
-    uint64_t before_;
     uint32_t over, running;
     ASK(m, cc_new_map(&m->c, 2, &m->map));
     for (uint16_t i = 0; i < ELEMENTS; i++) make_element(m, i);
