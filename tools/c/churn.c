@@ -1,0 +1,860 @@
+/* Many operations drawn from a seed, beside a plain model of the objects.
+ *
+ *   churn [OPERATIONS [SEED]]: 1000000 operations of seed 7 where they are left out.
+ *
+ * The model is arrays: natives, script objects, their slots, the roots, the entries of weak maps, and which reflectors are
+ * preserved. It frees nothing and counts nothing; it only says what the roots reach. Each operation is done to both.
+ *
+ * - What a call answers is what the model says: contents of slots, roots and entries, and the status of a call that can't be
+ *   done.
+ * - What is told as unlinked or freed is not reached at that time, and nothing is freed twice.
+ * - After each settle the library has exactly what the model reaches: as many natives and script objects, each of them there
+ *   with the contents of the model, and all others gone and told as freed.
+ * - The steps of cc_why are steps in the model, and there are none where nothing leads to the object.
+ *
+ * Operations are done to objects that are reached, since the contracts speak of these. Some are written that nothing reaches any
+ * more, which must change nothing of what is reached. Objects that are gone, of another collector and made up must be refused.
+ *
+ * The meaning is that of docs/COMMANDS.md. A native refers to what its slots hold, and to its reflector once that is preserved;
+ * a reflector to what its slots hold and to its native; a proxy to its delegate. An entry gives its value where map and key are
+ * reached, and a key that is a proxy where map and delegate are. A reflector that is no more is made again under its number. */
+#include "ccollect.h"
+#include "expect.h"
+#include <stdbool.h>
+#include <string.h>
+
+enum {
+    NUMBERED = 12,     /* roots of each kind that are used, of 128 */
+    HELD = 400,        /* roots by cc_hold: more than one table of them */
+    SEASON = 32768,    /* so many operations more is held than released, then as many less */
+    MOST_THINGS = 1 << 16,
+    MOST_ENTRIES = 1 << 14,
+    MOST_SLOTS = 5,
+    MANY = 1500,       /* from so many objects on, roots are emptied more often */
+    NATIVE_LIMIT = 3700,
+    SCRIPT_LIMIT = 6000, /* so many a collector ever makes of each; then another is opened */
+    BETWEEN = 3000,    /* operations between two settles */
+    STALE = 64,
+    UNUSED = 255       /* in place of a kind: no thing is here */
+};
+
+static const cc_object nothing = {0, 0, 0, CC_NOTHING};
+
+/* The numbers are drawn by splitmix64. */
+static uint64_t drawing;
+
+static uint64_t draw64(void) {
+    uint64_t z = drawing += 0x9e3779b97f4a7c15u;
+    z = (z ^ (z >> 30)) * 0xbf58476d1ce4e5b9u;
+    z = (z ^ (z >> 27)) * 0x94d049bb133111ebu;
+    return z ^ (z >> 31);
+}
+
+/* A number from 0 to below - 1. */
+static uint32_t draw(uint32_t below) { return (uint32_t)(draw64() % below); }
+
+/* THE MODEL. A thing is known by its place in the array; place 0 is no thing. */
+
+struct thing {
+    cc_object object;
+    uint8_t what;          /* 0 for a native, else CC_PLAIN, CC_MAP, CC_REFLECTS or CC_PROXY */
+    bool is_preserved;     /* of a reflector */
+    bool is_freed;         /* told as freed */
+    uint8_t slots;
+    uint32_t slot[MOST_SLOTS];
+    uint32_t other;        /* a native's reflector, a reflector's native, a proxy's delegate; or 0 */
+    uint32_t reached;      /* the number of the last marking that came here */
+    uint64_t data;         /* of a native */
+};
+struct entry {
+    uint32_t map, key, value;
+};
+struct held {
+    cc_root root;
+    uint32_t thing;
+    bool is_used;
+};
+
+static struct thing things[MOST_THINGS];
+static uint32_t thing_count = 1; /* places that were ever used */
+static uint32_t free_places[MOST_THINGS], free_count;
+static struct entry entries[MOST_ENTRIES];
+static uint32_t entry_count;
+static uint32_t native_roots[NUMBERED], script_roots[NUMBERED];
+static struct held helds[HELD];
+static uint32_t native_at[NATIVE_LIMIT + 1], script_at[SCRIPT_LIMIT + 1]; /* by number */
+static uint32_t live; /* things that were not told as freed */
+static uint32_t tables; /* natives that cc_hold made for its roots, as far as cc_natives counts them */
+static uint32_t last_native, last_script, natives_made; /* the last numbers; without the tables */
+
+static cc_object stale[STALE]; /* objects that are gone for good */
+static uint32_t stale_count;
+
+static cc_collector c = CC_COLLECTOR_CLOSED;
+static uint64_t mark;
+static unsigned long operation;
+static unsigned long told_freed, told_unlinked, settles, refused, steps_seen, collectors, most_live;
+
+static void fail(const char *what, uint32_t t) {
+    printf("churn: operation %lu: %s", operation, what);
+    if (t != 0) printf(" (%c%u)", " #@~"[things[t].object.kind], things[t].object.number);
+    printf("\n");
+    exit(1);
+}
+#define SO(condition, what, thing) do { if (!(condition)) fail((what), (thing)); } while (0)
+
+static bool is_same(const cc_object *x, const cc_object *y) {
+    return x->mark == y->mark && x->key == y->key && x->number == y->number && x->kind == y->kind;
+}
+static const cc_object *object_of(uint32_t t) { return t == 0 ? &nothing : &things[t].object; }
+static bool is_thing(const cc_object *x, uint32_t t) {
+    return t == 0 ? x->kind == CC_NOTHING : is_same(x, &things[t].object);
+}
+static bool is_native(uint32_t t) { return things[t].object.kind == CC_NATIVE; }
+static bool is_script(uint32_t t) { return t != 0 && !is_native(t); }
+static bool has_reflector(uint32_t native) {
+    return things[native].other != 0 && !things[things[native].other].is_freed;
+}
+
+static uint32_t add_thing(const cc_object *made, uint8_t what, uint8_t slots, uint32_t other) {
+    uint32_t t;
+    if (free_count > 0)
+        t = free_places[--free_count];
+    else {
+        SO(thing_count < MOST_THINGS, "the model has no place left", 0);
+        t = thing_count++;
+    }
+    things[t] = (struct thing){.object = *made, .what = what, .slots = slots, .other = other};
+    if (++live > most_live) most_live = live;
+    return t;
+}
+
+/* What the roots reach. */
+
+static uint32_t marking;
+static uint32_t to_visit[MOST_THINGS], to_visit_count;
+
+static void reach(uint32_t t) {
+    if (t == 0 || things[t].reached == marking) return;
+    things[t].reached = marking;
+    to_visit[to_visit_count++] = t;
+}
+static bool is_reached(uint32_t t) { return things[t].reached == marking; }
+
+/* What a thing refers to, but for entries. */
+static bool refers_to_other(const struct thing *x) {
+    return x->other != 0 && (x->object.kind != CC_NATIVE || (!things[x->other].is_freed && things[x->other].is_preserved));
+}
+
+static void mark_reached(void) {
+    marking++;
+    to_visit_count = 0;
+    for (unsigned r = 0; r < NUMBERED; r++) {
+        reach(native_roots[r]);
+        reach(script_roots[r]);
+    }
+    for (unsigned i = 0; i < HELD; i++)
+        if (helds[i].is_used) reach(helds[i].thing);
+    do {
+        while (to_visit_count > 0) {
+            const struct thing *x = &things[to_visit[--to_visit_count]];
+            for (unsigned i = 0; i < x->slots; i++) reach(x->slot[i]);
+            if (refers_to_other(x)) reach(x->other);
+        }
+        for (uint32_t i = 0; i < entry_count; i++) {
+            const struct entry *e = &entries[i];
+            if (!is_reached(e->map)) continue;
+            if (things[e->key].what == CC_PROXY && is_reached(things[e->key].other)) reach(e->key);
+            if (is_reached(e->key)) reach(e->value);
+        }
+    } while (to_visit_count > 0);
+}
+
+/* WHAT WAS TOLD is fetched after each operation. */
+
+/* What has this name now; none where nothing has it. */
+static uint32_t thing_named(uint32_t kind, uint32_t number) {
+    if (kind == CC_SCRIPT) return number <= SCRIPT_LIMIT ? script_at[number] : 0;
+    uint32_t native = number <= NATIVE_LIMIT ? native_at[number] : 0;
+    if (kind == CC_REFLECTOR) return things[native].other;
+    return kind == CC_NATIVE ? native : 0;
+}
+
+static void fetch(void) {
+    cc_told told;
+    uint32_t status;
+    bool is_marked = false;
+    while ((status = cc_next_told(&c, &told)) == CC_OK) {
+        SO(told.what == CC_UNLINKED || told.what == CC_FREED, "a collection was given up, though memory was there", 0);
+        uint32_t t = thing_named(told.kind, told.number);
+        SO(t != 0, "an object was told that was never made", 0);
+        if (!is_marked) mark_reached();
+        is_marked = true;
+        SO(!is_reached(t), "an object that is reached was told as unlinked or freed", t);
+        SO(!things[t].is_freed, "an object was told after it was freed", t);
+        SO(told.kind != CC_NATIVE || told.data == things[t].data, "a native was told with another number", t);
+        if (told.what == CC_UNLINKED) {
+            SO(is_native(t), "a script object was told as unlinked", t);
+            told_unlinked++;
+        } else {
+            things[t].is_freed = true;
+            told_freed++;
+            live--;
+            if (told.kind != CC_REFLECTOR) stale[stale_count++ % STALE] = things[t].object;
+        }
+    }
+    SO(status == CC_NONE, "cc_next_told answered another status", 0);
+}
+
+/* DRAWN THINGS. Each is reached: it is found by a walk from a root. */
+
+static uint32_t draw_from_root(void) {
+    for (unsigned i = 0; i < 8; i++) {
+        uint32_t r = draw(2 * NUMBERED + 16), t;
+        if (r < NUMBERED)
+            t = native_roots[r];
+        else if (r < 2 * NUMBERED)
+            t = script_roots[r - NUMBERED];
+        else {
+            const struct held *h = &helds[draw(HELD)];
+            t = h->is_used ? h->thing : 0;
+        }
+        if (t != 0) return t;
+    }
+    return 0;
+}
+
+static uint32_t draw_step(uint32_t t) {
+    const struct thing *x = &things[t];
+    uint32_t i = draw(x->slots + 2u), next;
+    if (i < x->slots)
+        next = x->slot[i];
+    else
+        next = refers_to_other(x) ? x->other : 0;
+    return next != 0 ? next : t;
+}
+
+static uint32_t draw_reached(void) {
+    uint32_t t = draw_from_root();
+    if (t == 0) return 0;
+    for (uint32_t i = draw(8); i > 0; i--) t = draw_step(t);
+    SO(!things[t].is_freed, "an object that is reached was freed", t);
+    return t;
+}
+
+static uint32_t draw_native(void) {
+    for (unsigned i = 0; i < 6; i++) {
+        uint32_t t = draw_reached();
+        if (t != 0 && is_native(t)) return t;
+        if (t != 0 && things[t].what == CC_REFLECTS) return things[t].other;
+    }
+    return 0;
+}
+
+static uint32_t draw_script(void) {
+    for (unsigned i = 0; i < 6; i++) {
+        uint32_t t = draw_reached();
+        if (is_script(t)) return t;
+    }
+    return 0;
+}
+
+static uint32_t draw_map(void) {
+    for (unsigned i = 0; i < 6; i++) {
+        uint32_t t = script_roots[draw(NUMBERED)];
+        if (t != 0 && things[t].what == CC_MAP) return t;
+        t = draw_reached();
+        if (t != 0 && things[t].what == CC_MAP) return t;
+    }
+    return 0;
+}
+
+/* Which one of them has slots; or none. */
+static uint32_t draw_holder(void) {
+    for (unsigned i = 0; i < 6; i++) {
+        uint32_t t = draw_reached();
+        if (t != 0 && things[t].slots > 0) return t;
+    }
+    return 0;
+}
+
+/* Something that nothing reaches, and that is still there. None where none is drawn. */
+static uint32_t draw_unreached(void) {
+    mark_reached();
+    for (unsigned i = 0; i < 32; i++) {
+        uint32_t t = draw(thing_count);
+        if (t != 0 && things[t].what != UNUSED && !things[t].is_freed && !is_reached(t)) return t;
+    }
+    return 0;
+}
+
+/* OPERATIONS. */
+
+static void open_collector(void) {
+    TRY(cc_open(&c, ++mark, NATIVE_LIMIT, SCRIPT_LIMIT));
+    collectors++;
+    memset(native_at, 0, sizeof native_at);
+    memset(script_at, 0, sizeof script_at);
+    last_native = last_script = natives_made = 0;
+    tables = 0;
+}
+
+static void make_native(void) {
+    cc_object made;
+    uint32_t r = draw(NUMBERED);
+    uint8_t slots = (uint8_t)draw(MOST_SLOTS + 1);
+    TRY(cc_new_native(&c, (uint16_t)r, slots, &made));
+    SO(made.kind == CC_NATIVE && made.mark == mark, "a native is no native of this collector", 0);
+    SO(made.number > last_native && made.number <= NATIVE_LIMIT, "a native has a wrong number", 0);
+    last_native = made.number;
+    natives_made++;
+    uint32_t t = add_thing(&made, 0, slots, 0);
+    native_roots[r] = native_at[made.number] = t;
+    if (draw(4) > 0) {
+        things[t].data = draw64();
+        TRY(cc_set_data(&c, &made, things[t].data));
+    }
+}
+
+static void add_script(uint32_t r, const cc_object *made, uint8_t what, uint8_t slots, uint32_t other) {
+    SO(made->kind == CC_SCRIPT && made->mark == mark && made->number == last_script + 1, "a wrong name", 0);
+    last_script = made->number;
+    script_roots[r] = script_at[made->number] = add_thing(made, what, slots, other);
+}
+
+static void make_plain(void) {
+    cc_object made;
+    uint32_t r = draw(NUMBERED);
+    uint8_t slots = (uint8_t)draw(MOST_SLOTS + 1);
+    TRY(cc_new_plain(&c, (uint16_t)r, slots, &made));
+    add_script(r, &made, CC_PLAIN, slots, 0);
+}
+
+static void make_map(void) {
+    cc_object made;
+    uint32_t r = draw(NUMBERED);
+    TRY(cc_new_map(&c, (uint16_t)r, &made));
+    add_script(r, &made, CC_MAP, 0, 0);
+}
+
+/* A reflector is preserved where it is written, is a key, or gets a proxy. */
+static void preserve(uint32_t t) {
+    if (things[t].what == CC_REFLECTS) things[t].is_preserved = true;
+}
+
+static void make_proxy(void) {
+    cc_object made;
+    uint32_t r = draw(NUMBERED), delegate = draw_script();
+    if (delegate == 0) return;
+    TRY(cc_new_proxy(&c, (uint16_t)r, object_of(delegate), &made));
+    preserve(delegate);
+    add_script(r, &made, CC_PROXY, 0, delegate);
+}
+
+static void set_native_root(void) {
+    uint32_t r = draw(NUMBERED), t = draw(8) < (live > MANY ? 1 : 6) ? draw_native() : 0;
+    TRY(cc_set_native_root(&c, (uint16_t)r, object_of(t)));
+    native_roots[r] = t;
+}
+
+static void set_script_root(void) {
+    uint32_t r = draw(NUMBERED), t = draw(8) < (live > MANY ? 1 : 6) ? draw_script() : 0;
+    TRY(cc_set_script_root(&c, (uint16_t)r, object_of(t)));
+    script_roots[r] = t;
+}
+
+static void store(void) {
+    uint32_t x = draw_holder(), y = 0;
+    if (x == 0) return;
+    uint32_t i = draw(things[x].slots);
+    if (draw(4) > 0) y = is_native(x) ? draw_reached() : draw_script();
+    TRY(cc_store(&c, object_of(x), (uint16_t)i, object_of(y)));
+    preserve(x);
+    things[x].slot[i] = y;
+}
+
+/* It refers to something else from then on, and nobody sees it. A reflector is left alone: it may be that of a native that is
+ * reached, and would be preserved. */
+static void store_unreached(void) {
+    uint32_t x = draw_unreached(), y = draw_script();
+    if (x == 0 || things[x].slots == 0 || things[x].what == CC_REFLECTS) return;
+    TRY(cc_store(&c, object_of(x), (uint16_t)draw(things[x].slots), object_of(y)));
+}
+
+static void move_slot(void) {
+    uint32_t to = draw_native(), from = draw_native();
+    if (to == 0 || from == 0 || things[to].slots == 0 || things[from].slots == 0) return;
+    uint32_t i = draw(things[to].slots), j = draw(things[from].slots);
+    TRY(cc_move_slot(&c, object_of(to), (uint16_t)i, object_of(from), (uint16_t)j));
+    if (to == from && i == j) return;
+    things[to].slot[i] = things[from].slot[j];
+    things[from].slot[j] = 0;
+}
+
+/* The reflector of a native, put somewhere or nowhere. */
+static void wrap(void) {
+    cc_object made;
+    uint32_t native = draw_native(), t;
+    if (native == 0) return;
+    TRY(cc_wrap(&c, object_of(native), &made));
+    SO(made.kind == CC_REFLECTOR && made.mark == mark, "a reflector is none of this collector", native);
+    SO(made.number == things[native].object.number, "a reflector has another number than its native", native);
+    if (has_reflector(native)) {
+        t = things[native].other;
+        SO(is_same(&made, &things[t].object), "a native has another reflector, though it lost none", native);
+    } else {
+        t = add_thing(&made, CC_REFLECTS, 4, native);
+        things[native].other = t;
+    }
+    uint32_t where = draw(4), r = draw(NUMBERED);
+    if (where == 0) return;
+    TRY(cc_set_script_root(&c, (uint16_t)r, &made));
+    script_roots[r] = t;
+    if (where == 1) {
+        TRY(cc_preserve(&c, &made));
+        preserve(t);
+    }
+}
+
+static uint32_t find_entry(uint32_t map, uint32_t key) {
+    uint32_t i = 0;
+    while (i < entry_count && !(entries[i].map == map && entries[i].key == key)) i++;
+    return i;
+}
+
+static void set_entry(void) {
+    uint32_t map = draw_map(), key = draw_script(), value = draw_script();
+    if (map == 0 || key == 0 || value == 0) return;
+    TRY(cc_set_entry(&c, object_of(map), object_of(key), object_of(value)));
+    preserve(key);
+    uint32_t i = find_entry(map, key);
+    if (i == entry_count) entry_count++;
+    SO(entry_count < MOST_ENTRIES, "the model has no place left for an entry", 0);
+    entries[i] = (struct entry){map, key, value};
+}
+
+static void unset_entry(void) {
+    uint32_t map = draw_map(), key = draw_script();
+    if (map == 0 || key == 0) return;
+    TRY(cc_unset_entry(&c, object_of(map), object_of(key)));
+    uint32_t i = find_entry(map, key);
+    if (i < entry_count) entries[i] = entries[--entry_count];
+}
+
+/* An entry that gives its value: its map and its key are reached. None where none is drawn. */
+static const struct entry *draw_entry(void) {
+    if (entry_count == 0) return NULL;
+    mark_reached();
+    for (unsigned i = 0; i < 8; i++) {
+        const struct entry *e = &entries[draw(entry_count)];
+        if (is_reached(e->map) && is_reached(e->key)) return e;
+    }
+    return NULL;
+}
+
+/* An entry is read. A root gets its value. */
+static void read_entry(void) {
+    cc_object value;
+    const struct entry *e = draw(2) == 0 ? draw_entry() : NULL;
+    uint32_t map = e != NULL ? e->map : draw_map(), key = e != NULL ? e->key : draw_script(), r = draw(NUMBERED);
+    if (map == 0 || key == 0) return;
+    TRY(cc_entry(&c, object_of(map), object_of(key), &value));
+    uint32_t i = find_entry(map, key), t = i < entry_count ? entries[i].value : 0;
+    SO(is_thing(&value, t), "an entry has another value", map);
+    if (t != 0 && live <= MANY) {
+        TRY(cc_set_script_root(&c, (uint16_t)r, &value));
+        script_roots[r] = t;
+    }
+}
+
+static void hold(void) {
+    uint32_t t = draw_reached(), i = draw(HELD);
+    if (t == 0 || helds[i].is_used || live > MANY) return;
+    uint64_t before, after;
+    TRY(cc_natives(&c, &before));
+    TRY(cc_hold(&c, object_of(t), &helds[i].root));
+    TRY(cc_natives(&c, &after));
+    SO(after == before || after == before + 1, "cc_hold made more than one table", 0);
+    tables += (uint32_t)(after - before);
+    helds[i].thing = t;
+    helds[i].is_used = true;
+}
+
+static void release(void) {
+    if (operation / SEASON % 2 == 0 && draw(4) > 0) return;
+    for (unsigned n = 0; n < 4; n++) {
+        struct held *h = &helds[draw(HELD)];
+        if (!h->is_used) continue;
+        TRY(cc_release(&c, &h->root));
+        h->is_used = false;
+        WANT(cc_release(&c, &h->root), CC_GONE);
+        return;
+    }
+}
+
+static void check_slots(uint32_t t) {
+    const struct thing *x = &things[t];
+    cc_object found;
+    uint16_t slots;
+    TRY(cc_slots(&c, &x->object, &slots));
+    SO(slots == x->slots, "another number of slots", t);
+    for (uint16_t i = 0; i < slots; i++) {
+        TRY(cc_slot(&c, &x->object, i, &found));
+        SO(is_thing(&found, x->slot[i]), "a slot holds another object", t);
+    }
+}
+
+static void check_thing(uint32_t t) {
+    const struct thing *x = &things[t];
+    cc_object found;
+    uint64_t data;
+    uint32_t kind;
+    SO(!x->is_freed, "an object that is reached was told as freed", t);
+    TRY(cc_is_there(&c, &x->object));
+    check_slots(t);
+    if (is_native(t)) {
+        TRY(cc_data(&c, &x->object, &data));
+        SO(data == x->data, "a native has another number", t);
+    } else {
+        TRY(cc_kind(&c, &x->object, &kind));
+        SO(kind == x->what, "a script object is of another kind", t);
+    }
+    if (x->what == CC_REFLECTS) {
+        TRY(cc_unwrap(&c, &x->object, &found));
+        SO(is_thing(&found, x->other), "a reflector stands for another native", t);
+    }
+}
+
+static void read_thing(void) {
+    uint32_t t = draw_reached();
+    if (t != 0) check_thing(t);
+}
+
+static void change_data(void) {
+    uint32_t t = draw_native();
+    if (t == 0) return;
+    things[t].data = draw64();
+    TRY(cc_set_data(&c, object_of(t), things[t].data));
+}
+
+/* Each step must rest on a root, or on steps before it, as the model has it. */
+
+static bool is_in_step(uint32_t from, uint32_t to) {
+    const struct thing *x = &things[from];
+    for (unsigned i = 0; i < x->slots; i++)
+        if (x->slot[i] == to) return true;
+    return refers_to_other(x) && x->other == to;
+}
+
+static bool is_held(uint32_t t) {
+    for (unsigned i = 0; i < HELD; i++)
+        if (helds[i].is_used && helds[i].thing == t) return true;
+    return false;
+}
+
+/* The tables of roots that had a step: natives of the library's own, by their numbers. */
+static uint32_t table_steps[8], table_step_count;
+
+static bool is_table(uint32_t number) {
+    for (uint32_t i = 0; i < table_step_count; i++)
+        if (table_steps[i] == number) return true;
+    return false;
+}
+
+static bool is_step(const cc_step *s, uint32_t t) {
+        if (s->why == CC_BY_ROOT)
+        return s->by_number < NUMBERED && t == (s->by_kind == CC_NATIVE ? native_roots : script_roots)[s->by_number];
+    if (s->why == CC_BY_OBJECT && s->by_kind == CC_NATIVE && is_table(s->by_number)) return is_held(t);
+    uint32_t by = thing_named(s->by_kind, s->by_number);
+    if (by == 0 || !is_reached(by)) return false;
+    if (s->why == CC_BY_OBJECT) return is_in_step(by, t);
+    uint32_t key = thing_named(s->key_kind, s->key_number), i;
+    if (s->why != CC_BY_ENTRY || key == 0 || !is_reached(key)) return false;
+    i = find_entry(by, key);
+    if (i < entry_count && entries[i].value == t) return true;
+    i = find_entry(by, t); /* key is the delegate of t, which is a key */
+    return i < entry_count && things[t].what == CC_PROXY && things[t].other == key;
+}
+
+static void ask_why_not(void) {
+    cc_step s;
+    uint32_t t = draw_unreached(), led;
+    if (t == 0) return;
+    TRY(cc_why(&c, object_of(t), &led));
+    SO(led == 0, "roots lead to an object that nothing reaches", t);
+    WANT(cc_next_step(&c, &s), CC_NONE);
+}
+
+static void ask_why(void) {
+    cc_step s;
+    const struct entry *e = draw(2) == 0 ? draw_entry() : NULL;
+    uint32_t asked = e != NULL ? e->value : draw_reached(), led, t = 0, status;
+    if (asked == 0) return;
+    TRY(cc_why(&c, object_of(asked), &led));
+    SO(led == 1, "no root leads to an object that is reached", asked);
+    marking++; /* what the steps have reached */
+    table_step_count = 0;
+    while ((status = cc_next_step(&c, &s)) == CC_OK) {
+        steps_seen++;
+        if (s.why == CC_BY_ROOT && s.by_kind == CC_NATIVE && s.by_number >= 128) {
+            SO(s.kind == CC_NATIVE && table_step_count < 8 && !is_table(s.number), "a step is no table's", 0);
+            table_steps[table_step_count++] = s.number;
+            continue;
+        }
+        t = thing_named(s.kind, s.number);
+        SO(t != 0 && !is_reached(t) && is_step(&s, t), "a step is none of the model", t);
+        things[t].reached = marking;
+    }
+    SO(status == CC_NONE && t == asked, "the last step is another object's", asked);
+}
+
+/* CALLS THAT ARE REFUSED. They change nothing: later contents show it. */
+
+static void call_with(const cc_object *bad, uint32_t status) {
+    cc_object out = {1, 2, 3, 4};
+    const cc_object before = out;
+    uint32_t native = draw_native(), script = draw_script(), holder = draw_holder();
+    uint16_t r = (uint16_t)draw(NUMBERED), slots;
+    uint64_t data;
+    cc_root root;
+    refused++;
+    switch (draw(12)) {
+    case 0: WANT(cc_is_there(&c, bad), status); break;
+    case 1: WANT(cc_set_native_root(&c, r, bad), status); break;
+    case 2: WANT(cc_set_script_root(&c, r, bad), status); break;
+    case 3: WANT(cc_store(&c, bad, 0, object_of(native)), status); break;
+    case 4: if (holder != 0) WANT(cc_store(&c, object_of(holder), 0, bad), status); break;
+    case 5: WANT(cc_wrap(&c, bad, &out), status); break;
+    case 6: WANT(cc_slot(&c, bad, 0, &out), status); break;
+    case 7: WANT(cc_hold(&c, bad, &root), status); break;
+    case 8: WANT(cc_new_proxy(&c, r, bad, &out), status); break;
+    case 9: WANT(cc_entry(&c, bad, object_of(script), &out), status); break;
+    case 10: WANT(cc_slots(&c, bad, &slots), status); break;
+    default: WANT(cc_data(&c, bad, &data), status);
+    }
+    SO(is_same(&out, &before), "a refused call wrote its answer", 0);
+}
+
+static void call_wrongly(void) {
+    cc_object bad;
+    uint32_t t = draw_reached(), native = draw_native(), script = draw_script();
+    switch (draw(6)) {
+    case 0:
+    case 1:
+        if (stale_count == 0) return;
+        bad = stale[draw(stale_count < STALE ? stale_count : STALE)];
+        call_with(&bad, bad.mark == mark ? CC_GONE : CC_FOREIGN);
+        break;
+    case 2:
+        if (t == 0) return;
+        bad = *object_of(t);
+        bad.mark++;
+        call_with(&bad, CC_FOREIGN);
+        break;
+    case 3:
+        if (t == 0) return;
+        bad = *object_of(t);
+        if (draw(2) == 0)
+            bad.number += 1000000;
+        else
+            bad.key += 1u << (20 + draw(12));
+        call_with(&bad, CC_GONE);
+        break;
+    case 4:
+        if (native == 0 || script == 0) return;
+        WANT(cc_set_native_root(&c, 0, object_of(script)), CC_KIND);
+        WANT(cc_set_script_root(&c, 0, object_of(native)), CC_KIND);
+        WANT(cc_wrap(&c, object_of(script), &bad), CC_KIND);
+        WANT(cc_set_entry(&c, object_of(native), object_of(script), object_of(script)), CC_KIND);
+        refused += 4;
+        break;
+    default:
+        if (t == 0) return;
+        WANT(cc_slot(&c, object_of(t), things[t].slots, &bad), CC_INDEX);
+        WANT(cc_store(&c, object_of(t), (uint16_t)(things[t].slots + draw(2) * draw(1000)), &nothing), CC_INDEX);
+        WANT(cc_set_native_root(&c, (uint16_t)(128 + draw(60000)), &nothing), CC_INDEX);
+        refused += 3;
+    }
+}
+
+/* COLLECTIONS. */
+
+static void slice(void) {
+    uint32_t over, running;
+    TRY(cc_slice(&c, 1 + draw(60), &over));
+    TRY(cc_running(&c, &running));
+    SO(over + running == 1, "a slice ended its collection and left it running, or neither", 0);
+}
+
+static void collect(void) {
+    uint32_t running;
+    TRY(cc_collect(&c));
+    TRY(cc_running(&c, &running));
+    SO(running == 0, "a collection runs after cc_collect", 0);
+}
+
+static void collect_scripts(void) { TRY(cc_gc(&c)); }
+
+static void check_roots(void) {
+    cc_object found;
+    for (uint16_t r = 0; r < NUMBERED; r++) {
+        TRY(cc_native_root(&c, r, &found));
+        SO(is_thing(&found, native_roots[r]), "a native root holds another object", native_roots[r]);
+        TRY(cc_script_root(&c, r, &found));
+        SO(is_thing(&found, script_roots[r]), "a script root holds another object", script_roots[r]);
+    }
+    for (unsigned i = 0; i < HELD; i++) {
+        if (!helds[i].is_used) continue;
+        TRY(cc_held(&c, &helds[i].root, &found));
+        SO(is_thing(&found, helds[i].thing), "a root holds another object", helds[i].thing);
+    }
+}
+
+static void check_entries(void) {
+    cc_object found;
+    uint32_t kept = 0;
+    for (uint32_t i = 0; i < entry_count; i++) {
+        const struct entry e = entries[i];
+        if (!is_reached(e.map) || !is_reached(e.key)) continue;
+        TRY(cc_entry(&c, object_of(e.map), object_of(e.key), &found));
+        SO(is_thing(&found, e.value), "an entry has another value", e.map);
+        entries[kept++] = e;
+    }
+    entry_count = kept;
+}
+
+/* What is not reached is gone. A reflector that was made again has the name of the one before it. */
+static void check_gone(uint32_t t) {
+    const struct thing *x = &things[t];
+    SO(x->is_freed, "an object that nothing reaches was not told as freed", t);
+    if (x->what == CC_REFLECTS) {
+        const struct thing *native = &things[x->other];
+        if (native->other != t && is_reached(native->other)) return;
+    }
+    WANT(cc_is_there(&c, &x->object), CC_GONE);
+}
+
+static void forget(uint32_t t) {
+    struct thing *x = &things[t];
+    if (is_native(t)) native_at[x->object.number] = 0;
+    if (x->object.kind == CC_SCRIPT) script_at[x->object.number] = 0;
+    if (x->what == CC_REFLECTS && things[x->other].other == t) things[x->other].other = 0;
+    x->what = UNUSED;
+    free_places[free_count++] = t;
+}
+
+static void check_all(void) {
+    uint64_t natives, scripts, natives_reached = 0, scripts_reached = 0;
+    mark_reached();
+    for (uint32_t t = 1; t < thing_count; t++) {
+        if (things[t].what == UNUSED) continue;
+        if (!is_reached(t)) {
+            check_gone(t);
+            continue;
+        }
+        check_thing(t);
+        if (is_native(t))
+            natives_reached++;
+        else
+            scripts_reached++;
+    }
+    check_roots();
+    check_entries();
+    TRY(cc_natives(&c, &natives));
+    TRY(cc_scripts(&c, &scripts));
+    SO(natives == natives_reached + tables, "there are more or fewer natives than are reached", 0);
+    SO(scripts == scripts_reached, "there are more or fewer script objects than are reached", 0);
+    SO(live == natives_reached + scripts_reached, "what was told as freed is not what is gone", 0);
+    for (uint32_t i = 0; i < stale_count && i < STALE; i++)
+        WANT(cc_is_there(&c, &stale[i]), stale[i].mark == mark ? CC_GONE : CC_FOREIGN);
+    for (uint32_t t = 1; t < thing_count; t++)
+        if (things[t].what != UNUSED && !is_reached(t)) forget(t);
+}
+
+static void settle(void) {
+    uint32_t broken, running;
+    TRY(cc_settle(&c));
+    fetch();
+    TRY(cc_is_told_broken(&c, &broken));
+    TRY(cc_running(&c, &running));
+    SO(broken == 0 && running == 0, "an item was lost, or a collection runs", 0);
+    check_all();
+    settles++;
+}
+
+/* All roots are emptied; then nothing may be left. The next collector has other objects. */
+static void close_collector(void) {
+    for (uint16_t r = 0; r < NUMBERED; r++) {
+        TRY(cc_set_native_root(&c, r, &nothing));
+        TRY(cc_set_script_root(&c, r, &nothing));
+        native_roots[r] = script_roots[r] = 0;
+    }
+    for (unsigned i = 0; i < HELD; i++) {
+        if (!helds[i].is_used) continue;
+        TRY(cc_release(&c, &helds[i].root));
+        helds[i].is_used = false;
+    }
+    fetch();
+    settle();
+    SO(live == 0, "objects are left", 0);
+    cc_close(&c);
+    WANT(cc_gc(&c), CC_CLOSED);
+}
+
+/* Near its limit a collector is filled up, so that it answers CC_FULL, and closed; then comes another. */
+static void change_collectors(void) {
+    cc_object made;
+    uint32_t status;
+    if (last_script > SCRIPT_LIMIT - 50)
+        while ((status = cc_new_map(&c, NUMBERED, &made)) == CC_OK) {
+            last_script = made.number;
+            script_at[last_script] = add_thing(&made, CC_MAP, 0, 0);
+        }
+    else
+        while ((status = cc_new_native(&c, NUMBERED, 0, &made)) == CC_OK) {
+            natives_made++;
+            native_at[made.number] = add_thing(&made, 0, 0, 0);
+        }
+    SO(status == CC_FULL, "a collector that is full answered another status", 0);
+    SO(last_script == SCRIPT_LIMIT || natives_made + tables == NATIVE_LIMIT || (tables == 0 && natives_made + 8 > NATIVE_LIMIT),
+       "it was full too soon, or too late", 0);
+    TRY(cc_set_native_root(&c, NUMBERED, &nothing));
+    TRY(cc_set_script_root(&c, NUMBERED, &nothing));
+    fetch();
+    close_collector();
+    open_collector();
+}
+
+/* How often each operation is drawn, of all shares. */
+static const struct {
+    uint32_t share;
+    void (*run)(void);
+} operations[] = {
+    {80, make_native}, {80, make_plain},      {20, make_map},     {30, make_proxy}, {90, set_native_root},
+    {210, store},      {10, store_unreached}, {30, move_slot},    {70, wrap},       {80, set_script_root},
+    {50, set_entry},   {20, unset_entry},     {30, read_entry},   {25, hold},       {25, release},
+    {60, read_thing},  {10, change_data},     {30, call_wrongly}, {6, ask_why},     {4, ask_why_not},
+    {50, slice},       {2, collect},          {6, collect_scripts},
+};
+enum { KINDS = sizeof operations / sizeof operations[0] };
+
+int main(int count, char **words) {
+    unsigned long wanted = count > 1 ? strtoul(words[1], NULL, 10) : 1000000;
+    uint32_t shares = 0;
+    drawing = count > 2 ? strtoull(words[2], NULL, 10) : 7;
+    for (unsigned i = 0; i < KINDS; i++) shares += operations[i].share;
+    open_collector();
+    for (operation = 1; operation <= wanted; operation++) {
+        uint32_t share = draw(shares), kind = 0;
+        while (share >= operations[kind].share) share -= operations[kind++].share;
+        operations[kind].run();
+        fetch();
+        if (operation % BETWEEN == 0) settle();
+        if (last_native > NATIVE_LIMIT - 50 || last_script > SCRIPT_LIMIT - 50) change_collectors();
+    }
+    close_collector();
+    printf("%lu operations, %lu calls refused, %lu collectors, %lu settles\n", wanted, refused, collectors, settles);
+    printf("%lu objects freed, natives unlinked %lu times, at most %lu objects; %lu steps of why\n", told_freed, told_unlinked,
+           most_live, steps_seen);
+    return 0;
+}

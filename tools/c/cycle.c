@@ -1,0 +1,361 @@
+/* One cycle through both heaps, from C.
+ *
+ * A page has a button, and the button has a listener, which knows the button. All three are let go, and are collected in
+ * slices. The program has an element of its own for each native, and frees it when the native is told as freed. Then each
+ * status is met once. The program prints what it does, and ends with 0 where all was as the header says. */
+#include "ccollect.h"
+#include "expect.h"
+
+static const cc_object nothing = {0, 0, 0, CC_NOTHING};
+
+/* What the program has of a native. The native knows it by its number. */
+struct element {
+    const char *title;
+};
+
+static int elements;
+
+static void give_element(cc_collector *c, const cc_object *native, const char *title) {
+    struct element *element = malloc(sizeof *element);
+    if (element == NULL) exit(1);
+    element->title = title;
+    elements++;
+    TRY(cc_set_data(c, native, (uint64_t)(uintptr_t)element));
+}
+
+static struct element *element_of(cc_collector *c, const cc_object *native) {
+    uint64_t data;
+    TRY(cc_data(c, native, &data));
+    return (struct element *)(uintptr_t)data;
+}
+
+/* The name of an object, as docs/COMMANDS.md writes it. */
+static const char *name(uint32_t kind, uint32_t number) {
+    static char texts[4][16];
+    static unsigned next;
+    char *text = texts[next++ % 4];
+    snprintf(text, sizeof texts[0], "%c%u", kind <= CC_REFLECTOR ? " #@~"[kind] : '?', number);
+    return text;
+}
+
+static int is_same(const cc_object *x, const cc_object *y) {
+    return x->mark == y->mark && x->key == y->key && x->number == y->number && x->kind == y->kind;
+}
+
+/* Fetches what was told, prints it, and frees the elements of natives that are freed. How many objects were freed. */
+static unsigned fetch(cc_collector *c) {
+    static const char *const did[] = {"?", "unlinked", "freed", "given up"};
+    cc_told told;
+    unsigned freed = 0;
+    uint32_t status;
+    while ((status = cc_next_told(c, &told)) == CC_OK) {
+        HOLDS(told.what >= CC_UNLINKED && told.what <= CC_ABANDONED);
+        printf("    told: %s %s", name(told.kind, told.number), did[told.what]);
+        if (told.what == CC_FREED) {
+            freed++;
+            if (told.kind == CC_NATIVE && told.data != 0) {
+                struct element *element = (struct element *)(uintptr_t)told.data;
+                printf(", and with it goes the element \"%s\"", element->title);
+                free(element);
+                elements--;
+            }
+        }
+        printf("\n");
+    }
+    HOLDS(status == CC_NONE);
+    return freed;
+}
+
+static void print_counts(cc_collector *c, const char *when) {
+    uint64_t natives, scripts;
+    TRY(cc_natives(c, &natives));
+    TRY(cc_scripts(c, &scripts));
+    printf("  %s: %u natives, %u script objects\n", when, (unsigned)natives, (unsigned)scripts);
+}
+
+static void print_why(cc_collector *c, const cc_object *x) {
+    cc_step step;
+    uint32_t led;
+    TRY(cc_why(c, x, &led));
+    printf("  why is %s there?%s\n", name(x->kind, x->number), led ? "" : " nothing leads to it");
+    while (cc_next_step(c, &step) == CC_OK) {
+        printf("    %s", name(step.kind, step.number));
+        if (step.why == CC_BY_ROOT)
+            printf(" is in %s root %u\n", step.by_kind == CC_NATIVE ? "native" : "script", step.by_number);
+        else if (step.why == CC_BY_OBJECT)
+            printf(" is held by %s\n", name(step.by_kind, step.by_number));
+        else
+            printf(" is kept by an entry of %s with %s\n", name(step.by_kind, step.by_number),
+                   name(step.key_kind, step.key_number));
+    }
+    WANT(cc_next_step(c, &step), CC_NONE);
+}
+
+/* The cycle. */
+
+struct page {
+    cc_object window, button, reflector, listener, map, note;
+    cc_root held;
+};
+
+static void build(cc_collector *c, struct page *p) {
+    cc_object found;
+    uint32_t kind;
+    uint16_t slots;
+    printf("A page is built.\n");
+    TRY(cc_new_native(c, 0, 1, &p->window));
+    give_element(c, &p->window, "window");
+    TRY(cc_new_native(c, 1, 2, &p->button));
+    give_element(c, &p->button, "button");
+    printf("  %s is the %s, and %s the %s\n", name(CC_NATIVE, p->window.number), element_of(c, &p->window)->title,
+           name(CC_NATIVE, p->button.number), element_of(c, &p->button)->title);
+    TRY(cc_store(c, &p->window, 0, &p->button));
+
+    TRY(cc_wrap(c, &p->button, &p->reflector));
+    TRY(cc_set_script_root(c, 0, &p->reflector));
+    HOLDS(p->reflector.kind == CC_REFLECTOR && p->reflector.number == p->button.number);
+    TRY(cc_unwrap(c, &p->reflector, &found));
+    HOLDS(is_same(&found, &p->button));
+    TRY(cc_kind(c, &p->reflector, &kind));
+    HOLDS(kind == CC_REFLECTS);
+    printf("  %s is what script has of the button\n", name(p->reflector.kind, p->reflector.number));
+
+    TRY(cc_new_plain(c, 1, 1, &p->listener));
+    TRY(cc_store(c, &p->listener, 0, &p->reflector));
+    TRY(cc_store(c, &p->button, 0, &p->listener));
+    TRY(cc_slots(c, &p->button, &slots));
+    TRY(cc_slot(c, &p->button, 0, &found));
+    HOLDS(slots == 2 && is_same(&found, &p->listener));
+    printf("  %s is a listener: the button holds it, and it holds %s\n", name(p->listener.kind, p->listener.number),
+           name(p->reflector.kind, p->reflector.number));
+
+    TRY(cc_new_map(c, 2, &p->map));
+    TRY(cc_new_plain(c, 3, 1, &p->note));
+    TRY(cc_store(c, &p->note, 0, &p->reflector));
+    TRY(cc_set_entry(c, &p->map, &p->reflector, &p->note));
+    TRY(cc_entry(c, &p->map, &p->reflector, &found));
+    HOLDS(is_same(&found, &p->note));
+    printf("  %s is a note about the button, in the weak map %s\n", name(p->note.kind, p->note.number),
+           name(p->map.kind, p->map.number));
+    TRY(cc_hold(c, &p->button, &p->held));
+    TRY(cc_held(c, &p->held, &found));
+    HOLDS(is_same(&found, &p->button));
+}
+
+static void let_go(cc_collector *c, struct page *p) {
+    printf("The page lets go of the button, and one root still holds it.\n");
+    TRY(cc_set_native_root(c, 1, &nothing));
+    for (uint16_t r = 0; r < 4; r++)
+        if (r != 2) TRY(cc_set_script_root(c, r, &nothing));
+    TRY(cc_store(c, &p->window, 0, &nothing));
+    TRY(cc_settle(c));
+    HOLDS(fetch(c) == 0);
+    print_why(c, &p->note);
+    printf("That root is released.\n");
+    TRY(cc_release(c, &p->held));
+    print_why(c, &p->note);
+    print_counts(c, "there are");
+}
+
+static void collect_in_slices(cc_collector *c, struct page *p) {
+    uint32_t over = 0, running, units = 0;
+    unsigned freed;
+    printf("It is collected in slices, and the program goes on between two of them.\n");
+    TRY(cc_gc(c));
+    HOLDS(fetch(c) == 0);
+    TRY(cc_slice(c, 1, &over));
+    TRY(cc_running(c, &running));
+    HOLDS(over == 0 && running == 1);
+    for (units = 1; over == 0; units++) {
+        cc_object busy;
+        HOLDS(units < 1000);
+        TRY(cc_new_plain(c, 5, 0, &busy));
+        TRY(cc_slice(c, 1, &over));
+    }
+    TRY(cc_running(c, &running));
+    HOLDS(running == 0);
+    printf("  the collection took %u units\n", units);
+    freed = fetch(c);
+    TRY(cc_is_there(c, &p->window));
+    TRY(cc_set_script_root(c, 5, &nothing));
+    TRY(cc_gc(c));
+    freed += fetch(c);
+    /* the button, its reflector, the listener and the note; and what the program made between two slices */
+    HOLDS(freed == 4 + units - 1);
+    WANT(cc_is_there(c, &p->button), CC_GONE);
+    WANT(cc_is_there(c, &p->reflector), CC_GONE);
+    WANT(cc_is_there(c, &p->listener), CC_GONE);
+    WANT(cc_is_there(c, &p->note), CC_GONE);
+    TRY(cc_is_there(c, &p->map));
+    TRY(cc_is_there(c, &p->window));
+    HOLDS(elements == 1);
+    print_counts(c, "now there are");
+}
+
+/* Other things that a program does. */
+static void move_and_proxy(cc_collector *c) {
+    cc_object parent, child, proxy, found, reflector;
+    uint32_t kind, some;
+    printf("A reference is moved, and a proxy is made.\n");
+    TRY(cc_new_native(c, 2, 2, &parent));
+    TRY(cc_new_native(c, 3, 0, &child));
+    TRY(cc_store(c, &parent, 0, &child));
+    TRY(cc_set_native_root(c, 3, &nothing));
+    TRY(cc_move_slot(c, &parent, 1, &parent, 0));
+    TRY(cc_slot(c, &parent, 0, &found));
+    HOLDS(found.kind == CC_NOTHING);
+    TRY(cc_slot(c, &parent, 1, &found));
+    HOLDS(is_same(&found, &child));
+    TRY(cc_native_root(c, 2, &found));
+    HOLDS(is_same(&found, &parent));
+    HOLDS(fetch(c) == 0);
+
+    TRY(cc_wrap(c, &child, &reflector));
+    TRY(cc_preserve(c, &reflector));
+    TRY(cc_new_proxy(c, 0, &reflector, &proxy));
+    TRY(cc_kind(c, &proxy, &kind));
+    HOLDS(kind == CC_PROXY);
+    TRY(cc_script_root(c, 0, &found));
+    HOLDS(is_same(&found, &proxy));
+    TRY(cc_set_native_root(c, 2, &nothing));
+    HOLDS(fetch(c) == 1);
+    WANT(cc_is_there(c, &parent), CC_GONE);
+    TRY(cc_settle(c));
+    HOLDS(fetch(c) == 0);
+    print_why(c, &child);
+    TRY(cc_set_script_root(c, 0, &nothing));
+    TRY(cc_has_suspects(c, &some));
+    TRY(cc_gc(c));
+    TRY(cc_collect(c));
+    TRY(cc_gc(c));
+    HOLDS(fetch(c) == 3);
+    WANT(cc_is_there(c, &proxy), CC_GONE);
+}
+
+/* Each status once. Nothing is changed, and nothing is written. */
+static void meet_each_status(cc_collector *c, const struct page *p) {
+    static const cc_object untouched = {5, 5, 5, 5};
+    cc_collector closed = CC_COLLECTOR_CLOSED, other = CC_COLLECTOR_CLOSED;
+    cc_object stranger, out, native, plain, second;
+    cc_root root, strange_root;
+    cc_told told;
+    uint64_t natives, natives_after;
+    uint16_t slots;
+    printf("Each status is met.\n");
+
+    WANT(cc_gc(&closed), CC_CLOSED);
+    WANT(cc_natives(&closed, &natives), CC_CLOSED);
+    cc_close(&closed);
+    printf("  CC_CLOSED: a collector that was never opened\n");
+    WANT(cc_open(c, 8, 10, 10), CC_OPEN);
+    printf("  CC_OPEN: one that is open already\n");
+    WANT(cc_open(&other, 2, 1000001, 0), CC_LIMIT);
+    WANT(cc_open(&other, 2, 0, 1000001), CC_LIMIT);
+    printf("  CC_LIMIT: a limit above a million\n");
+
+    TRY(cc_natives(c, &natives));
+    TRY(cc_open(&other, 2, 3, 1));
+    TRY(cc_new_native(&other, 0, 1, &stranger));
+    TRY(cc_hold(&other, &stranger, &strange_root));
+    WANT(cc_is_there(c, &stranger), CC_FOREIGN);
+    WANT(cc_set_native_root(c, 9, &stranger), CC_FOREIGN);
+    WANT(cc_store(c, &p->window, 0, &stranger), CC_FOREIGN);
+    WANT(cc_release(c, &strange_root), CC_FOREIGN);
+    printf("  CC_FOREIGN: an object and a root of another collector\n");
+    TRY(cc_new_plain(&other, 0, 0, &out));
+    WANT(cc_new_plain(&other, 1, 0, &out), CC_FULL);
+    printf("  CC_FULL: more objects than the limit\n");
+    cc_close(&other);
+    WANT(cc_is_there(&other, &stranger), CC_CLOSED);
+
+    out = untouched;
+    WANT(cc_is_there(c, &p->button), CC_GONE);
+    WANT(cc_slot(c, &p->button, 0, &out), CC_GONE);
+    WANT(cc_wrap(c, &p->button, &out), CC_GONE);
+    WANT(cc_set_native_root(c, 9, &p->button), CC_GONE);
+    WANT(cc_store(c, &p->window, 0, &p->listener), CC_GONE);
+    /* what stands in its place now is another, and is not taken for it */
+    TRY(cc_new_native(c, 9, 1, &native));
+    give_element(c, &native, "label");
+    WANT(cc_slot(c, &p->button, 0, &out), CC_GONE);
+    printf("  CC_GONE: a stale object (%s had key %u; %s has key %u)\n", name(CC_NATIVE, p->button.number), p->button.key,
+           name(CC_NATIVE, native.number), native.key);
+    second = native;
+    second.key = 4000000000u;
+    WANT(cc_slot(c, &second, 0, &out), CC_GONE);
+    second = native;
+    second.number = 999;
+    WANT(cc_slot(c, &second, 0, &out), CC_GONE);
+    second = native;
+    second.kind = 77;
+    WANT(cc_is_there(c, &second), CC_GONE);
+    WANT(cc_is_there(c, &nothing), CC_GONE);
+    printf("  CC_GONE: an object that is made up, and no object at all\n");
+    WANT(cc_release(c, &p->held), CC_GONE);
+    WANT(cc_held(c, &p->held, &out), CC_GONE);
+    TRY(cc_hold(c, &native, &root));
+    WANT(cc_release(c, &p->held), CC_GONE);
+    TRY(cc_release(c, &root));
+    WANT(cc_release(c, &root), CC_GONE);
+    printf("  CC_GONE: a root that was released, twice\n");
+
+    TRY(cc_new_plain(c, 9, 1, &plain));
+    WANT(cc_store(c, &plain, 0, &native), CC_KIND);
+    WANT(cc_set_native_root(c, 9, &plain), CC_KIND);
+    WANT(cc_set_script_root(c, 9, &native), CC_KIND);
+    WANT(cc_wrap(c, &plain, &out), CC_KIND);
+    WANT(cc_unwrap(c, &native, &out), CC_KIND);
+    WANT(cc_preserve(c, &plain), CC_KIND);
+    WANT(cc_set_entry(c, &plain, &plain, &plain), CC_KIND);
+    WANT(cc_entry(c, &p->map, &native, &out), CC_KIND);
+    printf("  CC_KIND: an object of the wrong kind\n");
+
+    WANT(cc_slot(c, &native, 1, &out), CC_INDEX);
+    WANT(cc_store(c, &native, 1, &plain), CC_INDEX);
+    WANT(cc_set_native_root(c, 128, &native), CC_INDEX);
+    WANT(cc_native_root(c, 128, &out), CC_INDEX);
+    WANT(cc_new_native(c, 128, 1, &out), CC_INDEX);
+    WANT(cc_new_native(c, 9, 256, &out), CC_INDEX);
+    WANT(cc_new_plain(c, 9, 257, &out), CC_INDEX);
+    printf("  CC_INDEX: a root, a slot and a number of slots that there are not\n");
+    HOLDS(is_same(&out, &untouched));
+
+    TRY(cc_slots(c, &native, &slots));
+    TRY(cc_natives(c, &natives_after));
+    HOLDS(slots == 1 && natives_after == natives + 1);
+    WANT(cc_next_told(c, &told), CC_NONE);
+    printf("  CC_NONE: nothing more was told\n");
+}
+
+int main(void) {
+    cc_collector c = CC_COLLECTOR_CLOSED;
+    struct page page;
+    uint32_t broken;
+    uint64_t natives, scripts;
+    TRY(cc_open(&c, 1, 1000, 1000));
+    build(&c, &page);
+    let_go(&c, &page);
+    collect_in_slices(&c, &page);
+    move_and_proxy(&c);
+    meet_each_status(&c, &page);
+
+    printf("The roots are emptied, and what is left goes.\n");
+    for (uint16_t r = 0; r < 128; r++) {
+        TRY(cc_set_native_root(&c, r, &nothing));
+        TRY(cc_set_script_root(&c, r, &nothing));
+    }
+    TRY(cc_settle(&c));
+    fetch(&c);
+    TRY(cc_is_told_broken(&c, &broken));
+    TRY(cc_mend_told(&c));
+    HOLDS(broken == 0 && elements == 0);
+    TRY(cc_scripts(&c, &scripts));
+    /* the table of the roots that cc_hold made may be counted */
+    TRY(cc_natives(&c, &natives));
+    HOLDS(scripts == 0 && natives <= 1);
+    cc_close(&c);
+    cc_close(&c);
+    WANT(cc_settle(&c), CC_CLOSED);
+    printf("The collector is closed.\n");
+    return 0;
+}
