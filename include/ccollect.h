@@ -15,14 +15,16 @@
  *   an allocator of its own writes its own three.
  *
  * OBJECTS. A `cc_object` names an object for good; it may be kept for ever, and keeping it keeps nothing alive. Once the object
- * is no more each call that it is handed to answers CC_GONE, whatever stands in its place by then. One whose kind is CC_NOTHING
- * is no object: so a root or a slot is emptied, and so an empty one is answered. Numbers count from 1, in two numberings
- * (natives; plain objects, weak maps and proxies); a reflector has the number of its native. No number is used twice, but that a
- * native that lost its reflector gets another of the same number.
+ * is no more each call that it is handed to answers CC_GONE, whatever stands in its place by then; only a reflector that was
+ * made anew for the same native may stand for the one before. One whose kind is CC_NOTHING is no object: so a root or a slot is
+ * emptied, and so an empty one is answered. Where an object must be it is CC_FOREIGN or CC_GONE, by its mark. Numbers count
+ * from 1, in two numberings (natives; plain objects, weak maps and proxies); a reflector has the number of its native. No
+ * number is used twice.
  *
  * ROOTS. What no root reaches is garbage. 128 roots of natives and 128 of script objects have numbers, from 0: what is made
- * stands in one of them. Beside them cc_hold keeps any object until cc_release, as many as wanted; a cc_root that was released
- * is refused (CC_GONE) for ever.
+ * stands in one of them. Beside them cc_hold keeps any object until cc_release, as many as wanted (some 200,000 at a time); a
+ * cc_root that was released is refused (CC_GONE) for ever. They stand in tables, which are natives of the library's own, one for
+ * 256 roots: a table takes a number, counts for cc_open's limit and among cc_natives, and stays.
  *
  * WHAT IS TOLD. Calls that delete and collections tell what they did, in its order, and cc_next_told hands it out. CC_UNLINKED: a
  * collection took the native's references away; it may be told again at a later collection, while a script object still holds
@@ -30,9 +32,12 @@
  * a native comes the number that cc_set_data gave it. Room for what one collection can tell is taken when objects are made: a
  * program that fetches between two collections loses nothing; what was lost all the same shows in cc_is_told_broken.
  *
- * STATUS. Each call answers one of the CC_ numbers. Unless it is CC_OK nothing was changed and no out-parameter written, but that
- * of cc_slice, cc_collect and cc_settle CC_NO_MEMORY means that a collection was given up, and nothing is lost; and of cc_wrap,
- * cc_set_entry, cc_new_proxy and cc_hold, where it leaves every object as it is. */
+ * STATUS. Each call answers one of the CC_ numbers: of those that apply the first of CC_CLOSED; CC_INDEX of a numbered root; then
+ * of the objects in the order in which they are handed in CC_FOREIGN, CC_GONE, CC_KIND of each; CC_INDEX of slots; CC_FULL. Where
+ * memory is wanted CC_NO_MEMORY may come in place of any of these but CC_CLOSED and CC_INDEX of a numbered root. Unless it is
+ * CC_OK nothing was changed and no out-parameter written; but of cc_slice, cc_collect and cc_settle CC_NO_MEMORY means that a
+ * collection was given up, and nothing is lost; and cc_wrap, cc_set_entry, cc_new_proxy and cc_hold leave every object as it is
+ * then, but may have made a suspect, shown an object to script, or made a table. */
 #ifndef CCOLLECT_H
 #define CCOLLECT_H
 #include <stdint.h>
@@ -45,7 +50,7 @@ enum {
     CC_CLOSED = 1,    /* the collector is not open */
     CC_OPEN = 2,      /* it is open already */
     CC_FOREIGN = 3,   /* an object or root is of another collector */
-    CC_GONE = 4,      /* an object is not there; a root is not in use; no object where one must be */
+    CC_GONE = 4,      /* an object is not there; a root is not in use */
     CC_KIND = 5,      /* an object is of the wrong kind */
     CC_INDEX = 6,     /* there is no such root or slot; or too many slots */
     CC_FULL = 7,      /* as many objects as the limit were ever made; or no place is left for a root */
@@ -61,6 +66,7 @@ enum { CC_BY_ROOT = 1, CC_BY_OBJECT = 2, CC_BY_ENTRY = 3 };
 typedef struct cc_collector { uint64_t state; void *at; } cc_collector;
 typedef struct cc_object { uint64_t mark; uint32_t key; uint32_t number; uint32_t kind; } cc_object;
 typedef struct cc_root { uint64_t mark; uint64_t serial; uint32_t index; } cc_root;
+/* `data` is 0 of what is no native. */
 typedef struct cc_told { uint64_t data; uint32_t what; uint32_t kind; uint32_t number; } cc_told;
 /* An object on the way to one that was asked for, and why it is reached: a root holds it (by_kind CC_NATIVE or CC_SCRIPT, and
  * by_number the root's), or an object refers to it, or an entry of a weak map (by) gives it to a key. A native root from 128 on
@@ -82,7 +88,7 @@ uint32_t cc_new_plain(cc_collector *, uint16_t r, uint16_t slots, cc_object *mad
 uint32_t cc_new_map(cc_collector *, uint16_t r, cc_object *made);
 uint32_t cc_new_proxy(cc_collector *, uint16_t r, const cc_object *delegate, cc_object *made);
 
-/* Roots. */
+/* Roots. A numbered one is emptied by an object of kind CC_NOTHING. */
 uint32_t cc_set_native_root(cc_collector *, uint16_t r, const cc_object *);
 uint32_t cc_set_script_root(cc_collector *, uint16_t r, const cc_object *);
 uint32_t cc_native_root(cc_collector *, uint16_t r, cc_object *held);
@@ -95,10 +101,10 @@ uint32_t cc_held(cc_collector *, const cc_root *, cc_object *held);
 uint32_t cc_slots(cc_collector *, const cc_object *, uint16_t *slots);
 uint32_t cc_slot(cc_collector *, const cc_object *, uint16_t i, cc_object *held);
 uint32_t cc_store(cc_collector *, const cc_object *, uint16_t i, const cc_object *content);
-/* Slot i of `to` gets what slot j of `from` held, which is empty then. */
+/* Slot i of `to` gets what slot j of `from` held, which is empty then; where both are one place nothing moves. */
 uint32_t cc_move_slot(cc_collector *, const cc_object *to, uint16_t i, const cc_object *from, uint16_t j);
 
-/* Reflectors: of a native, for script. */
+/* Reflectors: of a native, for script. cc_unwrap of what is no reflector answers CC_OK, and nothing (CC_NOTHING). */
 uint32_t cc_wrap(cc_collector *, const cc_object *native, cc_object *reflector);
 uint32_t cc_unwrap(cc_collector *, const cc_object *, cc_object *native);
 uint32_t cc_preserve(cc_collector *, const cc_object *reflector);
@@ -113,7 +119,7 @@ uint32_t cc_entry(cc_collector *, const cc_object *map, const cc_object *key, cc
 uint32_t cc_slice(cc_collector *, uint32_t units, uint32_t *over);
 uint32_t cc_collect(cc_collector *);
 uint32_t cc_gc(cc_collector *);
-/* Leaves exactly what the roots reach. */
+/* Leaves exactly what the roots reach. (cc_gc wants no memory: where a collection that it ends is refused some, that is told.) */
 uint32_t cc_settle(cc_collector *);
 uint32_t cc_running(cc_collector *, uint32_t *running);
 
@@ -123,12 +129,14 @@ uint32_t cc_next_told(cc_collector *, cc_told *);
 uint32_t cc_is_told_broken(cc_collector *, uint32_t *broken);
 uint32_t cc_mend_told(cc_collector *);
 
-/* Questions. The answer of cc_is_there is its status. */
+/* Questions. The answer of cc_is_there is its status. cc_scripts counts reflectors, weak maps and proxies too. cc_data is 0 where
+ * no number was given. */
 uint32_t cc_is_there(cc_collector *, const cc_object *);
 uint32_t cc_natives(cc_collector *, uint64_t *natives);
 uint32_t cc_scripts(cc_collector *, uint64_t *scripts);
 uint32_t cc_has_suspects(cc_collector *, uint32_t *some);
-/* *led is 1 where roots lead to it: then cc_next_step hands out the steps, the object itself last, and CC_NONE behind them. */
+/* *led is 1 where roots lead to it: then cc_next_step hands out the steps, the object itself last, and CC_NONE behind them. Steps
+ * of an earlier answer that were not fetched come before. */
 uint32_t cc_why(cc_collector *, const cc_object *, uint32_t *led);
 uint32_t cc_next_step(cc_collector *, cc_step *);
 uint32_t cc_data(cc_collector *, const cc_object *native, uint64_t *data);
