@@ -289,7 +289,10 @@ static void meet_each_status(cc_collector *c, const struct page *p) {
     second = native;
     second.kind = 77;
     WANT(cc_is_there(c, &second), CC_GONE);
-    WANT(cc_is_there(c, &nothing), CC_GONE);
+    WANT(cc_is_there(c, &nothing), CC_FOREIGN);
+    second = nothing;
+    second.mark = native.mark;
+    WANT(cc_is_there(c, &second), CC_GONE);
     printf("  CC_GONE: an object that is made up, and no object at all\n");
     WANT(cc_release(c, &p->held), CC_GONE);
     WANT(cc_held(c, &p->held, &out), CC_GONE);

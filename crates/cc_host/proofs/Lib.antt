@@ -13,3 +13,4 @@ pub mod Reading
 pub mod Stopping
 pub mod Collecting
 pub mod Rooted
+pub mod Counting

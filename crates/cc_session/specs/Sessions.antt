@@ -14,7 +14,7 @@ use Rattle.cc_session.specs.declared.session.TheConstants.{NUMBERED_ROOTS}
 -- the session's own books: a number of the program's for each native, by the native's own number; for each root its serial
 -- number, while it is in use; and the last serial number that was given
 pub record Books : Type 0 where
-  pub data : List ℕ
+  pub given : List ℕ
   pub roots : List (Option ℕ)
   pub last : ℕ
 
@@ -31,7 +31,7 @@ numbered = NUMBERED_ROOTS
 
 -- the number that a program gave a native; 0 where it gave none
 abbrev pub data_at : Books → ℕ → ℕ
-data_at b number = slice_index_or b.data number 0
+data_at b number = slice_index_or b.given number 0
 
 -- the serial number of a root that is in use
 abbrev pub serial_at : Books → ℕ → Option ℕ
@@ -41,7 +41,7 @@ serial_at b index = slice_index_or b.roots index None
 pub record Enters (old new : Books) (index : ℕ) (serial : Option ℕ) : Type 0 where
   pub entered : serial_at new index ≡ serial
   pub others : (other : ℕ) → other ≢ index → serial_at new other ≡ serial_at old other
-  pub data : new.data ≡ old.data
+  pub given : new.given ≡ old.given
 
 -- what native register r holds
 abbrev pub table : Hosted → ℕ → Option Name

@@ -12,7 +12,7 @@ use std::marker::Model;
 /// serial number of its own.
 #[derive(Drop)]
 pub(crate) struct Book {
-    data: Vec<u64>,
+    given: Vec<u64>,
     roots: Slab<u64>,
     last: u64,
 }
@@ -22,16 +22,16 @@ impl Model for Book {
 
     ghost Value = { Books };
 
-    ghost view = { λ b. record { data = b.data.items; roots = b.roots.slots; last = b.last } };
+    ghost view = { λ b. record { given = b.given.items; roots = b.roots.slots; last = b.last } };
 }
 
 impl Book {
     /// Nothing is known.
     pub(crate) fn new(alloc: Global) -> Book
-        ensures { result ≡ record { data = []; roots = []; last = 0 } }
+        ensures { result ≡ record { given = []; roots = []; last = 0 } }
     {
         Book {
-            data: Vec::new(alloc),
+            given: Vec::new(alloc),
             roots: Slab::new(alloc),
             last: 0,
         }
@@ -41,8 +41,8 @@ impl Book {
     pub(crate) fn data(&self, number: u32) -> u64
         ensures { result ≡ data_at self.now number }
     {
-        match self.data.get(number as usize) {
-            Some(data) => *data,
+        match self.given.get(number as usize) {
+            Some(value) => *value,
             None => 0,
         }
     }
@@ -50,18 +50,18 @@ impl Book {
     /// Gives a native a number of the program's. `NoMemory` changes no number.
     ///
     /// The numbers stand in a list by the natives' own, so it takes 8 bytes for each native that was ever made before it.
-    pub(crate) fn set_data(&mut self, number: u32, data: u64) -> Result<(), NoMemory>
-        ensures given { OnOk result (data_at self.new number ≡ data) }
+    pub(crate) fn set_data(&mut self, number: u32, value: u64) -> Result<(), NoMemory>
+        ensures given { OnOk result (data_at self.new number ≡ value) }
         ensures others { (n : ℕ) → n ≢ number → data_at self.new n ≡ data_at self.old n }
         ensures err { OnErr result ((n : ℕ) → data_at self.new n ≡ data_at self.old n) }
         ensures roots { self.new.roots ≡ self.old.roots }
         ensures last { self.new.last ≡ self.old.last }
     {
         let number = number as usize;
-        if number >= self.data.len() {
-            self.data.resize(number + 1, 0)?;
+        if number >= self.given.len() {
+            self.given.resize(number + 1, 0)?;
         }
-        self.data[number] = data;
+        self.given[number] = value;
         Ok(())
     }
 

@@ -49,7 +49,7 @@ impl Session {
         ensures mark { IfOk result (λ s. s.host.mark ≡ mark) }
         ensures told { IfOk result (λ s. s.told.items ≡ Some []) }
         ensures whole { IfOk result (λ s. s.told.broken ≡ false) }
-        ensures books { IfOk result (λ s. s.books ≡ record { data = []; roots = []; last = 0 }) }
+        ensures books { IfOk result (λ s. s.books ≡ record { given = []; roots = []; last = 0 }) }
     {
         Ok(Session {
             host: Host::new(alloc, limits, mark)?,

@@ -78,7 +78,7 @@ impl Session {
         ensures mark { IfOk result (λ root. root.mark ≡ self.old.host.mark) }
         ensures tried { OnErr result (Does Always (λ g. g) self.old.host self.new.host ⊎ ((r : ℕ) × Does Always (tabled self.old.host r) self.old.host self.new.host)) }
         ensures none { OnErr result ((index : ℕ) → serial_at self.new.books index ≡ serial_at self.old.books index) }
-        ensures data { self.new.books.data ≡ self.old.books.data }
+        ensures given { self.new.books.given ≡ self.old.books.given }
         ensures tells { TellsFreed self.old.host self.new.host self.old.told self.new.told }
     {
         self.host.slots(x)?;

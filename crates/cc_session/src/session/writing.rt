@@ -116,7 +116,7 @@ impl Session {
     /// The number that the program gave a native, 0 where it gave none.
     pub fn data(&self, x: Object) -> Result<u64, Stop>
         ensures stops { IsStoppedBy (stop_native self.now.host x) result }
-        ensures data { IfOk result (λ data. data ≡ data_at self.now.books (number_of x.name)) }
+        ensures value { IfOk result (λ value. value ≡ data_at self.now.books (number_of x.name)) }
     {
         let number = self.number(x)?;
         Ok(self.book.data(number))
@@ -136,15 +136,15 @@ impl Session {
 
     /// Gives a native a number, an address say, that the program finds again by `data`, and by `data_of` once the native is
     /// gone. It takes 8 bytes for each native that was made before it. `NoMemory` changes no number.
-    pub fn set_data(&mut self, x: Object, data: u64) -> Result<(), Stop>
+    pub fn set_data(&mut self, x: Object, value: u64) -> Result<(), Stop>
         ensures stops { IsStoppedOrRefused (stop_native self.old.host x) result }
-        ensures given { OnOk result (data_at self.new.books (number_of x.name) ≡ data) }
+        ensures given { OnOk result (data_at self.new.books (number_of x.name) ≡ value) }
         ensures others { (n : ℕ) → n ≢ number_of x.name → data_at self.new.books n ≡ data_at self.old.books n }
         ensures err { OnErr result ((n : ℕ) → data_at self.new.books n ≡ data_at self.old.books n) }
-        ensures rest { self.new ≡ record self.old { books = record self.old.books { data = self.new.books.data } } }
+        ensures rest { self.new ≡ record self.old { books = record self.old.books { given = self.new.books.given } } }
     {
         let number = self.number(x)?;
-        self.book.set_data(number, data)?;
+        self.book.set_data(number, value)?;
         Ok(())
     }
 
