@@ -6,7 +6,7 @@
 
 A piece is what stands between two fences, and its file is the one that the paragraph before it names last, in backquotes.
 
-On docs/EMBEDDING.md a piece of rust or antt is the whole text of its file, so that who copies it has what the gate proves; a
+On docs/EMBEDDING.md a piece of rust, antt or C is the whole text of its file, so that who copies it has what the gate proves; a
 piece of text is some lines of its file. On README.md a piece of rust is some lines of its file too: each part between two empty
 lines stands there in a row, indented or not, one part after the other.
 
@@ -20,7 +20,7 @@ from pathlib import Path
 ROOT = Path(__file__).resolve().parent.parent
 EMBEDDING = ROOT / 'docs' / 'EMBEDDING.md'
 README = ROOT / 'README.md'
-WHOLE = ('rust', 'antt')
+WHOLE = ('rust', 'antt', 'c')
 CALLED = ('cc_counted', 'cc_heaps', 'cc_paths', 'cc_script', 'cc_weakmaps', 'cc_wrappers')
 FENCE = '```'
 
