@@ -119,6 +119,11 @@ fn reads_slots(host: &Host) -> bool {
     held & empty & (host.slots(c) == Ok(1))
 }
 
+// How many there are: the native, its reflector and the closure.
+fn counts(host: &Host) -> bool {
+    (host.natives() == 1) & (host.scripts() == 2)
+}
+
 fn reads_kinds(host: &Host) -> bool {
     let (p, c) = (reflector(host), closure(host));
     let kinds = host.kind(p) == Ok(Kind::Reflector);
@@ -171,7 +176,7 @@ fn prepares(host: &mut Host, out: &mut Notebook) -> bool {
 
 fn answers_all(alloc: Global, host: &mut Host, out: &mut Notebook) -> bool {
     let prepared = prepares(host, out);
-    let read = reads_slots(host) & reads_kinds(host);
+    let read = reads_slots(host) & reads_kinds(host) & counts(host);
     let entered = makes_a_map(host) & enters_at_roots(host);
     prepared & read & entered & explains(alloc, host, out)
 }
@@ -358,7 +363,7 @@ fn what_goes_is_told(rt: HostRuntime) {
 
 // What a queue was told of a native that is let go, item by item.
 fn fetches(host: &mut Host, told: &mut Queue) -> bool {
-    let made = host.new_native(0, 0, told).is_ok();
+    let made = told.reserve(1).is_ok() & host.new_native(0, 0, told).is_ok();
     let let_go = host.set_native_root(0, None, told).is_ok();
     let freed = told.next() == Some(Item::Event(Event::Freed(Name::Native(NativeNo(1)))));
     told.mend();
