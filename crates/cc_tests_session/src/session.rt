@@ -4,7 +4,7 @@
 use cc_collector::Ended;
 use cc_host::{Object, Stop};
 use cc_model::{Event, Item, Reason};
-use cc_names::{Kind, Limits, Name, NativeNo, Reg};
+use cc_names::{Kind, Limits, Name, NativeNo, Reg, ScriptNo};
 use cc_session::{NUMBERED_ROOTS, Root, Session};
 use std::alloc::Global;
 
@@ -196,12 +196,13 @@ fn takes_in_slices(s: &mut Session) -> bool {
     over & !s.running() & !s.has_suspects()
 }
 
-// What is told of it, in its order.
+// What is told of it, in its order: script objects go as they were made, and the native with its reflector.
 fn is_told(s: &mut Session) -> bool {
     let unlinked = s.next_told() == Some(Item::Event(Event::Unlinked(Name::Native(NativeNo(1)))));
+    let listener = s.next_told() == Some(Item::Event(Event::Freed(Name::Script(ScriptNo(1)))));
     let reflector = s.next_told() == Some(Item::Event(Event::Freed(Name::Reflector(NativeNo(1)))));
     let native = s.next_told() == Some(Item::Event(Event::Freed(Name::Native(NativeNo(1)))));
-    unlinked & reflector & native & s.next_told().is_some() & s.next_told().is_none()
+    unlinked & listener & reflector & native & s.next_told().is_none()
 }
 
 // The program's number of a native is found after the native is gone, and that of another is its own.
