@@ -37,7 +37,7 @@ root-reached h r = go (register h (N r)) refl
     go (Some x) e = register-reached h r x e
 
 -- registers hold what they held, where a slot of a native is written
-stored-registers : (h : Heap) (k i : ℕ) (x : Option Name) → (stored_in h k i x).heap.native_registers ≡ h.native_registers
+pub stored-registers : (h : Heap) (k i : ℕ) (x : Option Name) → (stored_in h k i x).heap.native_registers ≡ h.native_registers
 stored-registers h k i x =
     (Leaves-let_go (set_slot (take_up h x) (Some (native k)) i x) (slot_held (take_up h x) k i)).beside.native_registers
     ∙ (HoldsTheSame-take_up h x).beside.native_registers

@@ -5,7 +5,7 @@ ghost use Rattle.cc_script.specs.Objects.{is_there, kind_at};
 ghost use Rattle.cc_names.specs.declared.kind.Kind.TheVariants.{Map};
 ghost use Rattle.cc_heaps.specs.Keyed.{number_at};
 ghost use Rattle.cc_heaps.specs.Changes.{IsNativeThere, IsScriptThere, IsThere as IsHeldThere, held_name, native_name, script_name};
-ghost use Rattle.cc_host.specs.Hosted.{Hosted, IsThereIfAny, is_found, named};
+ghost use Rattle.cc_host.specs.Hosted.{Hosted, IsKept, IsThereIfAny, is_found, named};
 ghost use Rattle.cc_host.specs.Stops.{IsStoppedBy, stop_at, stop_content, stop_if_any, stop_map, stop_native, stop_reflector, stop_script};
 
 mod collecting;
@@ -67,6 +67,13 @@ impl Host {
         ensures { result ≡ self.now.mark }
     {
         self.mark
+    }
+
+    /// What a host keeps between its calls, for the proofs of who calls. It does nothing.
+    pub fn keeps(&self)
+        ensures { IsKept self.now }
+    {
+        let _ = &self.heaps;
     }
 
     /// Whether an object is there, and of this host.

@@ -61,6 +61,7 @@ fn expose_held(heaps: &mut Heaps, content: Option<Held>)
     ensures slots { (k : ℕ) → slots_now (native_at heaps.new.heap k) ≡ slots_now (native_at heaps.old.heap k) }
     ensures names { names_there heaps.new.heap ≡ names_there heaps.old.heap }
     ensures reached { (x : Option Name) → IsReached heaps.old.heap x → IsReached heaps.new.heap x }
+    ensures registers { heaps.new.heap.native_registers ≡ heaps.old.heap.native_registers }
 {
     if let Some(Held::Script(key)) = content {
         expose_key(heaps, key);
@@ -145,6 +146,8 @@ pub(crate) fn store_rooted<N: Notices>(
     requires within { i < length (slots_of (counts_of heaps.old) key.0) }
     requires there { IsThere heaps.old content }
     ensures step { IsStep (IsReached heaps.old.heap (held_name heaps.old content)) (λ g. graph.set_slot g (native_name heaps.old (Some key)) i (held_name heaps.old content)) heaps.old heaps.new }
+    ensures none_came { NoneCame heaps.old.heap heaps.new.heap }
+    ensures registers { heaps.new.heap.native_registers ≡ heaps.old.heap.native_registers }
     ensures tells { TellsWhatIsFreed heaps.old.heap heaps.new.heap (N.telling out.old) (N.telling out.new) }
 {
     expose_held(heaps, content);

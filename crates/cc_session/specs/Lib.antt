@@ -1,2 +1,14 @@
 pub mod Sessions
 pub mod Refusals
+pub use Rattle.cc_model.specs.Graph
+pub use Rattle.cc_model.specs.Heap
+pub use Rattle.cc_model.specs.Telling
+pub use Rattle.cc_heaps.specs.Keyed
+pub use Rattle.cc_heaps.specs.Standing
+pub use Rattle.cc_collector.specs.Kept
+pub use Rattle.cc_collector.specs.Settled
+pub use Rattle.cc_collector.specs.Collected
+pub use Rattle.cc_laws_run.specs.Doomed
+pub use Rattle.cc_host.specs.Hosted
+pub use Rattle.cc_host.specs.Stops
+pub use Rattle.cc_host.specs.Calls

@@ -1,5 +1,6 @@
 -- WHAT A SESSION IS: a host, what was told and not fetched yet, and the session's own books.
-use Rattle.std.specs.Prelude.{◌≡◌, ◌≢◌, ℕ, ◌+◌, ◌/◌, ◌%◌, List, Option, None, is_none, if◌then◌else◌, slice_index_or}
+use Rattle.std.specs.Prelude.{◌≡◌, ◌≢◌, ◌⊎◌, ℕ, ◌+◌, ◌/◌, ◌%◌, List, Option, None, is_none, if◌then◌else◌, slice_index_or}
+use Rattle.cc_lists.specs.Members.{Among}
 use Rattle.cc_names.specs.declared.name.Name.{Name}
 use Rattle.cc_names.specs.declared.register.Reg.TheVariants.{N}
 use Rattle.cc_names.specs.Sizes.{most_slots}
@@ -8,6 +9,7 @@ use Rattle.cc_model.specs.Graph as graph
 use Rattle.cc_model.specs.Graph.{Graph}
 use Rattle.cc_model.specs.Heap.{register}
 use Rattle.cc_model.specs.Telling.{Telling}
+use Rattle.cc_model.specs.WellFormed.{names_there}
 use Rattle.cc_host.specs.Hosted.{Hosted}
 use Rattle.cc_session.specs.declared.session.TheConstants.{NUMBERED_ROOTS}
 
@@ -50,6 +52,10 @@ table h r = register h.heaps.heap (N r)
 -- a register that held nothing gets a table of roots
 abbrev pub tabled : Hosted → ℕ → Graph → Graph
 tabled h r g = if is_none (table h r) then graph.step g (command.Native r most_slots) else g
+
+-- NO OBJECT COMES but this one
+abbrev pub Comes : Name → Hosted → Hosted → Type 0
+Comes made old new = (x : Name) → Among x (names_there new.heaps.heap) → Among x (names_there old.heaps.heap) ⊎ (x ≡ made)
 
 -- the root at a place stands in this register's table, and in this slot of it
 abbrev pub register_for : ℕ → ℕ

@@ -1,5 +1,5 @@
 //! The session's own books: what program and roots are known by.
-ghost use Rattle.std.specs.Prelude.{◌≡◌, ◌≢◌, ◌+◌, ℕ, [], Some, None, IfOk, OnOk, OnErr, ◌<◌, ◌≤◌};
+ghost use Rattle.std.specs.Prelude.{◌≡◌, ◌≢◌, ◌⊎◌, ◌+◌, ℕ, [], Some, None, Err, IfOk, OnOk, OnErr, ◌<◌, ◌≤◌};
 ghost use Rattle.cc_session.specs.Sessions.{Books, Enters, data_at, serial_at};
 
 use cc_host::Stop;
@@ -76,9 +76,11 @@ impl Book {
     ///
     /// `Full` where no place or no serial number is left, and then, as for `NoMemory`, nothing changes.
     pub(crate) fn enter(&mut self) -> Result<(u32, u64), Stop>
+        ensures free { IfOk result (λ r. serial_at self.old r.0 ≡ None) }
         ensures entered { IfOk result (λ r. Enters self.old self.new r.0 (Some r.1)) }
         ensures serial { IfOk result (λ r. r.1 ≡ self.old.last + 1) }
         ensures last { OnOk result (self.new.last ≡ self.old.last + 1) }
+        ensures refused { (s : Stop) → result ≡ Err s → (s ≡ Stop.NoMemory) ⊎ (s ≡ Stop.Full) }
         ensures err { OnErr result (self.new ≡ self.old) }
     {
         let Some(serial) = self.last.checked_add(1) else {

@@ -13,6 +13,7 @@
 #![tactic(auto)]
 
 mod book;
+pub mod loose;
 mod root;
 mod session;
 

@@ -113,7 +113,11 @@ impl Session {
     {
         let natives = self.host.natives().saturating_add(1);
         let scripts = self.host.scripts().saturating_add(1);
-        self.told
-            .reserve(natives.saturating_mul(2).saturating_add(scripts).saturating_add(1))
+        self.told.reserve(
+            natives
+                .saturating_mul(2)
+                .saturating_add(scripts)
+                .saturating_add(1),
+        )
     }
 }

@@ -1,10 +1,13 @@
 //! Objects made. Each stands in a root from then on.
-ghost use Rattle.std.specs.Prelude.{◌≡◌, ◌+◌, Some, None, Err, IfOk, OnErr, OnOk};
+ghost use Rattle.std.specs.Prelude.{◌≡◌, ◌+◌, ◌⊎◌, Some, None, Err, IfOk, OnErr, OnOk};
+ghost use Rattle.cc_lists.specs.Members.{Among};
+ghost use Rattle.cc_names.specs.declared.name.Name.{Name};
 ghost use Rattle.cc_names.specs.Names.{native, object};
 ghost use Rattle.cc_names.specs.declared.register.Reg.TheVariants.{N as n_register, S as s_register};
 ghost use Rattle.cc_model.specs.declared.command.Command.TheVariants as command;
 ghost use Rattle.cc_model.specs.Graph as graph;
 ghost use Rattle.cc_model.specs.Heap.{register};
+ghost use Rattle.cc_model.specs.WellFormed.{names_there};
 ghost use Rattle.cc_host.specs.Calls.{Always, Does, TellsFreed};
 ghost use Rattle.cc_host.specs.Hosted.{IsRooted, IsThere};
 ghost use Rattle.cc_host.specs.Stops.{IsStoppedOrRefused, are_natives_made, are_scripts_made, stop_making, stop_proxy};
@@ -33,6 +36,9 @@ impl Host {
         ensures held { IfOk result (λ x. register self.new.heaps.heap (n_register r) ≡ Some x.name) }
         ensures same { OnErr result (self.new ≡ self.old) }
         ensures tells { TellsFreed self.old self.new (N.telling out.old) (N.telling out.new) }
+        ensures silent { OnErr result (N.telling out.new ≡ N.telling out.old) }
+        // no other object comes
+        ensures came { IfOk result (λ x. (y : Name) → Among y (names_there self.new.heaps.heap) → Among y (names_there self.old.heaps.heap) ⊎ (y ≡ x.name)) }
     {
         if r >= ROOTS || slots > MOST_SLOTS {
             return Err(Stop::Index);

@@ -3,6 +3,7 @@ ghost use Rattle.std.specs.Prelude.{◌≡◌, OnErr, OnOk};
 ghost use Rattle.cc_names.specs.declared.register.Reg.TheVariants.{N as n_register};
 ghost use Rattle.cc_model.specs.Graph as graph;
 ghost use Rattle.cc_model.specs.Heap.{register};
+ghost use Rattle.cc_heaps.specs.Leaving.{NoneCame};
 ghost use Rattle.cc_host.specs.Calls.{Does, TellsFreed};
 ghost use Rattle.cc_host.specs.Hosted.{IsRootedIfAny, named};
 ghost use Rattle.cc_host.specs.Stops.{IsStoppedBy, stop_storing_at_root};
@@ -30,6 +31,10 @@ impl Host {
         ensures does { OnOk result (Does (IsRootedIfAny self.old y) (λ g. graph.set_slot g (register self.old.heaps.heap (n_register r)) i (named y)) self.old self.new) }
         ensures same { OnErr result (self.new ≡ self.old) }
         ensures tells { TellsFreed self.old self.new (N.telling out.old) (N.telling out.new) }
+        ensures silent { OnErr result (N.telling out.new ≡ N.telling out.old) }
+        // no object comes, and native roots hold what they held
+        ensures none_came { NoneCame self.old.heaps.heap self.new.heaps.heap }
+        ensures registers { self.new.heaps.heap.native_registers ≡ self.old.heaps.heap.native_registers }
     {
         if r >= ROOTS {
             return Err(Stop::Index);

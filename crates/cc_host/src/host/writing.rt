@@ -32,6 +32,7 @@ impl Host {
         ensures does { OnOk result (Does (IsRootedIfAny self.old x) (λ g. graph.set_register g (n_register r) (named x)) self.old self.new) }
         ensures same { OnErr result (self.new ≡ self.old) }
         ensures tells { TellsFreed self.old self.new (N.telling out.old) (N.telling out.new) }
+        ensures silent { OnErr result (N.telling out.new ≡ N.telling out.old) }
     {
         let content = self.native_if_any(x)?;
         if r >= ROOTS {
@@ -68,6 +69,7 @@ impl Host {
         ensures does { OnOk result (Does (IsRooted self.old x × IsRootedIfAny self.old y) (stored x i (named y)) self.old self.new) }
         ensures same { OnErr result (self.new ≡ self.old) }
         ensures tells { TellsFreed self.old self.new (N.telling out.old) (N.telling out.new) }
+        ensures silent { OnErr result (N.telling out.new ≡ N.telling out.old) }
     {
         let key = self.native(x)?;
         let content = self.held_if_any(y)?;
@@ -111,6 +113,7 @@ impl Host {
         ensures does { OnOk result (Does (IsRooted self.old x × IsRootedIfAny self.old y) (stored x i (named y)) self.old self.new) }
         ensures same { OnErr result (self.new ≡ self.old) }
         ensures tells { TellsFreed self.old self.new (N.telling out.old) (N.telling out.new) }
+        ensures silent { OnErr result (N.telling out.new ≡ N.telling out.old) }
     {
         match x.name {
             Name::Native(_) => self.store_in_native(x, i, y, out),
@@ -136,6 +139,7 @@ impl Host {
             (λ g. graph.move_slot g (Some to.name) i (Some from.name) j (slot_held self.old.heaps.heap (number_of from.name) j)) self.old self.new) }
         ensures same { OnErr result (self.new ≡ self.old) }
         ensures tells { TellsFreed self.old self.new (N.telling out.old) (N.telling out.new) }
+        ensures silent { OnErr result (N.telling out.new ≡ N.telling out.old) }
     {
         let to = self.native(to)?;
         let from = self.native(from)?;

@@ -1,11 +1,14 @@
 //! Objects made, each in a root, and where they stand.
-ghost use Rattle.std.specs.Prelude.{◌≡◌, ◌+◌, ◌<◌, ◌≤◌, Some, None, Err, IsTrue, IfOk, OnOk, OnErr};
+ghost use Rattle.std.specs.Prelude.{◌≡◌, ◌⊎◌, ◌+◌, ◌<◌, ◌≤◌, Some, None, Err, IsTrue, IfOk, OnOk, OnErr};
+ghost use Rattle.cc_lists.specs.Members.{Among};
 ghost use Rattle.cc_names.specs.Names.{native, object};
 ghost use Rattle.cc_names.specs.Sizes.{most_slots};
+ghost use Rattle.cc_names.specs.declared.name.Name.{Name};
 ghost use Rattle.cc_names.specs.declared.register.Reg.TheVariants.{N as n_register, S as s_register};
 ghost use Rattle.cc_model.specs.declared.command.Command.TheVariants as command;
 ghost use Rattle.cc_model.specs.Graph as graph;
 ghost use Rattle.cc_model.specs.Heap.{register};
+ghost use Rattle.cc_model.specs.WellFormed.{names_there};
 ghost use Rattle.cc_script.specs.Objects.{is_there};
 ghost use Rattle.cc_heaps.specs.Changes.{native_name, script_name};
 ghost use Rattle.cc_heaps.specs.Leaving.{TellsWhatIsFreed};
@@ -35,6 +38,8 @@ pub(crate) fn make_native<N: Notices>(
     ensures full_always { heaps.old.heap.limits.natives ≤ heaps.old.heap.natives_made → result ≡ Err MakeStop.Full }
     ensures same { OnErr result (heaps.new ≡ heaps.old) }
     ensures tells { TellsWhatIsFreed heaps.old.heap heaps.new.heap (N.telling out.old) (N.telling out.new) }
+    ensures silent { OnErr result (N.telling out.new ≡ N.telling out.old) }
+    ensures came { OnOk result ((x : Name) → Among x (names_there heaps.new.heap) → Among x (names_there heaps.old.heap) ⊎ (x ≡ native (heaps.old.heap.natives_made + 1))) }
 {
     heaps.new_native(r, slots, out)?;
     match heaps.native_reg(r) {

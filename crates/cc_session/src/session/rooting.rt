@@ -2,10 +2,12 @@
 ghost use Rattle.std.specs.Prelude.{◌≡◌, ◌≢◌, ◌⊎◌, ◌+◌, ◌<◌, ◌≤◌, ℕ, Some, None, IfOk, IfSome, IfNone, OnErr, OnOk, slice_index_or};
 ghost use Rattle.cc_model.specs.Graph as graph;
 ghost use Rattle.cc_names.specs.Sizes.{most_slots};
+ghost use Rattle.cc_names.specs.declared.name.Name.{Name};
+ghost use Rattle.cc_heaps.specs.Leaving.{NoneCame};
 ghost use Rattle.cc_host.specs.Calls.{Always, Does, TellsFreed};
-ghost use Rattle.cc_host.specs.Hosted.{IsRooted, IsThereIfAny, named, roots};
+ghost use Rattle.cc_host.specs.Hosted.{IsKept, IsRooted, IsThereIfAny, named, roots};
 ghost use Rattle.cc_host.specs.Stops.{IsStoppedBy, slots_at_root, stop_at};
-ghost use Rattle.cc_session.specs.Sessions.{Aside, Enters, register_for, serial_at, slot_for, table, tabled};
+ghost use Rattle.cc_session.specs.Sessions.{Aside, Comes, Enters, register_for, serial_at, slot_for, table, tabled};
 ghost use Rattle.cc_session.specs.Refusals.{IsRootRefused, stop_held, stop_released, stop_root};
 
 use crate::root::Root;
@@ -41,13 +43,11 @@ impl Session {
         let Some((r, i)) = place(index) else {
             return Err(Stop::Full);
         };
-        if self.host.native_root(r).is_none() {
-            self.make_table(r)?;
+        if self.host.native_root(r).is_some() {
+            return self.put(r, i, x);
         }
-        if self.host.store_at_root(r, i, Some(x), &mut self.told).is_err() {
-            return Err(Stop::Full);
-        }
-        Ok(())
+        self.make_table(r)?;
+        self.put(r, i, x)
     }
 
     // A table of roots, which a native register holds from then on.
@@ -56,11 +56,35 @@ impl Session {
         requires none { table self.old.host r ≡ None }
         ensures refused { (s : Stop) → result ≡ Err s → (s ≡ Stop.NoMemory) ⊎ (s ≡ Stop.Full) }
         ensures does { OnOk result (Does Always (tabled self.old.host r) self.old.host self.new.host) }
+        ensures came { OnOk result ((made : Name) × (table self.new.host r ≡ Some made) × Comes made self.old.host self.new.host) }
         ensures same { OnErr result (self.new.host ≡ self.old.host) }
         ensures tells { TellsFreed self.old.host self.new.host self.old.told self.new.told }
         ensures aside { Aside self.old self.new }
+        ensures kept { IsKept self.old.host × IsKept self.new.host }
     {
-        self.host.new_native(r, MOST_SLOTS, &mut self.told)?;
+        self.host.keeps();
+        let made = self.host.new_native(r, MOST_SLOTS, &mut self.told);
+        self.host.keeps();
+        made?;
+        Ok(())
+    }
+
+    // A slot of the table in a native register holds an object from then on.
+    fn put(&mut self, r: RegNo, i: SlotNo, x: Object) -> Result<(), Stop>
+        ensures refused { (s : Stop) → result ≡ Err s → s ≡ Stop.Full }
+        ensures does { OnOk result (Does (IsRooted self.old.host x) (λ g. graph.set_slot g (table self.old.host r) i (Some x.name)) self.old.host self.new.host) }
+        ensures same { OnErr result (self.new ≡ self.old) }
+        ensures none_came { NoneCame self.old.host.heaps.heap self.new.host.heaps.heap }
+        ensures registers { self.new.host.heaps.heap.native_registers ≡ self.old.host.heaps.heap.native_registers }
+        ensures tells { TellsFreed self.old.host self.new.host self.old.told self.new.told }
+        ensures aside { Aside self.old self.new }
+        ensures kept { IsKept self.new.host }
+    {
+        let stored = self.host.store_at_root(r, i, Some(x), &mut self.told);
+        self.host.keeps();
+        if stored.is_err() {
+            return Err(Stop::Full);
+        }
         Ok(())
     }
 
@@ -134,6 +158,7 @@ impl Session {
         ensures there { IfOk result (λ held. IsThereIfAny self.now.host held) }
     {
         self.find(root)?;
+        self.host.keeps();
         let Some((r, i)) = place(root.index) else {
             return Err(Stop::Gone);
         };

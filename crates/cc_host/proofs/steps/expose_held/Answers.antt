@@ -1,5 +1,6 @@
 use Rattle.std.proofs.Common.{◌≡◌, Some, sym, ◌∙◌, ap, subst}
 use Rattle.cc_counted.specs.declared.held.Held.TheVariants.{Script}
+use Rattle.cc_model.specs.Heap.{Heap}
 use Rattle.cc_heaps.specs.Changes.{IsBlackHeld}
 use Rattle.cc_host.proofs.Exposed.{exposed-names, exposed-step}
 use Rattle.cc_host.proofs.Exposing.{exposed-slots, exposed-stays, same-step}
@@ -30,3 +31,6 @@ returns-clause-step c = same-step c.args.heaps.now c.requires.ready
 
 pub returns-2-clause-step : goal.returns-2-clause-step
 returns-2-clause-step c = same-step c.args.heaps.now c.requires.ready
+
+pub returns-in-Some-Script-clause-registers : goal.returns-in-Some-Script-clause-registers
+returns-in-Some-Script-clause-registers c = ap (λ (h : Heap). h.native_registers) c.expose_key.ensures.exposes.rest

@@ -1,11 +1,13 @@
-use Rattle.std.proofs.Common.{[], sym, subst}
+use Rattle.std.proofs.Common.{[], sym, ◌∙◌, ap, subst}
 use Rattle.cc_lists.specs.Members.{Among}
 use Rattle.cc_names.specs.Names.{native}
 use Rattle.cc_model.proofs.Tellings.{Tells-nil}
+use Rattle.cc_heaps.specs.Changes.{held_name}
+use Rattle.cc_heaps.specs.Keyed.{Keyed, the_number}
 use Rattle.cc_heaps.proofs.FewCounts.{none-owned}
 use Rattle.cc_host.proofs.Composing.{tells-after}
-use Rattle.cc_host.proofs.Rooted.{rooted-step}
-use Rattle.cc_host.proofs.Storing.{live-same, within-same}
+use Rattle.cc_host.proofs.Rooted.{rooted-step, stored-registers}
+use Rattle.cc_host.proofs.Storing.{live-same, stored-none_came, within-same}
 use Rattle.cc_host.proofs.steps.store_rooted.Goals as goal
 
 pub store_native-requires : goal.store_native-requires
@@ -33,3 +35,15 @@ returns-clause-tells g c =
     let before = g.N.Notices.telling c.args.out.now in
     tells-after c.args.heaps.now.heap c.expose_held.new.heaps.heap c.store_native.new.self.heap before before (g.N.Notices.telling c.store_native.new.out)
     (Tells-nil before) (λ x m. subst (Among x) (sym names) m) (λ j m. subst (Among (native j)) names m) c.store_native.ensures.tells
+
+pub returns-clause-none_came : goal.returns-clause-none_came
+returns-clause-none_came g c =
+    let v = c.expose_held.new.heaps in
+    λ x m. subst (Among x) c.expose_held.ensures.names
+    (stored-none_came v c.store_native.new.self (the_number v c.args.key.0) c.args.i (held_name v c.args.content) c.store_native.ensures.heap x m)
+
+pub returns-clause-registers : goal.returns-clause-registers
+returns-clause-registers g c =
+    let v = c.expose_held.new.heaps in
+    ap (λ (u : Keyed). u.heap.native_registers) c.store_native.ensures.heap
+    ∙ (stored-registers v.heap (the_number v c.args.key.0) c.args.i (held_name v c.args.content) ∙ c.expose_held.ensures.registers)

@@ -3,6 +3,7 @@ use Rattle.cc_names.specs.declared.register.Reg.TheVariants.{N}
 use Rattle.cc_model.specs.Heap.{register}
 use Rattle.cc_heaps.specs.Keyed.{counts_of, number_at}
 use Rattle.cc_heaps.specs.Changes.{native_name}
+use Rattle.cc_heaps.specs.Leaving.{NoneCame}
 use Rattle.cc_host.specs.declared.stop.Stop.{Stop}
 use Rattle.cc_host.specs.declared.stop.Stop.TheVariants.{Index}
 use Rattle.cc_host.specs.Hosted.{Hosted, IsKept}
@@ -52,3 +53,7 @@ returns-clause-stops g c =
     let h = c.args.self.now in
     by-passed (stop_storing_at_root h c.args.r c.args.i c.args.y) tt
     (decided g s None (within (length (slots_at_root h c.args.r)) c.args.i Index (subst (λ n. c.args.i < n) (count g s) c.if-i-slots.false)))
+
+pub returns-clause-none_came : goal.returns-clause-none_came
+returns-clause-none_came g c =
+    subst (λ (k : Hosted). NoneCame k.heaps.heap c.store_rooted.new.heaps.heap) c.self.view_is c.store_rooted.ensures.none_came

@@ -2,7 +2,7 @@ use Rattle.std.proofs.Common.{◌≡◌, ◌+◌, None, Some, sym, ◌∙◌, ap
 use Rattle.cc_names.specs.Names.{native}
 use Rattle.cc_heaps.specs.Changes.{native_name}
 use Rattle.cc_host.specs.Hosted.{spare}
-use Rattle.cc_host.proofs.Making.{native-held, native-beside}
+use Rattle.cc_host.proofs.Making.{native-held, native-beside, native-came}
 use Rattle.cc_host.proofs.steps.making.make_native.Goals as goal
 
 pub unreachable-requires : goal.unreachable-requires
@@ -39,3 +39,9 @@ returns-clause-held g c =
     let h = c.args.heaps.now.heap in
     let e = c.in_ok-new_native.ensures in
     native-held h c.new_native.new.self.heap c.args.r c.args.slots (omega (arith, c.requires.within)) c.requires.slots (λ few. let full = e.full_always few in absurd (cc)) c.requires.ready.order.sound e.heap
+
+pub returns-clause-came : goal.returns-clause-came
+returns-clause-came g c =
+    let h = c.args.heaps.now.heap in
+    let e = c.in_ok-new_native.ensures in
+    native-came h c.new_native.new.self.heap c.args.r c.args.slots (omega (arith, c.requires.within)) c.requires.slots (λ few. let full = e.full_always few in absurd (cc)) c.requires.ready.order.sound e.heap

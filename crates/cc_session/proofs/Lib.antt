@@ -1,0 +1,5 @@
+pub mod Values
+pub mod Reaching
+pub mod Rows
+pub mod Stopping
+pub mod Tables
