@@ -1,0 +1,2 @@
+pub mod HandleWord
+pub mod Statuses

@@ -1,0 +1,4 @@
+pub mod Own
+pub mod Values
+pub mod Calls
+pub mod Telling

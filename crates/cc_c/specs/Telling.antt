@@ -1,0 +1,91 @@
+-- WHAT IS TOLD TO C: items, and steps by which an object is reached.
+use Rattle.std.specs.Prelude.{◌≡◌, ◌∷◌, ℕ, option_map}
+use Rattle.cc_names.specs.declared.name.Name.{Name}
+use Rattle.cc_names.specs.declared.name.Name.TheVariants as name
+use Rattle.cc_names.specs.declared.register.Reg.TheVariants.{N, S}
+use Rattle.cc_names.specs.Names.{number_of}
+use Rattle.cc_model.specs.declared.item.Item.{Item}
+use Rattle.cc_model.specs.declared.item.Item.TheVariants.{Event, Listed, Step, Reply}
+use Rattle.cc_model.specs.declared.item.Event.TheVariants.{Unlinked, Freed, Abandoned}
+use Rattle.cc_model.specs.declared.item.Reason.{Reason}
+use Rattle.cc_model.specs.declared.item.Reason.TheVariants.{Root, Edge, Pair}
+use Rattle.cc_session.specs.Sessions.{State, Books, data_at}
+use Rattle.cc_c.specs.declared.values.CTold.{CTold}
+use Rattle.cc_c.specs.declared.values.CStep.{CStep}
+
+-- the kind of an object, by its name
+abbrev pub kind_of : Name → ℕ
+kind_of (name.Native k) = 1
+kind_of (name.Script k) = 2
+kind_of (name.Reflector k) = 3
+
+-- the program's number for a native, 0 of all else
+abbrev pub data_in : Books → Name → ℕ
+data_in b (name.Native k) = data_at b k.0
+data_in b (name.Script k) = 0
+data_in b (name.Reflector k) = 0
+
+-- what was told of an object
+abbrev pub told_of : Books → ℕ → Name → CTold
+told_of b what x = record { value = data_in b x; what = what; kind = kind_of x; number = number_of x }
+
+-- and of none
+abbrev pub told_alone : ℕ → CTold
+told_alone what = record { value = 0; what = what; kind = 0; number = 0 }
+
+-- AN ITEM AS C GETS IT
+abbrev pub shown : Books → Item → CTold
+shown b (Event (Unlinked x)) = told_of b 1 x
+shown b (Event (Freed x)) = told_of b 2 x
+shown b (Event Abandoned) = told_alone 3
+shown b (Listed x) = told_alone 0
+shown b (Step x why) = told_alone 0
+shown b (Reply r) = told_alone 0
+
+-- a step to an object, by a number for its reason and by two objects or a root
+abbrev pub step_by : Name → ℕ → ℕ → ℕ → CStep
+step_by x why by_kind by_number = record {
+  kind = kind_of x;
+  number = number_of x;
+  why = why;
+  by_kind = by_kind;
+  by_number = by_number;
+  key_kind = 0;
+  key_number = 0;
+}
+
+abbrev pub step_for : Name → Reason → CStep
+step_for x (Root (N r)) = step_by x 1 1 r
+step_for x (Root (S r)) = step_by x 1 2 r
+step_for x (Edge y) = step_by x 2 (kind_of y) (number_of y)
+step_for x (Pair m k) = record {
+  kind = kind_of x;
+  number = number_of x;
+  why = 3;
+  by_kind = kind_of m;
+  by_number = number_of m;
+  key_kind = kind_of k;
+  key_number = number_of k;
+}
+
+abbrev pub no_step : CStep
+no_step = record { kind = 0; number = 0; why = 0; by_kind = 0; by_number = 0; key_kind = 0; key_number = 0 }
+
+-- A STEP AS C GETS IT
+abbrev pub shown_step : Item → CStep
+shown_step (Event e) = no_step
+shown_step (Listed x) = no_step
+shown_step (Step x why) = step_for x why
+shown_step (Reply r) = no_step
+
+-- THE FIRST ITEM THAT WAITS IS FETCHED, and nothing else changes
+pub record FetchesTold (s t : State) (x : CTold) : Type 0 where
+  pub item : Item
+  pub as_shown : x ≡ shown t.books item
+  pub fetched : s ≡ record t { told = record t.told { items = option_map (λ later. item ∷ later) t.told.items } }
+
+-- and the first step
+pub record FetchesStep (s t : State) (x : CStep) : Type 0 where
+  pub item : Item
+  pub as_shown : x ≡ shown_step item
+  pub fetched : s ≡ record t { steps = record t.steps { items = option_map (λ later. item ∷ later) t.steps.items } }

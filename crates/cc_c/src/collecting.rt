@@ -1,0 +1,125 @@
+//! Collections, whole and in slices.
+ghost use Rattle.std.specs.Prelude.{◌≡◌, ◌≢◌, ◌⊎◌, ℕ, None, is_some};
+ghost use Rattle.cc_model.specs.End.{at_end, refused};
+ghost use Rattle.cc_collector.specs.Collected.{IsCollected, IsSliced, IsSwept};
+ghost use Rattle.cc_collector.specs.Settled.{HasWhatIsReached};
+ghost use Rattle.cc_host.specs.Calls.{Collects};
+ghost use Rattle.cc_host.specs.Hosted.{machine};
+ghost use Rattle.cc_session.specs.Sessions.{Aside};
+ghost use Rattle.cc_c.specs.Calls.{Open, Reads, Stays};
+ghost use Rattle.cc_c.specs.Values.{flag, progress_in};
+
+use crate::collector::Collector;
+use crate::status::{CLOSED, NO_MEMORY, OK};
+use crate::values::flag;
+use cc_collector::Ended;
+use std::alloc::Global;
+
+/// A few units of the running collection, or of one that begins here where none runs. `over` is 1 where it came to its end.
+#[unsafe(no_mangle)]
+pub extern "C" fn cc_slice(alloc: Global, c: &mut Collector, units: u32, over: &mut u32) -> u32
+    ensures stays { Stays c.old.handle.session c.new.handle.session result }
+    ensures status { Reads c.old.handle.session (λ s. (result ≡ 0) ⊎ (result ≡ 8)) }
+    ensures flag { result ≡ 0 → (over.new ≡ 0) ⊎ (over.new ≡ 1) }
+    ensures collects { Open c.old.handle.session c.new.handle.session (λ s t. Collects s.host t.host s.told t.told) }
+    ensures sliced { Open c.old.handle.session c.new.handle.session (λ s t. (steps : ℕ) × IsSliced units (machine s.host) (machine t.host) (progress_in result over.new) 0 steps s.told t.told) }
+    ensures ended { (result ≢ 0) ⊎ (over.new ≡ 1) → Open c.old.handle.session c.new.handle.session (λ s t. t.host.running ≡ None) }
+    ensures left { result ≢ 0 → over.new ≡ over.old }
+    ensures aside { Open c.old.handle.session c.new.handle.session Aside }
+{
+    let Some(mut session) = c.take(alloc) else {
+        return CLOSED;
+    };
+    let answer = session.slice(units);
+    *c = Collector::of(session);
+    match answer {
+        Ok(Ended::Yes) => {
+            *over = 1;
+            OK
+        }
+        Ok(Ended::No) => {
+            *over = 0;
+            OK
+        }
+        Err(_) => NO_MEMORY,
+    }
+}
+
+/// A whole collection; one that runs is ended first.
+#[unsafe(no_mangle)]
+pub extern "C" fn cc_collect(alloc: Global, c: &mut Collector) -> u32
+    ensures stays { Stays c.old.handle.session c.new.handle.session result }
+    ensures status { Reads c.old.handle.session (λ s. (result ≡ 0) ⊎ (result ≡ 8)) }
+    ensures collects { Open c.old.handle.session c.new.handle.session (λ s t. Collects s.host t.host s.told t.told) }
+    ensures done { result ≡ 0 → Open c.old.handle.session c.new.handle.session (λ s t. IsCollected (machine s.host) (machine t.host) at_end s.told t.told) }
+    ensures refused { result ≢ 0 → Open c.old.handle.session c.new.handle.session (λ s t. IsCollected (machine s.host) (machine t.host) refused s.told t.told) }
+    ensures over { Open c.old.handle.session c.new.handle.session (λ s t. t.host.running ≡ None) }
+    ensures aside { Open c.old.handle.session c.new.handle.session Aside }
+{
+    let Some(mut session) = c.take(alloc) else {
+        return CLOSED;
+    };
+    let answer = session.collect();
+    *c = Collector::of(session);
+    match answer {
+        Ok(()) => OK,
+        Err(_) => NO_MEMORY,
+    }
+}
+
+/// A script collection, before which a collection that runs is ended.
+#[unsafe(no_mangle)]
+pub extern "C" fn cc_gc(alloc: Global, c: &mut Collector) -> u32
+    ensures stays { Stays c.old.handle.session c.new.handle.session result }
+    ensures ok { Reads c.old.handle.session (λ s. result ≡ 0) }
+    ensures collects { Open c.old.handle.session c.new.handle.session (λ s t. Collects s.host t.host s.told t.told) }
+    ensures swept { Open c.old.handle.session c.new.handle.session (λ s t. IsSwept (machine s.host) (machine t.host) s.told t.told) }
+    ensures over { Open c.old.handle.session c.new.handle.session (λ s t. t.host.running ≡ None) }
+    ensures aside { Open c.old.handle.session c.new.handle.session Aside }
+{
+    let Some(mut session) = c.take(alloc) else {
+        return CLOSED;
+    };
+    session.gc();
+    *c = Collector::of(session);
+    OK
+}
+
+/// Leaves exactly what the roots reach.
+#[unsafe(no_mangle)]
+pub extern "C" fn cc_settle(alloc: Global, c: &mut Collector) -> u32
+    ensures stays { Stays c.old.handle.session c.new.handle.session result }
+    ensures status { Reads c.old.handle.session (λ s. (result ≡ 0) ⊎ (result ≡ 8)) }
+    ensures exact { result ≡ 0 → Open c.old.handle.session c.new.handle.session (λ s t. HasWhatIsReached t.host.heaps.heap) }
+    ensures collects { Open c.old.handle.session c.new.handle.session (λ s t. Collects s.host t.host s.told t.told) }
+    ensures over { Open c.old.handle.session c.new.handle.session (λ s t. t.host.running ≡ None) }
+    ensures aside { Open c.old.handle.session c.new.handle.session Aside }
+{
+    let Some(mut session) = c.take(alloc) else {
+        return CLOSED;
+    };
+    let answer = session.settle();
+    *c = Collector::of(session);
+    match answer {
+        Ok(()) => OK,
+        Err(_) => NO_MEMORY,
+    }
+}
+
+/// Whether a collection runs.
+#[unsafe(no_mangle)]
+pub extern "C" fn cc_running(alloc: Global, c: &mut Collector, running: &mut u32) -> u32
+    ensures closed { c.old.handle.session ≡ None → result ≡ 1 }
+    ensures ok { Reads c.old.handle.session (λ s. result ≡ 0) }
+    ensures runs { result ≡ 0 → Reads c.old.handle.session (λ s. running.new ≡ flag (is_some s.host.running)) }
+    ensures left { result ≢ 0 → running.new ≡ running.old }
+    ensures same { c.new.handle.session ≡ c.old.handle.session }
+{
+    let Some(session) = c.take(alloc) else {
+        return CLOSED;
+    };
+    let answer = session.running();
+    *c = Collector::of(session);
+    *running = flag(answer);
+    OK
+}

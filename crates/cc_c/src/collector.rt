@@ -1,0 +1,65 @@
+//! What C holds of a collector.
+ghost use Rattle.std.specs.Prelude.{◌≡◌, ◌↔◌, None, Some, IsSome, IsTrue, option_map};
+
+use crate::handle::Handle;
+use cc_session::Session;
+use cc_session::loose::Loose;
+use std::alloc::Global;
+use std::mem;
+
+/// What C holds of a collector. All bytes zero: it is closed.
+#[repr(C)]
+#[derive(Drop)]
+pub struct Collector {
+    state: u64,
+    pub handle: Handle,
+    ghost tied: { (state ≡ 1) ↔ IsSome handle.session },
+}
+
+impl Collector {
+    /// A closed one.
+    pub fn closed() -> Collector
+        ensures { result.handle.session ≡ None }
+    {
+        Collector {
+            state: 0,
+            handle: Handle::closed(),
+        }
+    }
+
+    /// One that is open, with this session.
+    pub fn of(session: Box<Session, Global>) -> Collector
+        ensures { result.handle.session ≡ Some session.value }
+    {
+        Collector {
+            state: 1,
+            handle: Handle::of(Loose::of(session)),
+        }
+    }
+
+    /// Whether it is open.
+    pub fn is_open(&self) -> bool
+        ensures { IsTrue result ↔ IsSome self.now.handle.session }
+    {
+        self.state == 1
+    }
+
+    // The session of an open one.
+    fn into_box(self, alloc: Global) -> Option<Box<Session, Global>>
+        ensures { option_map (λ b. b.value) result ≡ self.handle.session }
+    {
+        let Collector { state, handle } = self;
+        if state != 1 {
+            return None;
+        }
+        Some(handle.into_loose(alloc).into_box())
+    }
+
+    /// The session of an open one, which is closed then.
+    pub fn take(&mut self, alloc: Global) -> Option<Box<Session, Global>>
+        ensures taken { option_map (λ b. b.value) result ≡ self.old.handle.session }
+        ensures closed { self.new.handle.session ≡ None }
+    {
+        mem::replace(self, Collector::closed()).into_box(alloc)
+    }
+}

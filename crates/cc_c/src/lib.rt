@@ -1,0 +1,23 @@
+//! The library for programs in C and C++, as `include/ccollect.h` has it: a static library over a session.
+//!
+//! No export has a `requires`: each takes any object, root and number at all. A call takes the session out of the collector,
+//! does what it does, and puts it back. The contracts are the session's (`cc_session`), said of an open collector (`Open`), with
+//! C's structs read as what they stand for (`to_object`, `to_content`, `to_root`), and a status for each cause (`IsStatus`).
+#![tactic(auto)]
+
+mod collecting;
+mod collector;
+mod entries;
+mod handle;
+mod making;
+mod opening;
+mod questions;
+mod reflectors;
+mod roots;
+mod showing;
+mod slots;
+mod status;
+#[cfg(test)]
+mod tests;
+mod told;
+mod values;

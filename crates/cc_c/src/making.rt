@@ -1,0 +1,151 @@
+//! Objects made. Each stands in a numbered root from then on.
+ghost use Rattle.std.specs.Prelude.{◌≡◌, ◌≢◌, ◌+◌, Some};
+ghost use Rattle.cc_names.specs.Names.{native, object};
+ghost use Rattle.cc_names.specs.declared.register.Reg.TheVariants.{N as n_register, S as s_register};
+ghost use Rattle.cc_model.specs.declared.command.Command.TheVariants as command;
+ghost use Rattle.cc_model.specs.Graph as graph;
+ghost use Rattle.cc_model.specs.Heap.{register};
+ghost use Rattle.cc_host.specs.Calls.{Always, Does, TellsFreed};
+ghost use Rattle.cc_host.specs.Hosted.{IsRooted, IsThere};
+ghost use Rattle.cc_host.specs.Stops.{are_natives_made, are_scripts_made};
+ghost use Rattle.cc_session.specs.Sessions.{Aside, Quiet};
+ghost use Rattle.cc_session.specs.Refusals.{stop_native_made, stop_proxy_made, stop_script_made};
+ghost use Rattle.cc_c.specs.Calls.{Open, Stays};
+ghost use Rattle.cc_c.specs.Values.{IsStatusOrWants, to_object};
+
+use crate::collector::Collector;
+use crate::status::{CLOSED, OK, of_stop};
+use crate::values::{CObject, object, show};
+use cc_names::{RegNo, SlotNo};
+use std::alloc::Global;
+
+/// Makes a native with `slots` empty slots, which numbered native root `r` holds from then on.
+#[unsafe(no_mangle)]
+#[tactic(auto, using(crate::proofs::Statuses::by_stop_or_want))]
+pub extern "C" fn cc_new_native(
+    alloc: Global,
+    c: &mut Collector,
+    r: RegNo,
+    slots: SlotNo,
+    made: &mut CObject,
+) -> u32
+    ensures stays { Stays c.old.handle.session c.new.handle.session result }
+    ensures stops { Open c.old.handle.session c.new.handle.session (λ s t. IsStatusOrWants (stop_native_made r slots (are_natives_made s.host)) result) }
+    ensures does { result ≡ 0 → Open c.old.handle.session c.new.handle.session (λ s t. Does Always (λ g. graph.step g (command.Native r slots)) s.host t.host) }
+    ensures there { result ≡ 0 → Open c.old.handle.session c.new.handle.session (λ s t. IsThere t.host (to_object made.new)) }
+    ensures name { result ≡ 0 → Open c.old.handle.session c.new.handle.session (λ s t. (to_object made.new).name ≡ native (s.host.heaps.heap.natives_made + 1)) }
+    ensures held { result ≡ 0 → Open c.old.handle.session c.new.handle.session (λ s t. register t.host.heaps.heap (n_register r) ≡ Some (to_object made.new).name) }
+    ensures left { result ≢ 0 → made.new ≡ made.old }
+    ensures same { result ≢ 0 → c.new.handle.session ≡ c.old.handle.session }
+    ensures tells { Open c.old.handle.session c.new.handle.session (λ s t. TellsFreed s.host t.host s.told t.told) }
+    ensures aside { Open c.old.handle.session c.new.handle.session Aside }
+{
+    let Some(mut session) = c.take(alloc) else {
+        return CLOSED;
+    };
+    let answer = session.new_native(r, slots);
+    *c = Collector::of(session);
+    match answer {
+        Ok(x) => {
+            *made = show(x);
+            OK
+        }
+        Err(stop) => of_stop(stop),
+    }
+}
+
+/// Makes a plain script object with `slots` empty slots, which numbered script root `r` holds from then on.
+#[unsafe(no_mangle)]
+#[tactic(auto, using(crate::proofs::Statuses::by_stop_or_want))]
+pub extern "C" fn cc_new_plain(
+    alloc: Global,
+    c: &mut Collector,
+    r: RegNo,
+    slots: SlotNo,
+    made: &mut CObject,
+) -> u32
+    ensures stays { Stays c.old.handle.session c.new.handle.session result }
+    ensures stops { Open c.old.handle.session c.new.handle.session (λ s t. IsStatusOrWants (stop_script_made r slots (are_scripts_made s.host)) result) }
+    ensures does { result ≡ 0 → Open c.old.handle.session c.new.handle.session (λ s t. Does Always (λ g. graph.step g (command.Script r slots)) s.host t.host) }
+    ensures there { result ≡ 0 → Open c.old.handle.session c.new.handle.session (λ s t. IsThere t.host (to_object made.new)) }
+    ensures name { result ≡ 0 → Open c.old.handle.session c.new.handle.session (λ s t. (to_object made.new).name ≡ object (s.host.heaps.heap.scripts_made + 1)) }
+    ensures held { result ≡ 0 → Open c.old.handle.session c.new.handle.session (λ s t. register t.host.heaps.heap (s_register r) ≡ Some (to_object made.new).name) }
+    ensures left { result ≢ 0 → made.new ≡ made.old }
+    ensures same { result ≢ 0 → c.new.handle.session ≡ c.old.handle.session }
+    ensures quiet { Open c.old.handle.session c.new.handle.session Quiet }
+{
+    let Some(mut session) = c.take(alloc) else {
+        return CLOSED;
+    };
+    let answer = session.new_plain(r, slots);
+    *c = Collector::of(session);
+    match answer {
+        Ok(x) => {
+            *made = show(x);
+            OK
+        }
+        Err(stop) => of_stop(stop),
+    }
+}
+
+/// Makes a weak map without entries, which numbered script root `r` holds from then on.
+#[unsafe(no_mangle)]
+#[tactic(auto, using(crate::proofs::Statuses::by_stop_or_want))]
+pub extern "C" fn cc_new_map(alloc: Global, c: &mut Collector, r: RegNo, made: &mut CObject) -> u32
+    ensures stays { Stays c.old.handle.session c.new.handle.session result }
+    ensures stops { Open c.old.handle.session c.new.handle.session (λ s t. IsStatusOrWants (stop_script_made r 0 (are_scripts_made s.host)) result) }
+    ensures does { result ≡ 0 → Open c.old.handle.session c.new.handle.session (λ s t. Does Always (λ g. graph.step g (command.WeakMap r)) s.host t.host) }
+    ensures there { result ≡ 0 → Open c.old.handle.session c.new.handle.session (λ s t. IsThere t.host (to_object made.new)) }
+    ensures name { result ≡ 0 → Open c.old.handle.session c.new.handle.session (λ s t. (to_object made.new).name ≡ object (s.host.heaps.heap.scripts_made + 1)) }
+    ensures held { result ≡ 0 → Open c.old.handle.session c.new.handle.session (λ s t. register t.host.heaps.heap (s_register r) ≡ Some (to_object made.new).name) }
+    ensures left { result ≢ 0 → made.new ≡ made.old }
+    ensures same { result ≢ 0 → c.new.handle.session ≡ c.old.handle.session }
+    ensures quiet { Open c.old.handle.session c.new.handle.session Quiet }
+{
+    let Some(mut session) = c.take(alloc) else {
+        return CLOSED;
+    };
+    let answer = session.new_map(r);
+    *c = Collector::of(session);
+    match answer {
+        Ok(x) => {
+            *made = show(x);
+            OK
+        }
+        Err(stop) => of_stop(stop),
+    }
+}
+
+/// Makes a proxy of a script object, which numbered script root `r` holds from then on.
+#[unsafe(no_mangle)]
+#[tactic(auto, using(crate::proofs::Statuses::by_stop_or_want))]
+pub extern "C" fn cc_new_proxy(
+    alloc: Global,
+    c: &mut Collector,
+    r: RegNo,
+    delegate: &CObject,
+    made: &mut CObject,
+) -> u32
+    ensures stays { Stays c.old.handle.session c.new.handle.session result }
+    ensures stops { Open c.old.handle.session c.new.handle.session (λ s t. IsStatusOrWants (stop_proxy_made s.host (to_object delegate.now) r) result) }
+    ensures does { result ≡ 0 → Open c.old.handle.session c.new.handle.session (λ s t. Does (IsRooted s.host (to_object delegate.now)) (λ g. graph.with_proxy g r (Some (to_object delegate.now).name)) s.host t.host) }
+    ensures there { result ≡ 0 → Open c.old.handle.session c.new.handle.session (λ s t. IsThere t.host (to_object made.new)) }
+    ensures name { result ≡ 0 → Open c.old.handle.session c.new.handle.session (λ s t. (to_object made.new).name ≡ object (s.host.heaps.heap.scripts_made + 1)) }
+    ensures held { result ≡ 0 → Open c.old.handle.session c.new.handle.session (λ s t. register t.host.heaps.heap (s_register r) ≡ Some (to_object made.new).name) }
+    ensures left { result ≢ 0 → made.new ≡ made.old }
+    ensures tried { result ≢ 0 → Open c.old.handle.session c.new.handle.session (λ s t. Does Always (λ g. g) s.host t.host) }
+    ensures quiet { Open c.old.handle.session c.new.handle.session Quiet }
+{
+    let Some(mut session) = c.take(alloc) else {
+        return CLOSED;
+    };
+    let answer = session.new_proxy(r, object(delegate));
+    *c = Collector::of(session);
+    match answer {
+        Ok(x) => {
+            *made = show(x);
+            OK
+        }
+        Err(stop) => of_stop(stop),
+    }
+}

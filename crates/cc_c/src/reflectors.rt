@@ -1,0 +1,124 @@
+//! Reflectors: what stands for a native in script.
+ghost use Rattle.std.specs.Prelude.{◌≡◌, ◌≢◌, None, Some, option_map};
+ghost use Rattle.cc_model.specs.Checks.{native_of, reflector_of};
+ghost use Rattle.cc_model.specs.Graph as graph;
+ghost use Rattle.cc_script.specs.Objects.{kind_at};
+ghost use Rattle.cc_host.specs.Calls.{Always, Does, TellsFreed};
+ghost use Rattle.cc_host.specs.Hosted.{IsRooted, IsThere, IsThereIfAny, named};
+ghost use Rattle.cc_host.specs.Stops.{stop_native, stop_reflector, stop_script};
+ghost use Rattle.cc_session.specs.Sessions.{Aside, Quiet};
+ghost use Rattle.cc_c.specs.Calls.{Open, Reads, Stays};
+ghost use Rattle.cc_c.specs.Values.{IsStatus, IsStatusOrWants, number_of_kind, to_content, to_object};
+
+use crate::collector::Collector;
+use crate::status::{CLOSED, OK, of_stop};
+use crate::values::{CObject, kind_number, object, show, show_any};
+use std::alloc::Global;
+
+/// The reflector of a native, for script. By itself it is held by nothing.
+#[unsafe(no_mangle)]
+#[tactic(auto, using(crate::proofs::Statuses::by_stop_or_want))]
+pub extern "C" fn cc_wrap(
+    alloc: Global,
+    c: &mut Collector,
+    x: &CObject,
+    reflector: &mut CObject,
+) -> u32
+    ensures stays { Stays c.old.handle.session c.new.handle.session result }
+    ensures stops { Open c.old.handle.session c.new.handle.session (λ s t. IsStatusOrWants (stop_native s.host (to_object x.now)) result) }
+    ensures does { result ≡ 0 → Open c.old.handle.session c.new.handle.session (λ s t. Does (IsRooted s.host (to_object x.now)) (λ g. graph.wrapped g (Some (to_object x.now).name)) s.host t.host) }
+    ensures there { result ≡ 0 → Open c.old.handle.session c.new.handle.session (λ s t. IsThere t.host (to_object reflector.new)) }
+    ensures name { result ≡ 0 → Open c.old.handle.session c.new.handle.session (λ s t. Some (to_object reflector.new).name ≡ reflector_of (Some (to_object x.now).name)) }
+    ensures tried { result ≢ 0 → Open c.old.handle.session c.new.handle.session (λ s t. Does Always (λ g. g) s.host t.host) }
+    ensures left { result ≢ 0 → reflector.new ≡ reflector.old }
+    ensures tells { Open c.old.handle.session c.new.handle.session (λ s t. TellsFreed s.host t.host s.told t.told) }
+    ensures aside { Open c.old.handle.session c.new.handle.session Aside }
+{
+    let Some(mut session) = c.take(alloc) else {
+        return CLOSED;
+    };
+    let answer = session.wrap(object(x));
+    *c = Collector::of(session);
+    match answer {
+        Ok(x) => {
+            *reflector = show(x);
+            OK
+        }
+        Err(stop) => of_stop(stop),
+    }
+}
+
+/// The native that a reflector stands for; nothing of any other script object.
+#[unsafe(no_mangle)]
+#[tactic(auto, using(crate::proofs::Statuses::by_stop))]
+pub extern "C" fn cc_unwrap(
+    alloc: Global,
+    c: &mut Collector,
+    x: &CObject,
+    native: &mut CObject,
+) -> u32
+    ensures closed { c.old.handle.session ≡ None → result ≡ 1 }
+    ensures stops { Reads c.old.handle.session (λ s. IsStatus (stop_script s.host (to_object x.now)) result) }
+    ensures name { result ≡ 0 → Reads c.old.handle.session (λ s. named (to_content native.new) ≡ native_of (Some (to_object x.now).name)) }
+    ensures there { result ≡ 0 → Reads c.old.handle.session (λ s. IsThereIfAny s.host (to_content native.new)) }
+    ensures left { result ≢ 0 → native.new ≡ native.old }
+    ensures same { c.new.handle.session ≡ c.old.handle.session }
+{
+    let Some(session) = c.take(alloc) else {
+        return CLOSED;
+    };
+    let answer = session.unwrap(object(x));
+    *c = Collector::of(session);
+    match answer {
+        Ok(x) => {
+            *native = show_any(x);
+            OK
+        }
+        Err(stop) => of_stop(stop),
+    }
+}
+
+/// A reflector is preserved from then on: its native holds it.
+#[unsafe(no_mangle)]
+#[tactic(auto, using(crate::proofs::Statuses::by_stop))]
+pub extern "C" fn cc_preserve(alloc: Global, c: &mut Collector, x: &CObject) -> u32
+    ensures stays { Stays c.old.handle.session c.new.handle.session result }
+    ensures stops { Open c.old.handle.session c.new.handle.session (λ s t. IsStatus (stop_reflector s.host (to_object x.now)) result) }
+    ensures does { result ≡ 0 → Open c.old.handle.session c.new.handle.session (λ s t. Does (IsRooted s.host (to_object x.now)) (λ g. graph.preserve g (Some (to_object x.now).name)) s.host t.host) }
+    ensures same { result ≢ 0 → c.new.handle.session ≡ c.old.handle.session }
+    ensures quiet { Open c.old.handle.session c.new.handle.session Quiet }
+{
+    let Some(mut session) = c.take(alloc) else {
+        return CLOSED;
+    };
+    let answer = session.preserve(object(x));
+    *c = Collector::of(session);
+    match answer {
+        Ok(()) => OK,
+        Err(stop) => of_stop(stop),
+    }
+}
+
+/// What kind of script object an object is: plain (1), a weak map (2), a reflector (3) or a proxy (4).
+#[unsafe(no_mangle)]
+#[tactic(auto, using(crate::proofs::Statuses::by_stop))]
+pub extern "C" fn cc_kind(alloc: Global, c: &mut Collector, x: &CObject, kind: &mut u32) -> u32
+    ensures closed { c.old.handle.session ≡ None → result ≡ 1 }
+    ensures stops { Reads c.old.handle.session (λ s. IsStatus (stop_script s.host (to_object x.now)) result) }
+    ensures kind { result ≡ 0 → Reads c.old.handle.session (λ s. option_map number_of_kind (kind_at s.host.heaps.scripts x.now.key) ≡ Some kind.new) }
+    ensures left { result ≢ 0 → kind.new ≡ kind.old }
+    ensures same { c.new.handle.session ≡ c.old.handle.session }
+{
+    let Some(session) = c.take(alloc) else {
+        return CLOSED;
+    };
+    let answer = session.kind(object(x));
+    *c = Collector::of(session);
+    match answer {
+        Ok(x) => {
+            *kind = kind_number(x);
+            OK
+        }
+        Err(stop) => of_stop(stop),
+    }
+}
