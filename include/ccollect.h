@@ -136,7 +136,7 @@ uint32_t cc_natives(cc_collector *, uint64_t *natives);
 uint32_t cc_scripts(cc_collector *, uint64_t *scripts);
 uint32_t cc_has_suspects(cc_collector *, uint32_t *some);
 /* *led is 1 where roots lead to it: then cc_next_step hands out the steps, the object itself last, and CC_NONE behind them. Steps
- * of an earlier answer that were not fetched come before. */
+ * of an earlier answer that were not fetched are gone then, also where it is refused. */
 uint32_t cc_why(cc_collector *, const cc_object *, uint32_t *led);
 uint32_t cc_next_step(cc_collector *, cc_step *);
 uint32_t cc_data(cc_collector *, const cc_object *native, uint64_t *data);

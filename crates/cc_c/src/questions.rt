@@ -1,9 +1,8 @@
 //! Questions of objects, and the program's numbers.
-ghost use Rattle.std.specs.Prelude.{◌≡◌, ◌≢◌, ◌⊎◌, ℕ, [], length, map, None};
+ghost use Rattle.std.specs.Prelude.{◌≡◌, ◌≢◌, ◌⊎◌, ℕ, [], length, map, Some, None};
 ghost use Rattle.cc_names.specs.Names.{number_of};
 ghost use Rattle.cc_model.specs.Answers.{item_of_step};
 ghost use Rattle.cc_model.specs.Derivations.{is_led_to, leads_in, path_to};
-ghost use Rattle.cc_model.specs.Telling.{Tells};
 ghost use Rattle.cc_host.specs.Stops.{stop_at, stop_native};
 ghost use Rattle.cc_session.specs.Sessions.{data_at};
 ghost use Rattle.cc_c.specs.Calls.{Open, Reads, Stays};
@@ -90,17 +89,17 @@ pub extern "C" fn cc_has_suspects(alloc: Global, c: &mut Collector, some: &mut u
     OK
 }
 
-/// Why an object is there: the steps by which the roots lead to it are fetched by `cc_next_step` from then on. `led` is 0, and there is
-/// no step, exactly where nothing leads to it.
+/// Why an object is there: the steps by which the roots lead to it are fetched by `cc_next_step` from then on, and those of an earlier
+/// answer are gone. `led` is 0, and there is no step, exactly where nothing leads to it.
 #[unsafe(no_mangle)]
 #[tactic(auto, using(crate::proofs::Statuses::by_stop_or_refusal))]
 pub extern "C" fn cc_why(alloc: Global, c: &mut Collector, x: &CObject, led: &mut u32) -> u32
     ensures stays { Stays c.old.handle.session c.new.handle.session result }
     ensures stops { Open c.old.handle.session c.new.handle.session (λ s t. IsStatusOrRefused (stop_at s.host (to_object x.now)) result) }
     ensures led { result ≡ 0 → Open c.old.handle.session c.new.handle.session (λ s t. led.new ≡ flag (is_led_to (leads_in s.host.heaps.heap) (to_object x.now).name)) }
-    ensures told { result ≡ 0 → Open c.old.handle.session c.new.handle.session (λ s t. Tells s.steps t.steps (map item_of_step (path_to (leads_in s.host.heaps.heap) (to_object x.now).name))) }
+    ensures told { result ≡ 0 → Open c.old.handle.session c.new.handle.session (λ s t. t.steps.items ≡ Some (map item_of_step (path_to (leads_in s.host.heaps.heap) (to_object x.now).name))) }
+    ensures none { result ≢ 0 → Reads c.new.handle.session (λ t. t.steps.items ≡ Some []) }
     ensures left { result ≢ 0 → led.new ≡ led.old }
-    ensures same { result ≢ 0 → c.new.handle.session ≡ c.old.handle.session }
     ensures rest { Open c.old.handle.session c.new.handle.session (λ s t. t ≡ record s { steps = t.steps }) }
 {
     let Some(mut session) = c.take(alloc) else {

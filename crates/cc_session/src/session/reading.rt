@@ -5,14 +5,13 @@ ghost use Rattle.cc_model.specs.Answers.{item_of_step};
 ghost use Rattle.cc_model.specs.Checks.{native_of, value_at};
 ghost use Rattle.cc_model.specs.Derivations.{is_led_to, leads_in, path_to};
 ghost use Rattle.cc_model.specs.Heap.{objects_of, register};
-ghost use Rattle.cc_model.specs.Telling.{Tells};
 ghost use Rattle.cc_script.specs.Objects.{kind_at};
 ghost use Rattle.cc_host.specs.Hosted.{IsThereIfAny, named, slots_of};
 ghost use Rattle.cc_host.specs.Stops.{IsStoppedBy, IsStoppedOrRefused, stop_at, stop_entry, stop_reading, stop_script};
 ghost use Rattle.cc_session.specs.Sessions.{numbered};
 
 use crate::session::{NUMBERED_ROOTS, Session};
-use cc_host::{Object, Stop};
+use cc_host::{Object, Queue, Stop};
 use cc_names::{Kind, RegNo, SlotNo};
 
 impl Session {
@@ -106,16 +105,23 @@ impl Session {
     }
 
     /// Why an object is there: the steps by which the roots lead to it, each once and itself last, are fetched by `next_step`
-    /// from then on, behind those that were not fetched. `false`, and no step, exactly where nothing leads to it.
+    /// from then on. `false`, and no step, exactly where nothing leads to it.
     ///
-    /// Nothing else changes. `NoMemory` tells no step.
+    /// Nothing else changes. Steps of an earlier answer that were not fetched are gone, also where this call is refused; then
+    /// there are none. `NoMemory` also where there is none for a step.
     pub fn why(&mut self, x: Object) -> Result<bool, Stop>
         ensures stops { IsStoppedOrRefused (stop_at self.old.host x) result }
         ensures led { IfOk result (λ b. b ≡ is_led_to (leads_in self.old.host.heaps.heap) x.name) }
-        ensures told { OnOk result (Tells self.old.steps self.new.steps (map item_of_step (path_to (leads_in self.old.host.heaps.heap) x.name))) }
-        ensures err { OnErr result (self.new ≡ self.old) }
+        ensures steps { OnOk result (self.new.steps.items ≡ Some (map item_of_step (path_to (leads_in self.old.host.heaps.heap) x.name))) }
+        ensures none { OnErr result (self.new.steps.items ≡ Some []) }
         ensures rest { self.new ≡ record self.old { steps = self.new.steps } }
     {
-        self.host.why(self.alloc, x, &mut self.steps)
+        self.steps = Queue::new(self.alloc);
+        let led = self.host.why(self.alloc, x, &mut self.steps)?;
+        if self.steps.is_broken() {
+            self.steps = Queue::new(self.alloc);
+            return Err(Stop::NoMemory);
+        }
+        Ok(led)
     }
 }
