@@ -113,14 +113,14 @@ module _ (m : Machine) (s : State) (ds : List Name) (r : IsRunning m s) (d : IsD
   gc-gone_at_once unrefused x i = grind (arith, to_the_end-stops, finish-spends, collected-gone)
 
 -- a command of the mutator leaves the collection such
-mutate-follows : (m : Machine) (c : Command) (ds : List Name) → IsSound [] m.heap → KeepsReflectors ds → IsDoomedNow m ds → IsDoomedNow (mutate m c).machine ds
+pub mutate-follows : (m : Machine) (c : Command) (ds : List Name) → IsSound [] m.heap → KeepsReflectors ds → IsDoomedNow m ds → IsDoomedNow (mutate m c).machine ds
 mutate-follows m c ds sound keeps d = mutate-cases m c (λ (u : Turn). IsDoomedNow u.machine ds)
     (λ refusal e. d)
     (λ e f. d)
     (λ e memory. (d.0, d.1, doomed-effects d.0 ds m.heap c sound.well_formed keeps d.2))
 
 -- A COLLECTION THAT CAN'T MISS NAMES, under any ask
-ask-follows : (m : Machine) (s : State) (ask : Ask) (ds : List Name) → IsRunning m s → KeepsReflectors ds → IsDoomedNow m ds →
+pub ask-follows : (m : Machine) (s : State) (ask : Ask) (ds : List Name) → IsRunning m s → KeepsReflectors ds → IsDoomedNow m ds →
     IsFollowed ds (first_units m ask).events (first_units m ask).progress (do_ask m ask).machine
 unfolding do_ask slice
 ask-follows m s (taken (Slice u)) ds r keeps d = settled s.graph r.well_made ds (slice u m) (units-settle m s ds r d u)
@@ -144,7 +144,7 @@ module _ (m : Machine) (s : State) (ds : List Name) (r : IsRunning m s) (none : 
   some-settle (suc n) p = units_done-settle s.graph r.well_made ds n (one_unit m []) (first-settles s.graph r.well_made ds s.listed m (running-on m s r) none doomed)
 
   -- under an ask that begins a collection
-  begin-follows : (ask : Ask) → begins_one ask ≡ true → IsFollowed ds (first_units m ask).events (first_units m ask).progress (do_ask m ask).machine
+  pub begin-follows : (ask : Ask) → begins_one ask ≡ true → IsFollowed ds (first_units m ask).events (first_units m ask).progress (do_ask m ask).machine
   unfolding do_ask slice
   begin-follows (taken (Slice (suc n))) e = settled s.graph r.well_made ds (slice (suc n) m) (some-settle (suc n) (omega arith))
   begin-follows (taken Collect) e = let t = some-settle (enough_units m) (omega arith) in

@@ -45,7 +45,7 @@ use Rattle.cc_laws_run.proofs.TouchedReads.{IsApart, register-untouched, source-
 use Rattle.cc_laws_run.proofs.JointLists.{joints-within}
 
 -- a place that is to hold a name that is no member
-one-untouched : (ds : List Name) (x : Name) → ¬ (Among x ds) → IsUntouched ds (Some x)
+pub one-untouched : (ds : List Name) (x : Name) → ¬ (Among x ds) → IsUntouched ds (Some x)
 one-untouched ds x out y m i = ⊎_elim (λ e. out (subst (λ z. Among z ds) (sym e) i)) (λ b. b) m
 
 -- a native that is made has no edges
@@ -61,7 +61,7 @@ blank-edge z kind n d x y m = ⊎_elim (λ c. inl (blank-holds z kind n d y c)) 
 pub scripts_made-preserve : (h : Heap) (x : Option Name) → (preserve h x).scripts_made ≡ h.scripts_made
 scripts_made-preserve h x = grind arith
 
-entries-preserve : (h : Heap) (x : Option Name) → (preserve h x).entries ≡ h.entries
+pub entries-preserve : (h : Heap) (x : Option Name) → (preserve h x).entries ≡ h.entries
 entries-preserve h x = grind arith
 
 -- what an exposure of what is no member makes black is none, where only such names hold them
@@ -97,7 +97,7 @@ Spares-new_reflector : (ds : List Name) (h : Heap) (k : ℕ) → ¬ (Among (nati
 Spares-new_reflector ds h k out none = grind (arith, Spares-new_script, blank-edge)
 
 -- with an entry set whose key and value are no members, each joint that gives a member was there
-entry-old : (ds : List Name) (h : Heap) (m k : Name) (d : Option Name) (v : Name) → ¬ (Among k ds) → ¬ (Among v ds) →
+pub entry-old : (ds : List Name) (h : Heap) (m k : Name) (d : Option Name) (v : Name) → ¬ (Among k ds) → ¬ (Among v ds) →
     (j : Joint) → Among j.value ds → Among j (joints (with_entry h.entries m k d v)) → Among j (joints (preserve h (Some k)).entries)
 entry-old ds h m k d v no_key out j i at = subst (λ es. Among j (joints es)) (sym (entries-preserve h (Some k))) (was (joint-cases (with_entry h.entries m k d v) j at))
   where
@@ -122,18 +122,18 @@ module _ (ds : List Name) (g : Heap) where
       (λ n there m. OthersStay-change_native h k f keeps n there (λ e. out (subst (λ j. Among (native j) ds) e m)))
 
   -- a register written
-  leaves-register : (h : Heap) (r : Reg) (x : Option Name) → IsUntouched ds x → Left h → Left (set_register h r x)
+  pub leaves-register : (h : Heap) (r : Reg) (x : Option Name) → IsUntouched ds x → Left h → Left (set_register h r x)
   leaves-register h (N r) x none d = leaves-still ds g h (set_register h (N r) x) (omega arith) (omega arith) refl (Spares-register ds h (N r) x none) d
   leaves-register h (S r) x none d = leaves-still ds g h (set_register h (S r) x) (omega arith) (omega arith) refl (Spares-register ds h (S r) x none) d
 
   -- a slot of a script object written
-  leaves-script_slot : (h : Heap) (z : Name) (i : ℕ) (x : Option Name) → ¬ (Among z ds) → IsUntouched ds x → Left h →
+  pub leaves-script_slot : (h : Heap) (z : Name) (i : ℕ) (x : Option Name) → ¬ (Among z ds) → IsUntouched ds x → Left h →
       Left (change_script h z (with_script_slot i x))
   leaves-script_slot h z i x out none d = leaves-still ds g h (change_script h z (with_script_slot i x)) (omega arith) (omega arith) refl
       (Spares-script_slot ds h z i x out none) d
 
   -- a slot written
-  leaves-slot : (h : Heap) (z : Option Name) (i : ℕ) (x : Option Name) → IsUntouched ds z → IsUntouched ds x → Left h → Left (set_slot h z i x)
+  pub leaves-slot : (h : Heap) (z : Option Name) (i : ℕ) (x : Option Name) → IsUntouched ds z → IsUntouched ds x → Left h → Left (set_slot h z i x)
   leaves-slot h None i x out none d = d
   leaves-slot h (Some (name.Native k)) i x out none d =
       leaves-changed h k.0 (with_native_slot i x) (λ n. refl) (out (native k.0) (inl refl)) (Spares-native_slot ds h k.0 i x (out (native k.0) (inl refl)) none) d
@@ -141,12 +141,12 @@ module _ (ds : List Name) (g : Heap) where
   leaves-slot h (Some (name.Reflector k)) i x out none d = leaves-script_slot h (reflector k.0) i x (out (reflector k.0) (inl refl)) none d
 
   -- a native register written, and what it held given up
-  leaves-put_in_register : (h : Heap) (r : ℕ) (x : Option Name) → IsUntouched ds x → Left h → Left (put_in_register h r x).heap
+  pub leaves-put_in_register : (h : Heap) (r : ℕ) (x : Option Name) → IsUntouched ds x → Left h → Left (put_in_register h r x).heap
   leaves-put_in_register h r x none d = leaves-let_go ds g (set_register h (N r) x) (register h (N r)) (register-untouched ds h d.apart (N r))
       (leaves-register h (N r) x none d)
 
   -- what comes into a native register
-  leaves-hold_native : (h : Heap) (r : ℕ) (x : Option Name) → IsUntouched ds x → Left h → Left (hold_native h r x).heap
+  pub leaves-hold_native : (h : Heap) (r : ℕ) (x : Option Name) → IsUntouched ds x → Left h → Left (hold_native h r x).heap
   unfolding hold_native
   leaves-hold_native h r x none d = leaves-put_in_register (take_up h x) r x none (leaves-take_up ds g h x none d)
 
@@ -163,14 +163,14 @@ module _ (ds : List Name) (g : Heap) where
   -- Exposures
 
   -- an exposure
-  leaves-exposed : (h : Heap) (x : Option Name) → IsUntouched ds x → Left h → Left (exposed h x)
+  pub leaves-exposed : (h : Heap) (x : Option Name) → IsUntouched ds x → Left h → Left (exposed h x)
   unfolding exposed
   leaves-exposed h None none d = d
   leaves-exposed h (Some x) none d = leaves-still ds g h (blackened h (exposed_names h x)) (omega arith) (omega arith) refl
       (Spares-exposed ds h x d.apart.holder (none x (inl refl))) d
 
   -- what is taken out of a slot is touched
-  leaves-touched : (h : Heap) (x : Option Name) → IsUntouched ds x → Left h → Left (touched h x)
+  pub leaves-touched : (h : Heap) (x : Option Name) → IsUntouched ds x → Left h → Left (touched h x)
   leaves-touched h None none d = d
   leaves-touched h (Some (name.Native k)) none d = leaves-touch ds g h k.0 (none (native k.0) (inl refl)) d
   leaves-touched h (Some (name.Script k)) none d = leaves-exposed h (Some (object k.0)) none d
@@ -186,28 +186,28 @@ module _ (ds : List Name) (g : Heap) where
       (leaves-touched h (slot_at (objects_of h) (N q) j) none d))
 
   -- what comes into a script register
-  leaves-hold_script : (h : Heap) (r : ℕ) (x : Option Name) → IsUntouched ds x → Left h → Left (hold_script h r x)
+  pub leaves-hold_script : (h : Heap) (r : ℕ) (x : Option Name) → IsUntouched ds x → Left h → Left (hold_script h r x)
   leaves-hold_script h r x none d = leaves-register (exposed h x) (S r) x none (leaves-exposed h x none d)
 
   -- Flags and entries
 
   -- a reflector preserved
-  leaves-preserve : (h : Heap) (x : Option Name) → IsUntouched ds x → IsUntouched ds (native_of x) → Left h → Left (preserve h x)
+  pub leaves-preserve : (h : Heap) (x : Option Name) → IsUntouched ds x → IsUntouched ds (native_of x) → Left h → Left (preserve h x)
   leaves-preserve h (Some (name.Reflector k)) none own d = leaves-changed h k.0 (λ n. record n { preserved = true }) (λ n. refl) (own (native k.0) (inl refl))
       (Spares-preserved ds h k.0 (none (reflector k.0) (inl refl))) d
   leaves-preserve h _ none own d = d
 
   -- a slot of what a script register holds written
-  leaves-put_in_script : (h : Heap) (z : Option Name) (i : ℕ) (x : Option Name) → IsUntouched ds z → IsUntouched ds (native_of z) → IsUntouched ds x →
+  pub leaves-put_in_script : (h : Heap) (z : Option Name) (i : ℕ) (x : Option Name) → IsUntouched ds z → IsUntouched ds (native_of z) → IsUntouched ds x →
       Left h → Left (put_in_script h z i x)
   leaves-put_in_script h z i x out own none d = leaves-slot (preserve h z) z i x out none (leaves-preserve h z out own d)
 
   -- entries changed, with no new joint that gives a member
-  leaves-entries : (h : Heap) (es : List Entry) → ((j : Joint) → Among j.value ds → Among j (joints es) → Among j (joints h.entries)) → Left h → Left (record h { entries = es })
+  pub leaves-entries : (h : Heap) (es : List Entry) → ((j : Joint) → Among j.value ds → Among j (joints es) → Among j (joints h.entries)) → Left h → Left (record h { entries = es })
   leaves-entries h es old = leaves-still ds g h (record h { entries = es }) (omega arith) (omega arith) refl (Spares-entries ds h es old)
 
   -- an entry set or taken out
-  leaves-set_entry : (h : Heap) (m k v : Option Name) → IsUntouched ds k → IsUntouched ds (native_of k) → IsUntouched ds v → Left h → Left (set_entry h m k v)
+  pub leaves-set_entry : (h : Heap) (m k v : Option Name) → IsUntouched ds k → IsUntouched ds (native_of k) → IsUntouched ds v → Left h → Left (set_entry h m k v)
   leaves-set_entry h (Some m) (Some k) None a o b d = leaves-entries h (without_entry h.entries m k)
       (λ j i at. joints-within (without_entry h.entries m k) h.entries (λ e n. Among-filtered (λ f. not (is_entry_of m k f)) e h.entries n) j at) d
   leaves-set_entry h (Some m) (Some k) (Some v) a o b d = leaves-entries (preserve h (Some k)) (with_entry h.entries m k (delegate_at h k) v)
@@ -218,7 +218,7 @@ module _ (ds : List Name) (g : Heap) where
   -- Objects made
 
   -- a native made, and a native register holds it
-  leaves-make_native : (h : Heap) (r n : ℕ) → ¬ (Among (native (h.natives_made + 1)) ds) → Left h → Left (make_native h r n).heap
+  pub leaves-make_native : (h : Heap) (r n : ℕ) → ¬ (Among (native (h.natives_made + 1)) ds) → Left h → Left (make_native h r n).heap
   unfolding make_native
   leaves-make_native h r n out d = leaves-put_in_register (with_native h n) r (Some (native (h.natives_made + 1)))
       (one-untouched ds (native (h.natives_made + 1)) out)
@@ -235,27 +235,27 @@ module _ (ds : List Name) (g : Heap) where
           (Among-append o h.natives (new_native h n ∷ []) there)
 
   -- a script object made, and a script register holds it
-  leaves-make_object : (h : Heap) (r : ℕ) (kind : Kind) (n : ℕ) (x : Option Name) → ¬ (Among (object (h.scripts_made + 1)) ds) → IsUntouched ds x → Left h →
+  pub leaves-make_object : (h : Heap) (r : ℕ) (kind : Kind) (n : ℕ) (x : Option Name) → ¬ (Among (object (h.scripts_made + 1)) ds) → IsUntouched ds x → Left h →
       Left (make_object h r kind n x)
   leaves-make_object h r kind n x out none d = leaves-register (with_object h kind n x) (S r) (Some (object (h.scripts_made + 1)))
       (one-untouched ds (object (h.scripts_made + 1)) out)
       (leaves-still ds g h (with_object h kind n x) (omega arith) (omega arith) refl (Spares-new_object ds h kind n x out none) d)
 
   -- a proxy made
-  leaves-make_proxy : (h : Heap) (r : ℕ) (x : Option Name) → ¬ (Among (object (h.scripts_made + 1)) ds) → IsUntouched ds x → IsUntouched ds (native_of x) → Left h →
+  pub leaves-make_proxy : (h : Heap) (r : ℕ) (x : Option Name) → ¬ (Among (object (h.scripts_made + 1)) ds) → IsUntouched ds x → IsUntouched ds (native_of x) → Left h →
       Left (make_proxy h r x)
   leaves-make_proxy h r None out none own d = d
   leaves-make_proxy h r (Some x) out none own d = leaves-make_object (preserve h (Some x)) r proxy_kind 0 (Some x)
       (subst (λ n. ¬ (Among (object (n + 1)) ds)) (sym (scripts_made-preserve h (Some x))) out) none (leaves-preserve h (Some x) none own d)
 
   -- a reflector made
-  leaves-with_reflector : (h : Heap) (k : ℕ) → ¬ (Among (native k) ds) → ¬ (Among (reflector k) ds) → Left h → Left (with_reflector h k)
+  pub leaves-with_reflector : (h : Heap) (k : ℕ) → ¬ (Among (native k) ds) → ¬ (Among (reflector k) ds) → Left h → Left (with_reflector h k)
   leaves-with_reflector h k out none d =
       let larger : Heap = with_script h (reflector k) Reflector reflector_slots None in
       leaves-add_ref ds g larger k out (leaves-still ds g h larger (omega arith) (omega arith) refl (Spares-new_reflector ds h k out none) d)
 
   -- a native wrapped
-  leaves-wrapped : (h : Heap) (x : Option Name) → KeepsReflectors ds → IsUntouched ds x → Left h → Left (wrapped h x)
+  pub leaves-wrapped : (h : Heap) (x : Option Name) → KeepsReflectors ds → IsUntouched ds x → Left h → Left (wrapped h x)
   leaves-wrapped h (Some (name.Native k)) keeps none d = go (has_reflector h k.0)
     where
       out : ¬ (Among (native k.0) ds)
@@ -308,14 +308,14 @@ command-leaves ds h c w keeps a b d = leaves-effects ds h h c w keeps a b (leave
 -- What is doomed
 
 -- the next native is not doomed
-next_native-undoomed : (s : Snapshot) (ds : List Name) (h : Heap) → IsWellFormed h → IsDoomed (view h) s ds → ¬ (Among (native (h.natives_made + 1)) ds)
+pub next_native-undoomed : (s : Snapshot) (ds : List Name) (h : Heap) → IsWellFormed h → IsDoomed (view h) s ds → ¬ (Among (native (h.natives_made + 1)) ds)
 next_native-undoomed s ds h w d m =
     let made : h.natives_made + 1 ≤ h.natives_made = native_names-made h 0 w (h.natives_made + 1)
     (named-of_living h (native (h.natives_made + 1)) (d.natives (h.natives_made + 1) m)) in
     absurd (omega arith)
 
 -- nor is the next script object
-next_object-undoomed : (s : Snapshot) (ds : List Name) (h : Heap) → IsWellFormed h → IsDoomed (view h) s ds → ¬ (Among (object (h.scripts_made + 1)) ds)
+pub next_object-undoomed : (s : Snapshot) (ds : List Name) (h : Heap) → IsWellFormed h → IsDoomed (view h) s ds → ¬ (Among (object (h.scripts_made + 1)) ds)
 next_object-undoomed s ds h w d m =
     let made : h.scripts_made + 1 ≤ h.scripts_made = (w.object_numbers (h.scripts_made + 1)
     (named-there h (object (h.scripts_made + 1)) (d.scripts (object (h.scripts_made + 1)) m refl))).1 in

@@ -1,10 +1,11 @@
 -- WHAT COMMANDS READ IS HELD BY REGISTERS: what these hold, what slots of that hold, values of such maps and keys, natives and
 -- reflectors behind it. So it is none of names that no register has and that only such names hold.
-use Rattle.std.proofs.Common.{arith, ◌≡◌, ℕ, Bool, true, false, List, [], ◌∷◌, map, Option, Some, None, refl, sym, subst, inl, inr, ◌⊎◌, ⊎_elim, option_map, slice_index_or}
+use Rattle.std.proofs.Common.{arith, ◌≡◌, ℕ, Bool, true, false, List, [], ◌∷◌, map, Option, Some, None, refl, sym, ap, subst, inl, inr, ◌⊎◌, ⊎_elim, option_map, slice_index_or}
 use Rattle.std.specs.Option.{option_to_list, option_and_then}
 use Rattle.std.proofs.lemmas.Bool.{and_parts}
 use Rattle.cc_lists.specs.Members.{Among}
-use Rattle.cc_lists.proofs.Members.{Among-left, Among-right}
+use Rattle.cc_lists.proofs.Least.{derived-within}
+use Rattle.cc_lists.proofs.Members.{Among-left, Among-map_cases, Among-right}
 use Rattle.cc_lists.proofs.Filtering.{find-among, find-passes}
 use Rattle.cc_names.specs.declared.name.Name.{Name}
 use Rattle.cc_names.specs.declared.name.Name.TheVariants as name
@@ -15,10 +16,10 @@ use Rattle.cc_names.specs.declared.kind.Kind.TheVariants.{Map}
 use Rattle.cc_names.specs.Names.{native, object, reflector, same_name}
 use Rattle.cc_names.proofs.NameTests.{same_name-true}
 use Rattle.cc_model.specs.Slots.{contents}
-use Rattle.cc_model.specs.Entries.{Entry, is_entry_of, value_in, Joint, joints, joint}
+use Rattle.cc_model.specs.Entries.{Entry, is_entry_of, value_in, Joint, joints, joint, rule_of, rules_of}
 use Rattle.cc_model.specs.Checks.{slots_or_none, slot_at, value_at, native_of, reflector_of}
 use Rattle.cc_model.specs.Heap.{Heap, HeapNative, HeapScript, native_at, script_at, slots_in, slots_of_script, slots_of_kind, register, objects_of, source}
-use Rattle.cc_model.specs.View.{view}
+use Rattle.cc_model.specs.View.{view, ReachedIn}
 use Rattle.cc_model.specs.WellFormed.{IsWellFormed}
 use Rattle.cc_model.proofs.Places.{slot-place}
 use Rattle.cc_model.proofs.Joints.{value-joint}
@@ -51,6 +52,20 @@ pub record IsApart (ds : List Name) (h : Heap) : Type 0 where
   pub joint : (e : Joint) → Among e (joints h.entries) → Among e.value ds → Among e.the_map ds ⊎ Among e.key ds
 
 module _ (ds : List Name) (h : Heap) (d : IsApart ds h) where
+  -- what is reached is no member
+  pub reached-untouched : (x : Name) → ReachedIn (view h) x → ¬ (Among x ds)
+  reached-untouched = derived-within (view h).registers (view h).edges (rules_of (joints h.entries)) (λ x. ¬ (Among x ds))
+      (λ x m i. d.unregistered x i m)
+      (λ x y m out i. out (d.holder x y m i))
+      (λ ps y m out i.
+      let c = Among-map_cases rule_of (joints h.entries) (ps, y) m in
+      let given : c.0.value ≡ y = ap (λ (r : List Name × Name). r.1) c.2 in
+      let asked : c.0.the_map ∷ c.0.key ∷ [] ≡ ps = ap (λ (r : List Name × Name). r.0) c.2 in
+      ⊎_elim
+      (λ l. out c.0.the_map (subst (Among c.0.the_map) asked (inl refl)) l)
+      (λ r. out c.0.key (subst (Among c.0.key) asked (inr (inl refl))) r)
+      (d.joint c.0 c.1 (subst (λ z. Among z ds) (sym given) i)))
+
   -- what a register holds is no member
   pub register-untouched : (r : Reg) → IsUntouched ds (register h r)
   register-untouched r y m i = grind (arith, Among-left, contents-at, Among-right)
@@ -79,7 +94,7 @@ module _ (ds : List Name) (h : Heap) (d : IsApart ds h) where
       go _ j = there j
 
   -- and so is any object
-  slots_in-holder : (x y : Name) → Among y (contents (slots_or_none (slots_in h x))) → Among y ds → Among x ds
+  pub slots_in-holder : (x y : Name) → Among y (contents (slots_or_none (slots_in h x))) → Among y ds → Among x ds
   slots_in-holder (name.Native k) y i m = go (native_at h k.0) refl i
     where
       go : (o : Option HeapNative) → native_at h k.0 ≡ o → Among y (contents (slots_or_none (option_map (λ n. n.slots) o))) → Among (native k.0) ds
@@ -89,13 +104,14 @@ module _ (ds : List Name) (h : Heap) (d : IsApart ds h) where
   slots_in-holder (name.Script k) y i m = found-holder (object k.0) (script_at h (object k.0)) refl y i m
   slots_in-holder (name.Reflector k) y i m = found-holder (reflector k.0) (script_at h (reflector k.0)) refl y i m
 
-  -- what a slot of what a register holds holds is no member
+  -- what a slot of what is no member holds is none
+  pub slot_of-untouched : (x : Option Name) (i : ℕ) → IsUntouched ds x → IsUntouched ds (slice_index_or (slots_or_none (option_and_then (slots_in h) x)) i None)
+  slot_of-untouched None i none y m j = m
+  slot_of-untouched (Some x) i none y m j = none x (inl refl) (slots_in-holder x y (contents-at (slots_or_none (slots_in h x)) i y m) j)
+
+  -- nor is what a slot of what a register holds holds
   pub slot_at-untouched : (r : Reg) (i : ℕ) → IsUntouched ds (slot_at (objects_of h) r i)
-  slot_at-untouched r i = go (register h r) (register-untouched r)
-    where
-      go : (o : Option Name) → IsUntouched ds o → IsUntouched ds (slice_index_or (slots_or_none (option_and_then (slots_in h) o)) i None)
-      go None none y m j = m
-      go (Some x) none y m j = none x (inl refl) (slots_in-holder x y (contents-at (slots_or_none (slots_in h x)) i y m) j)
+  slot_at-untouched r i = slot_of-untouched (register h r) i (register-untouched r)
 
   -- the value of a map and a key that are no members is none
   pub value_at-untouched : (m k : Option Name) → IsUntouched ds m → IsUntouched ds k → IsUntouched ds (value_at (objects_of h) m k)
@@ -107,17 +123,18 @@ module _ (ds : List Name) (h : Heap) (d : IsApart ds h) where
       (d.joint (joint f.0.the_map f.0.key f.0.value) (value-joint h.entries f.0 f.1) (subst (λ z. Among z ds) (sym f.4) j))
   value_at-untouched _ _ a b y i j = i
 
-  -- the native of the reflector that a script register holds is no member
+  -- the native of a reflector that is no member is none
+  pub behind-untouched : (x : Option Name) → IsUntouched ds x → ((y : Name) → Among y (option_to_list x) → Among y (map (λ (o : HeapScript). o.name) h.scripts)) →
+      IsUntouched ds (native_of x)
+  behind-untouched (Some (name.Reflector k)) none there y m i = ⊎_elim
+      (λ e. none (reflector k.0) (inl refl) (d.holder (reflector k.0) (native k.0) (edge-from_reflector h k.0 (there (reflector k.0) (inl refl)))
+      (subst (λ z. Among z ds) (sym e) i)))
+      (λ b. b) m
+  behind-untouched _ none there y m i = m
+
+  -- nor is the native of the reflector that a script register holds
   pub native_of-untouched : (r : ℕ) → IsWellFormed h → IsUntouched ds (native_of (register h (S r)))
-  native_of-untouched r w = go (register h (S r)) (register-untouched (S r)) (script_register-there h r w)
-    where
-      go : (o : Option Name) → IsUntouched ds o → ((y : Name) → Among y (option_to_list o) → Among y (map (λ (o : HeapScript). o.name) h.scripts)) →
-          IsUntouched ds (native_of o)
-      go (Some (name.Reflector k)) none there y m i = ⊎_elim
-          (λ e. none (reflector k.0) (inl refl) (d.holder (reflector k.0) (native k.0) (edge-from_reflector h k.0 (there (reflector k.0) (inl refl)))
-          (subst (λ z. Among z ds) (sym e) i)))
-          (λ b. b) m
-      go _ none there y m i = m
+  native_of-untouched r w = behind-untouched (register h (S r)) (register-untouched (S r)) (script_register-there h r w)
 
 -- the reflector of a native that is no member is none
 pub reflector_of-untouched : (ds : List Name) (x : Option Name) → KeepsReflectors ds → IsUntouched ds x → IsUntouched ds (reflector_of x)
