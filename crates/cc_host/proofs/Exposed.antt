@@ -26,9 +26,11 @@ use Rattle.cc_heaps.proofs.Kept.{KeepsAll-same}
 use Rattle.cc_heaps.proofs.ObjectsKept.{named-there, there-named}
 use Rattle.cc_heaps.proofs.ReflectingMade.{exposed-reached}
 use Rattle.cc_wrappers.proofs.ReflectorKeys.{black-at, name-held, object-at, object-named}
+use Rattle.cc_host.specs.Missing.{KeepsDoomed}
+use Rattle.cc_host.proofs.KeptDoomed.{doomed-then, exposed-doomed, still_doomed}
 use Rattle.cc_host.specs.Exposing.{AreSame, Exposes, IsSameAt}
 use Rattle.cc_host.specs.Hosted.{spare}
-use Rattle.cc_host.specs.Steps.{IsReady, IsStep}
+use Rattle.cc_host.specs.Steps.{IsReady, IsTried}
 use Rattle.cc_host.proofs.Composing.{KeepsAll-with}
 
 -- a script object before and after: as it was, or blacker
@@ -103,10 +105,11 @@ module _ (v w : Keyed) (order : IsInOrder [] v) (x : Option Name) (heap : w.heap
   reached None d = tt
   reached (Some y) d = subst (λ h. ReachedIn (view h) y) (sym heap) (exposed-reached v.heap x order.sound y d)
 
-  pub exposes : Exposes v w
+  pub exposes : Exposes (IsReached v.heap x) v w
   exposes = record {
     kept = kept;
     stands = still;
+    doomed = λ p. subst (KeepsDoomed v.heap) (sym heap) (exposed-doomed v.heap x p);
     keys = keys;
     same = same;
     rest = heap ∙ (exposed-rest v.heap x ∙ ap (λ (h : Heap). record v.heap { scripts = h.scripts }) (sym heap));
@@ -115,17 +118,18 @@ module _ (v w : Keyed) (order : IsInOrder [] v) (x : Option Name) (heap : w.heap
   }
 
 -- what was exposed is black
-pub exposed-colour : (v w : Keyed) → IsInOrder [] w → Exposes v w → (key : ℕ) → IsTrue (is_there v.scripts key) → w.heap ≡ exposed v.heap (name_at v.scripts key) →
+pub exposed-colour : {p : Type 0} (v w : Keyed) → IsInOrder [] w → Exposes p v w → (key : ℕ) → IsTrue (is_there v.scripts key) → w.heap ≡ exposed v.heap (name_at v.scripts key) →
     colour_at w.scripts key ≡ Some Black
 exposed-colour v w now e key t heap =
     let n = there-named v.scripts key t in
     black-at [] w now key n.0 ((e.same key t).name ∙ n.1) (subst (λ (h : Heap). IsHeldBlack h.scripts (Some n.0)) (sym (heap ∙ ap (exposed v.heap) n.1)) (exposed-black v.heap (Some n.0)))
 
 -- nothing was exposed
-pub Exposes-same : (v : Keyed) → Exposes v v
+pub Exposes-same : {p : Type 0} (v : Keyed) → Exposes p v v
 Exposes-same v = record {
   kept = KeepsAll-same v v refl;
   stands = λ g m t. t;
+  doomed = λ p. still_doomed v.heap;
   keys = refl;
   same = λ key t. record { there = t; name = refl; kind = refl; slots = refl; black = λ e. e };
   rest = refl;
@@ -133,7 +137,7 @@ Exposes-same v = record {
   reached = λ x d. d;
 }
 
-module _ (v w : Keyed) (e : Exposes v w) where
+module _ {p : Type 0} (v w : Keyed) (e : Exposes p v w) where
   -- Registers stay,
   pub exposed-register : (r : ℕ) → register w.heap (N r) ≡ register v.heap (N r)
   exposed-register r = ap (λ (h : Heap). register h (N r)) e.rest
@@ -149,8 +153,8 @@ module _ (v w : Keyed) (e : Exposes v w) where
   exposed-none_left x i = subst (Among x) (sym exposed-names) i
 
   -- It is a step that leaves the graph.
-  pub exposed-step : IsReady v → IsStep (Unit {0}) (λ g. g) v w
-  exposed-step r = record { kept = e.kept; spared = (exposed-ready r).spared; stands = λ d g m t. (m, e.stands g m t) }
+  pub exposed-step : IsReady v → IsTried p v w
+  exposed-step r = record { kept = e.kept; spared = (exposed-ready r).spared; stands = e.stands; doomed = e.doomed }
 
 -- ALL IS KEPT by a change after one that left what is there at its keys.
 pub KeepsAll-after : (u v w : Keyed) → v.keys ≡ u.keys → AreSame u.scripts v.scripts → KeepsAll u v → KeepsAll v w → KeepsAll u w
@@ -170,10 +174,11 @@ AreSame-then os ps qs p q key t =
     let b = q key a.there in
     record { there = b.there; name = b.name ∙ a.name; kind = b.kind ∙ a.kind; slots = b.slots ∙ a.slots; black = λ e. b.black (a.black e) }
 
-pub Exposes-then : (u v w : Keyed) → Exposes u v → Exposes v w → Exposes u w
-Exposes-then u v w p q = record {
+pub Exposes-then : {a b c : Type 0} (u v w : Keyed) → Exposes a u v → Exposes b v w → (c → a) → (c → b) → Exposes c u w
+Exposes-then u v w p q f k = record {
   kept = KeepsAll-after u v w p.keys p.same p.kept q.kept;
   stands = λ g m t. q.stands g m (p.stands g m t);
+  doomed = λ d. doomed-then u.heap v.heap w.heap (p.doomed (f d)) (q.doomed (k d));
   keys = q.keys ∙ p.keys;
   same = AreSame-then u.scripts v.scripts w.scripts p.same q.same;
   rest = q.rest ∙ ap (λ (h : Heap). record h { scripts = w.heap.scripts }) p.rest;

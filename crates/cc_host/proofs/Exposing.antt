@@ -11,7 +11,7 @@ use Rattle.cc_heaps.specs.Keyed.{Keyed}
 use Rattle.cc_heaps.specs.Changes.{IsThere, held_name}
 use Rattle.cc_heaps.proofs.ObjectsKept.{there-named, named-there}
 use Rattle.cc_host.specs.Exposing.{Exposes}
-use Rattle.cc_host.specs.Steps.{IsReady, IsStep, StaysThere}
+use Rattle.cc_host.specs.Steps.{IsReady, IsTried, StaysThere}
 use Rattle.cc_host.proofs.Exposed.{Exposes-same, exposed-step}
 
 -- the same natives at the same keys, and script objects that keep their names
@@ -33,11 +33,11 @@ pub stays-same : (v w : Keyed) → w.keys ≡ v.keys → w.scripts ≡ v.scripts
 stays-same v w keys scripts = stays-from v w keys (λ key x e. ap (λ os. name_at os key) scripts ∙ e)
 
 -- nothing is exposed
-pub same-step : (v : Keyed) → IsReady v → IsStep (Unit {0}) (λ g. g) v v
+pub same-step : {p : Type 0} (v : Keyed) → IsReady v → IsTried p v v
 same-step v ready = exposed-step v v (Exposes-same v) ready
 
 -- SOMETHING IS EXPOSED
-module _ (v w : Keyed) (e : Exposes v w) where
+module _ {p : Type 0} (v w : Keyed) (e : Exposes p v w) where
   pub exposed-stays : StaysThere v w
   exposed-stays = stays-from v w e.keys (λ key x at. (e.same key (named-there v.scripts key x at)).name ∙ at)
 

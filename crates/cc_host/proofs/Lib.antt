@@ -1,3 +1,4 @@
+pub mod KeptDoomed
 pub mod Keeping
 pub mod Spare
 pub mod Composing
@@ -12,5 +13,6 @@ pub mod Finding
 pub mod Reading
 pub mod Stopping
 pub mod Collecting
+pub mod Taking
 pub mod Rooted
 pub mod Counting

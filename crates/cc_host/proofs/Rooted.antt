@@ -21,7 +21,9 @@ use Rattle.cc_host.specs.declared.object.Object.{Object}
 use Rattle.cc_host.specs.declared.stop.Stop.{Stop}
 use Rattle.cc_host.specs.declared.stop.Stop.TheVariants.{Gone, Index}
 use Rattle.cc_host.specs.Hosted.{Hosted, IsKept, roots, spare}
-use Rattle.cc_host.specs.Steps.{IsReady, IsStep, StaysThere}
+use Rattle.cc_host.specs.Missing.{KeepsDoomed}
+use Rattle.cc_host.specs.Steps.{IsReady, IsStep, IsTried, StaysThere}
+use Rattle.cc_host.proofs.KeptDoomed.{stored-doomed}
 use Rattle.cc_host.specs.Stops.{first, slots_at_root, stop_at, stop_if_any, stop_root, stop_storing_at_root, where_so}
 use Rattle.cc_host.proofs.Composing.{step-after}
 use Rattle.cc_host.proofs.Reading.{native_slots-many}
@@ -48,7 +50,7 @@ module _ (a b c : Keyed) (r : ℕ) (key : NKey) (i : ℕ) (content : Option Held
   k = the_number b key.0
 
   module _ (ready : IsReady a) (rooted : register a.heap (N r) ≡ native_name a (Some key)) (live : IsSome (number_at a key.0))
-      (there : IsThere a content) (keys : b.keys ≡ a.keys) (stays : StaysThere a b) (exposed : IsStep (Unit {0}) (λ g. g) a b)
+      (there : IsThere a content) (keys : b.keys ≡ a.keys) (stays : StaysThere a b) (exposed : IsTried (IsReached a.heap (held_name a content)) a b)
       (reached : (x : Option Name) → IsReached a.heap x → IsReached b.heap x) where
     at-root : IsReached b.heap (Some (native k))
     at-root = subst (IsReached b.heap) (native_name-is a b keys key live)
@@ -67,9 +69,14 @@ module _ (a b c : Keyed) (r : ℕ) (key : NKey) (i : ℕ) (content : Option Held
         ∙ (ap (λ (rs : Slots). get_or rs spare None) (stored-registers b.heap k i (held_name b content)) ∙ exposed.spared) in
         subst (λ z. IsStep p (λ g. graph.set_slot g z i x) a c) (sym (native_name-is a b keys key live))
         (subst (λ z. IsStep p (λ g. graph.set_slot g (Some (native k)) i z) a c) same
-        (step-after a b c ready exposed (stored-none_came b c k i (held_name b content) is)
+        (step-after a b c ready exposed (stored-none_came b c k i (held_name b content) is) (λ d. d)
         (λ d. subst (IsReached b.heap) (sym same) (reached x d))
-        (record { kept = KeepsAll-both kept black at-root; spared = spared; stands = stands at-root })))
+        (record {
+          kept = KeepsAll-both kept black at-root;
+          spared = spared;
+          stands = stands at-root;
+          doomed = λ d. subst (KeepsDoomed b.heap) (sym (ap (λ (u : Keyed). u.heap) is)) (stored-doomed b.heap k i (held_name b content) at-root d);
+        })))
 
 -- WHEN THE CALL IS STOPPED, once the native in the root is found
 module _ (h : Hosted) (kept : IsKept h) (r : ℕ) (key : NKey) (name : native_name h.heaps (Some key) ≡ register h.heaps.heap (N r)) (live : IsSome (number_at h.heaps key.0)) where

@@ -34,13 +34,15 @@ use Rattle.cc_heaps.proofs.LeftWith.{keys-there}
 use Rattle.cc_heaps.proofs.SlotsHeld.{slots-taken}
 use Rattle.cc_host.specs.Hosted.{roots, spare}
 use Rattle.cc_host.specs.Holding.{IsHeld}
+use Rattle.cc_host.specs.Missing.{KeepsDoomed}
+use Rattle.cc_host.proofs.KeptDoomed.{hold_native-doomed}
 use Rattle.cc_host.specs.Steps.{IsReady}
 use Rattle.cc_host.proofs.Composing.{stands-then}
 
 -- What registers hold
 
 -- where a place holds nothing, what is written into it takes nothing away
-contents-kept : (slots : Slots) (i : ℕ) (x : Option Name) → get_or slots i None ≡ None → (y : Name) → Among y (contents slots) → Among y (contents (set slots i x))
+pub contents-kept : (slots : Slots) (i : ℕ) (x : Option Name) → get_or slots i None ≡ None → (y : Name) → Among y (contents slots) → Among y (contents (set slots i x))
 contents-kept [] i x e y m = m
 contents-kept (None ∷ slots) zero x e y m = Among-right y (option_to_list x) (contents slots) m
 contents-kept (Some z ∷ slots) zero x e y m = absurd (cc)
@@ -124,6 +126,7 @@ module _ (v : Keyed) (key : NKey) (ready : IsReady v) where
           ∙ (ap (λ (rs : Slots). get_or rs spare None) (hold_native-registers v.heap spare content)
           ∙ get_or-set_same v.heap.native_registers spare content None (omega (arith, ready.order.sound.well_formed.registers.0)));
       stands = stands;
+      doomed = λ p. subst (KeepsDoomed v.heap) (sym (ap (λ (u : Keyed). u.heap) is)) (hold_native-doomed v.heap spare content p);
       keys = ap (λ (u : Keyed). u.keys) is ∙ keys-there (hold_native v.heap spare content).heap v.keys (λ q k e. still-there k (number-named v [] q k ready.order e));
       scripts = ap (λ (u : Keyed). u.scripts) is;
       names = ap names_there is-written ∙ written-names v.heap spare content;

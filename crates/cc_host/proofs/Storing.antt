@@ -31,6 +31,8 @@ use Rattle.cc_heaps.proofs.Kept.{KeepsAll-both, KeepsAll-reached}
 use Rattle.cc_heaps.proofs.Moving.{number-same}
 use Rattle.cc_host.specs.Hosted.{spare}
 use Rattle.cc_host.specs.Holding.{IsHeld}
+use Rattle.cc_host.specs.Missing.{KeepsDoomed}
+use Rattle.cc_host.proofs.KeptDoomed.{moved-doomed, stored-doomed}
 use Rattle.cc_host.proofs.Around.{left-none_came}
 use Rattle.cc_host.proofs.Exposing.{stays-same}
 
@@ -110,6 +112,12 @@ module _ {key : NKey} (a b : Keyed) (h : IsHeld key a b) (live : IsSome (number_
         (subst (λ y. StandsAfter b.heap c.heap (λ g. graph.set_slot g (Some (native (the_number b key.0))) i y)) same
         (stands held-reached (subst (IsReached b.heap) (sym same) (h.reached (held_name a content) reached))))
 
+    pub stored-leaves : c ≡ left_with b (stored_in b.heap (the_number b key.0) i (held_name b content)).heap → IsReached a.heap (held_name a content) →
+        KeepsDoomed b.heap c.heap
+    stored-leaves is reached = subst (KeepsDoomed b.heap) (sym (ap (λ (u : Keyed). u.heap) is))
+        (stored-doomed b.heap (the_number b key.0) i (held_name b content) held-reached
+        (subst (IsReached b.heap) (sym ((stays-same a b h.keys h.scripts).same content there)) (h.reached (held_name a content) reached)))
+
   -- WHAT A SLOT OF ANOTHER HOLDS IS MOVED into one of it.
   module _ (c : Keyed) (i : ℕ) (from : NKey) (j : ℕ) (from_live : IsSome (number_at a from.0)) where
     -- it is reached still, once that is taken out
@@ -119,6 +127,12 @@ module _ {key : NKey} (a b : Keyed) (h : IsHeld key a b) (live : IsSome (number_
 
     pub moved-kept : KeepsAllIfReached (IsReached (taken_from b.heap (the_number b from.0) j) (Some (native (the_number b key.0)))) b c → KeepsAll b c
     moved-kept kept = KeepsAll-reached kept held-taken
+
+    pub moved-leaves : c.heap ≡ (moved_in b.heap (the_number b key.0) i (the_number b from.0) j).heap → IsReached a.heap (native_name a (Some from)) →
+        KeepsDoomed b.heap c.heap
+    moved-leaves is reached = subst (KeepsDoomed b.heap) (sym is)
+        (moved-doomed b.heap (the_number b key.0) i (the_number b from.0) j held-reached
+        (subst (IsReached b.heap) (native_name-is a b h.keys from from_live) (h.reached (native_name a (Some from)) reached)))
 
     pub moved-stands : (IsReached b.heap (Some (native (the_number b key.0))) → IsReached b.heap (Some (native (the_number b from.0))) →
         StandsAfter b.heap c.heap (λ g. graph.move_slot g (Some (native (the_number b key.0))) i (Some (native (the_number b from.0))) j (slot_held b.heap (the_number b from.0) j))) →

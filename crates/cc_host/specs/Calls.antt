@@ -9,16 +9,27 @@ use Rattle.cc_heaps.specs.Changes.{KeepsKeys}
 use Rattle.cc_heaps.specs.Leaving.{TellsWhatIsFreed}
 use Rattle.cc_heaps.specs.Standing.{StandsAfter, StillStands}
 use Rattle.cc_host.specs.Hosted.{Hosted}
+use Rattle.cc_host.specs.Missing.{KeepsDoomed}
 use Rattle.cc_host.specs.declared.object.Object.{Object}
 
 -- with no premise
 abbrev pub Always : Type 0
 Always = Unit {0}
 
--- A CALL CHANGES THE GRAPH SO, where the premise holds: that what is handed in is reached. Also where it doesn't hold no
--- object gets another key, and the running collection goes on.
+-- A CALL CHANGES THE GRAPH SO, where the premise holds: that what is handed in is reached. What the running collection can't
+-- miss it can't miss afterwards either. Also where the premise doesn't hold no object gets another key, and the running
+-- collection goes on.
 pub record Does (premise : Type 0) (change : Graph → Graph) (old new : Hosted) : Type 0 where
   pub stands : premise → StandsAfter old.heaps.heap new.heaps.heap change
+  pub doomed : premise → KeepsDoomed old.heaps.heap new.heaps.heap
+  pub keys : KeepsKeys old.heaps new.heaps
+  pub running : new.running ≡ old.running
+  pub mark : new.mark ≡ old.mark
+
+-- A CALL WAS REFUSED after it had begun: the graph stays as it is in any case
+pub record Tries (premise : Type 0) (old new : Hosted) : Type 0 where
+  pub stands : StillStands old.heaps.heap new.heaps.heap
+  pub doomed : premise → KeepsDoomed old.heaps.heap new.heaps.heap
   pub keys : KeepsKeys old.heaps new.heaps
   pub running : new.running ≡ old.running
   pub mark : new.mark ≡ old.mark

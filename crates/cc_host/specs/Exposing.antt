@@ -7,6 +7,7 @@ use Rattle.cc_script.specs.Objects.{Object, colour_at, is_there, kind_at, name_a
 use Rattle.cc_heaps.specs.Keyed.{Keyed}
 use Rattle.cc_heaps.specs.Keeping.{KeepsAll}
 use Rattle.cc_heaps.specs.Standing.{IsReached, StillStands}
+use Rattle.cc_host.specs.Missing.{KeepsDoomed}
 
 -- the object at a key is as it was, or blacker
 pub record IsSameAt (old new : List Object) (key : ℕ) : Type 0 where
@@ -20,10 +21,11 @@ pub record IsSameAt (old new : List Object) (key : ℕ) : Type 0 where
 abbrev pub AreSame : List Object → List Object → Type 0
 AreSame old new = (key : ℕ) → IsTrue (is_there old key) → IsSameAt old new key
 
--- SOME SCRIPT OBJECTS BECAME BLACK
-pub record Exposes (old new : Keyed) : Type 0 where
+-- SOME SCRIPT OBJECTS BECAME BLACK, and where the premise holds, that what was handed in is reached, none that is doomed did
+pub record Exposes (premise : Type 0) (old new : Keyed) : Type 0 where
   pub kept : KeepsAll old new
   pub stands : StillStands old.heap new.heap
+  pub doomed : premise → KeepsDoomed old.heap new.heap
   pub keys : new.keys ≡ old.keys
   pub same : AreSame old.scripts new.scripts
   pub rest : new.heap ≡ record old.heap { scripts = new.heap.scripts }

@@ -15,6 +15,7 @@ use Rattle.cc_heaps.specs.Keeping.{KeepsAll}
 use Rattle.cc_heaps.specs.Leaving.{NoneCame}
 use Rattle.cc_heaps.specs.Standing.{IsReached, StandsAfter}
 use Rattle.cc_host.specs.Hosted.{spare}
+use Rattle.cc_host.specs.Missing.{KeepsDoomed}
 use Rattle.cc_host.specs.Steps.{IsStep}
 
 -- IT IS HELD: nothing is given up, since the register held nothing
@@ -23,6 +24,7 @@ pub record IsHeld (key : NKey) (old new : Keyed) : Type 0 where
   pub heap : new.heap ≡ set_register (take_up old.heap (native_name old (Some key))) (N spare) (native_name old (Some key))
   pub held : register new.heap (N spare) ≡ native_name old (Some key)
   pub stands : IsReached old.heap (native_name old (Some key)) → StandsAfter old.heap new.heap (λ g. graph.set_register g (N spare) (native_name old (Some key)))
+  pub doomed : IsReached old.heap (native_name old (Some key)) → KeepsDoomed old.heap new.heap
   -- the same objects are there, at the same keys, and natives have the same slots
   pub keys : new.keys ≡ old.keys
   pub scripts : new.scripts ≡ old.scripts

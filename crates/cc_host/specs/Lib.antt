@@ -1,4 +1,5 @@
 pub mod Hosted
+pub mod Missing
 pub mod Stops
 pub mod Calls
 pub mod Steps

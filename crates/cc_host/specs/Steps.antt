@@ -5,21 +5,31 @@ use Rattle.cc_model.specs.Graph.{Graph}
 use Rattle.cc_model.specs.Heap.{register}
 use Rattle.cc_heaps.specs.Keyed.{Keyed, IsInOrder}
 use Rattle.cc_heaps.specs.Keeping.{KeepsAll}
-use Rattle.cc_heaps.specs.Standing.{StandsAfter}
+use Rattle.cc_heaps.specs.Standing.{StandsAfter, StillStands}
 use Rattle.cc_counted.specs.declared.held.Held.{Held}
 use Rattle.cc_heaps.specs.Changes.{IsThere, held_name}
 use Rattle.cc_host.specs.Hosted.{spare}
+use Rattle.cc_host.specs.Missing.{KeepsDoomed}
 
 -- what the heaps are before it: in order, nothing owned, and the host's own register empty
 pub record IsReady (v : Keyed) : Type 0 where
   pub order : IsInOrder [] v
   pub spared : register v.heap (N spare) ≡ None
 
--- IT KEEPS ALL, leaves the host's own register empty, and changes the graph so where the premise holds
+-- IT KEEPS ALL, leaves the host's own register empty, and changes the graph so where the premise holds: that what is handed
+-- in is reached. What is doomed it leaves doomed then
 pub record IsStep (premise : Type 0) (change : Graph → Graph) (old new : Keyed) : Type 0 where
   pub kept : KeepsAll old new
   pub spared : register new.heap (N spare) ≡ None
   pub stands : premise → StandsAfter old.heap new.heap change
+  pub doomed : premise → KeepsDoomed old.heap new.heap
+
+-- IT WAS TRIED: the same, but that the graph stays as it is in any case
+pub record IsTried (premise : Type 0) (old new : Keyed) : Type 0 where
+  pub kept : KeepsAll old new
+  pub spared : register new.heap (N spare) ≡ None
+  pub stands : StillStands old.heap new.heap
+  pub doomed : premise → KeepsDoomed old.heap new.heap
 
 -- what is held is as it was: it is there, under its name
 pub record StaysThere (old new : Keyed) : Type 0 where

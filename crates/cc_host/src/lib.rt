@@ -13,16 +13,20 @@
 //! What goes is told to any receiver; `Queue` keeps it until the program fetches it.
 //!
 //! The contracts say of each call what it makes of an object graph from which nothing is freed (`Does`), and of each
-//! collection that it leaves the graph as it is, tells what leaves, and spares what the roots reach (`Collects`).
+//! collection that it leaves the graph as it is, tells what leaves, and spares what the roots reach (`Collects`). A collection in
+//! slices that begins right after `gc` takes all that nothing reached by then, whatever calls come between its slices
+//! (`garbage`, `begins`, `takes`).
 #![tactic(auto)]
 
 mod host;
+mod missing;
 mod object;
 mod queue;
 mod steps;
 mod stop;
 
 pub use host::{Host, ROOTS};
+pub use missing::calls_make_it_miss_nothing;
 pub use object::Object;
 pub use queue::Queue;
 pub use stop::Stop;

@@ -19,7 +19,7 @@ ghost use Rattle.cc_heaps.specs.Leaving.{NoneCame, TellsWhatIsFreed};
 ghost use Rattle.cc_heaps.specs.Standing.{IsReached};
 ghost use Rattle.cc_host.specs.Hosted.{roots};
 ghost use Rattle.cc_host.specs.Holding.{IsHeld, IsLetGo};
-ghost use Rattle.cc_host.specs.Steps.{IsReady, IsStep, StaysThere};
+ghost use Rattle.cc_host.specs.Steps.{IsReady, IsStep, IsTried, StaysThere};
 
 mod making;
 mod scripts;
@@ -54,7 +54,7 @@ pub(crate) fn root_native<N: Notices>(
 fn expose_held(heaps: &mut Heaps, content: Option<Held>)
     requires ready { IsReady heaps.old }
     requires there { IsThere heaps.old content }
-    ensures step { IsStep (Unit {0}) (λ g. g) heaps.old heaps.new }
+    ensures step { IsTried (IsReached heaps.old.heap (held_name heaps.old content)) heaps.old heaps.new }
     ensures black { IsBlackHeld heaps.new content }
     ensures stays { StaysThere heaps.old heaps.new }
     ensures keys { heaps.new.keys ≡ heaps.old.keys }
@@ -188,7 +188,7 @@ pub(crate) fn wrap_native<N: Notices>(
     requires ready { IsReady heaps.old }
     requires live { IsSome (number_at heaps.old key.0) }
     ensures step { OnOk result (IsStep (IsReached heaps.old.heap (native_name heaps.old (Some key))) (λ g. graph.wrapped g (native_name heaps.old (Some key))) heaps.old heaps.new) }
-    ensures tried { OnErr result (IsStep (Unit {0}) (λ g. g) heaps.old heaps.new) }
+    ensures tried { OnErr result (IsTried (IsReached heaps.old.heap (native_name heaps.old (Some key))) heaps.old heaps.new) }
     ensures name { IfOk result (λ made. script_name heaps.new (Some made) ≡ reflector_of (native_name heaps.old (Some key))) }
     ensures tells { TellsWhatIsFreed heaps.old.heap heaps.new.heap (N.telling out.old) (N.telling out.new) }
 {

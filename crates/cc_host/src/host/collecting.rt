@@ -1,5 +1,6 @@
 //! Collections, whole and in slices.
-ghost use Rattle.std.specs.Prelude.{◌≡◌, ◌≢◌, ◌<◌, ℕ, [], None, Ok, OnErr, OnOk, is_some};
+ghost use Rattle.std.specs.Prelude.{◌≡◌, ◌≢◌, ◌<◌, ℕ, List, [], None, Ok, OnErr, OnOk, is_some};
+ghost use Rattle.cc_names.specs.declared.name.Name.{Name};
 ghost use Rattle.cc_model.specs.End.{at_end, refused};
 ghost use Rattle.cc_laws_run.specs.Doomed.{IsSuspectedNow};
 ghost use Rattle.cc_heaps.specs.Keeping.{KeepsHeaps};
@@ -10,6 +11,7 @@ ghost use Rattle.cc_collector.specs.Kept.{RunsIn, machine_of};
 ghost use Rattle.cc_collector.specs.Settled.{HasWhatIsReached};
 ghost use Rattle.cc_host.specs.Calls.{Collects};
 ghost use Rattle.cc_host.specs.Hosted.{machine};
+ghost use Rattle.cc_host.specs.Missing.{CannotMiss, IsOfAGraph, Takes, TakesBySlice, TakesGarbage, TellsUnlinked, lost_in};
 
 use crate::host::Host;
 use cc_collector::{Collector, Ended, Steps};
@@ -36,6 +38,10 @@ impl Host {
         ensures collects { Collects self.old self.new (N.telling out.old) (N.telling out.new) }
         ensures sliced { (steps : ℕ) × IsSliced units (machine self.old) (machine self.new) (progress_of result) 0 steps (N.telling out.old) (N.telling out.new) }
         ensures over { result ≢ Ok Ended.No → self.new.running ≡ None }
+        // what the running collection can't miss is told unlinked at its end; what one can't miss that begins after `gc`
+        ensures takes { (ds : List Name) → CannotMiss self.old ds → TakesBySlice ds self.new (progress_of result) (N.telling out.old) (N.telling out.new) }
+        ensures begins { 0 < units → IsOfAGraph self.old → TakesGarbage self.old →
+            TakesBySlice (lost_in self.old) self.new (progress_of result) (N.telling out.old) (N.telling out.new) }
     {
         slice::<Brand, N>(
             &mut self.heaps,
@@ -54,6 +60,9 @@ impl Host {
         ensures done { OnOk result (IsCollected (machine self.old) (machine self.new) at_end (N.telling out.old) (N.telling out.new)) }
         ensures refused { OnErr result (IsCollected (machine self.old) (machine self.new) refused (N.telling out.old) (N.telling out.new)) }
         ensures over { self.new.running ≡ None }
+        ensures takes { (ds : List Name) → CannotMiss self.old ds → Takes ds (N.telling out.old) (N.telling out.new) }
+        ensures takes_if_done { OnOk result ((ds : List Name) → CannotMiss self.old ds → TellsUnlinked ds (N.telling out.old) (N.telling out.new)) }
+        ensures begins { OnOk result (IsOfAGraph self.old → TakesGarbage self.old → TellsUnlinked (lost_in self.old) (N.telling out.old) (N.telling out.new)) }
     {
         self.collector.whole(&mut self.heaps, out)
     }
@@ -63,6 +72,9 @@ impl Host {
         ensures collects { Collects self.old self.new (N.telling out.old) (N.telling out.new) }
         ensures swept { IsSwept (machine self.old) (machine self.new) (N.telling out.old) (N.telling out.new) }
         ensures over { self.new.running ≡ None }
+        ensures takes { (ds : List Name) → CannotMiss self.old ds → Takes ds (N.telling out.old) (N.telling out.new) }
+        // a collection that begins now can't miss what nothing reaches
+        ensures garbage { TakesGarbage self.new }
     {
         self.collector.gc(&mut self.heaps, out);
     }
@@ -74,6 +86,7 @@ impl Host {
         ensures exact { OnOk result (HasWhatIsReached self.new.heaps.heap) }
         ensures collects { Collects self.old self.new (N.telling out.old) (N.telling out.new) }
         ensures over { self.new.running ≡ None }
+        ensures takes { (ds : List Name) → CannotMiss self.old ds → Takes ds (N.telling out.old) (N.telling out.new) }
     {
         self.collector.settle(&mut self.heaps, out)
     }

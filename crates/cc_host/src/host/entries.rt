@@ -1,7 +1,7 @@
 //! Entries of weak maps.
 ghost use Rattle.std.specs.Prelude.{◌≡◌, Some, None, OnErr, OnOk};
 ghost use Rattle.cc_model.specs.Graph as graph;
-ghost use Rattle.cc_host.specs.Calls.{Always, Does};
+ghost use Rattle.cc_host.specs.Calls.{Does, Tries};
 ghost use Rattle.cc_host.specs.Hosted.{IsRooted};
 ghost use Rattle.cc_host.specs.Stops.{IsStoppedBy, IsStoppedOrRefused, stop_entry, stop_setting};
 
@@ -15,11 +15,12 @@ impl Host {
     /// is a reflector is preserved.
     ///
     /// `NoMemory` leaves the graph as it is (`tried`), and comes only where there was no entry.
+    #[tactic(auto, using(crate::proofs::KeptDoomed::still_doomed))]
     pub fn set_entry(&mut self, the_map: Object, key: Object, value: Object) -> Result<(), Stop>
         ensures stops { IsStoppedOrRefused (stop_setting self.old the_map key value) result }
         ensures does { OnOk result (Does (IsRooted self.old the_map × IsRooted self.old key × IsRooted self.old value)
             (λ g. graph.set_entry g (Some the_map.name) (Some key.name) (Some value.name)) self.old self.new) }
-        ensures tried { OnErr result (Does Always (λ g. g) self.old self.new) }
+        ensures tried { OnErr result (Tries (IsRooted self.old key × IsRooted self.old value) self.old self.new) }
     {
         let the_map = self.map(the_map)?;
         let key = self.script(key)?;

@@ -1,5 +1,5 @@
 //! Objects made. Each stands in a root from then on.
-ghost use Rattle.std.specs.Prelude.{◌≡◌, ◌+◌, ◌⊎◌, Some, None, Err, IfOk, OnErr, OnOk};
+ghost use Rattle.std.specs.Prelude.{◌≡◌, ◌+◌, ◌⊎◌, Option, Some, None, Err, IfOk, OnErr, OnOk};
 ghost use Rattle.cc_lists.specs.Members.{Among};
 ghost use Rattle.cc_names.specs.declared.name.Name.{Name};
 ghost use Rattle.cc_names.specs.Names.{native, object};
@@ -8,7 +8,8 @@ ghost use Rattle.cc_model.specs.declared.command.Command.TheVariants as command;
 ghost use Rattle.cc_model.specs.Graph as graph;
 ghost use Rattle.cc_model.specs.Heap.{register};
 ghost use Rattle.cc_model.specs.WellFormed.{names_there};
-ghost use Rattle.cc_host.specs.Calls.{Always, Does, TellsFreed};
+ghost use Rattle.cc_heaps.specs.Standing.{IsReached};
+ghost use Rattle.cc_host.specs.Calls.{Always, Does, TellsFreed, Tries};
 ghost use Rattle.cc_host.specs.Hosted.{IsRooted, IsThere};
 ghost use Rattle.cc_host.specs.Stops.{IsStoppedOrRefused, are_natives_made, are_scripts_made, stop_making, stop_proxy};
 
@@ -39,6 +40,8 @@ impl Host {
         ensures silent { OnErr result (N.telling out.new ≡ N.telling out.old) }
         // no other object comes
         ensures came { IfOk result (λ x. (y : Name) → Among y (names_there self.new.heaps.heap) → Among y (names_there self.old.heaps.heap) ⊎ (y ≡ x.name)) }
+        // what is reached stays so, where the root held nothing
+        ensures reaches { OnOk result (register self.old.heaps.heap (n_register r) ≡ None → (x : Option Name) → IsReached self.old.heaps.heap x → IsReached self.new.heaps.heap x) }
     {
         if r >= ROOTS || slots > MOST_SLOTS {
             return Err(Stop::Index);
@@ -92,13 +95,14 @@ impl Host {
     /// reflector is preserved.
     ///
     /// `Full` and `NoMemory` leave the graph as it is (`tried`): the delegate was exposed to script.
+    #[tactic(auto, using(crate::proofs::KeptDoomed::still_doomed))]
     pub fn new_proxy(&mut self, r: RegNo, delegate: Object) -> Result<Object, Stop>
         ensures stops { IsStoppedOrRefused (stop_proxy self.old delegate r) result }
         ensures does { OnOk result (Does (IsRooted self.old delegate) (λ g. graph.with_proxy g r (Some delegate.name)) self.old self.new) }
         ensures there { IfOk result (λ x. IsThere self.new x) }
         ensures name { IfOk result (λ x. x.name ≡ object (self.old.heaps.heap.scripts_made + 1)) }
         ensures held { IfOk result (λ x. register self.new.heaps.heap (s_register r) ≡ Some x.name) }
-        ensures tried { OnErr result (Does Always (λ g. g) self.old self.new) }
+        ensures tried { OnErr result (Tries (IsRooted self.old delegate) self.old self.new) }
     {
         let delegate = self.script(delegate)?;
         if r >= ROOTS {

@@ -7,7 +7,7 @@ ghost use Rattle.cc_model.specs.Checks.{reflector_of};
 ghost use Rattle.cc_model.specs.Graph as graph;
 ghost use Rattle.cc_heaps.specs.Changes.{slot_held};
 ghost use Rattle.cc_heaps.specs.Standing.{IsReachedOrReflects};
-ghost use Rattle.cc_host.specs.Calls.{Always, Does, TellsFreed, stored};
+ghost use Rattle.cc_host.specs.Calls.{Does, TellsFreed, Tries, stored};
 ghost use Rattle.cc_host.specs.Hosted.{IsRooted, IsRootedIfAny, IsThere, named};
 ghost use Rattle.cc_host.specs.Stops.{IsStoppedBy, IsStoppedOrRefused, stop_moving, stop_native, stop_reflector, stop_rooting, stop_script, stop_storing};
 
@@ -155,12 +155,13 @@ impl Host {
     ///
     /// `NoMemory` leaves the graph as it is (`tried`), and comes only where the native has no reflector. The native is a
     /// suspect then.
+    #[tactic(auto, using(crate::proofs::KeptDoomed::still_doomed))]
     pub fn wrap<N: Notices>(&mut self, x: Object, out: &mut N) -> Result<Object, Stop>
         ensures stops { IsStoppedOrRefused (stop_native self.old x) result }
         ensures does { OnOk result (Does (IsRooted self.old x) (λ g. graph.wrapped g (Some x.name)) self.old self.new) }
         ensures there { IfOk result (λ y. IsThere self.new y) }
         ensures name { IfOk result (λ y. Some y.name ≡ reflector_of (Some x.name)) }
-        ensures tried { OnErr result (Does Always (λ g. g) self.old self.new) }
+        ensures tried { OnErr result (Tries (IsRooted self.old x) self.old self.new) }
         ensures tells { TellsFreed self.old self.new (N.telling out.old) (N.telling out.new) }
     {
         let key = self.native(x)?;

@@ -1,5 +1,5 @@
 //! Objects made, each in a root, and where they stand.
-ghost use Rattle.std.specs.Prelude.{◌≡◌, ◌⊎◌, ◌+◌, ◌<◌, ◌≤◌, Some, None, Err, IsTrue, IfOk, OnOk, OnErr};
+ghost use Rattle.std.specs.Prelude.{◌≡◌, ◌⊎◌, ◌+◌, ◌<◌, ◌≤◌, Option, Some, None, Err, IsTrue, IfOk, OnOk, OnErr};
 ghost use Rattle.cc_lists.specs.Members.{Among};
 ghost use Rattle.cc_names.specs.Names.{native, object};
 ghost use Rattle.cc_names.specs.Sizes.{most_slots};
@@ -14,7 +14,7 @@ ghost use Rattle.cc_heaps.specs.Changes.{native_name, script_name};
 ghost use Rattle.cc_heaps.specs.Leaving.{TellsWhatIsFreed};
 ghost use Rattle.cc_heaps.specs.Standing.{IsReached};
 ghost use Rattle.cc_host.specs.Hosted.{roots};
-ghost use Rattle.cc_host.specs.Steps.{IsReady, IsStep};
+ghost use Rattle.cc_host.specs.Steps.{IsReady, IsStep, IsTried};
 
 use crate::steps::scripts::expose_key;
 use cc_heaps::{Heaps, MakeStop};
@@ -40,6 +40,7 @@ pub(crate) fn make_native<N: Notices>(
     ensures tells { TellsWhatIsFreed heaps.old.heap heaps.new.heap (N.telling out.old) (N.telling out.new) }
     ensures silent { OnErr result (N.telling out.new ≡ N.telling out.old) }
     ensures came { OnOk result ((x : Name) → Among x (names_there heaps.new.heap) → Among x (names_there heaps.old.heap) ⊎ (x ≡ native (heaps.old.heap.natives_made + 1))) }
+    ensures reaches { OnOk result (register heaps.old.heap (n_register r) ≡ None → (x : Option Name) → IsReached heaps.old.heap x → IsReached heaps.new.heap x) }
 {
     heaps.new_native(r, slots, out)?;
     match heaps.native_reg(r) {
@@ -97,7 +98,7 @@ pub(crate) fn make_proxy(heaps: &mut Heaps, r: RegNo, delegate: SKey) -> Result<
     ensures held { OnOk result (register heaps.new.heap (s_register r) ≡ Some (object (heaps.old.heap.scripts_made + 1))) }
     ensures full { result ≡ Err MakeStop.Full → heaps.old.heap.limits.scripts ≤ heaps.old.heap.scripts_made }
     ensures full_always { heaps.old.heap.limits.scripts ≤ heaps.old.heap.scripts_made → result ≡ Err MakeStop.Full }
-    ensures tried { OnErr result (IsStep (Unit {0}) (λ g. g) heaps.old heaps.new) }
+    ensures tried { OnErr result (IsTried (IsReached heaps.old.heap (script_name heaps.old (Some delegate))) heaps.old heaps.new) }
 {
     expose_key(heaps, delegate);
     heaps.new_proxy(r, delegate)?;

@@ -11,7 +11,7 @@ ghost use Rattle.cc_heaps.specs.Changes.{IsScriptThere, script_name};
 ghost use Rattle.cc_heaps.specs.Leaving.{NothingLeft};
 ghost use Rattle.cc_heaps.specs.Standing.{IsReached, IsReachedOrReflects, MayHold};
 ghost use Rattle.cc_host.specs.Exposing.{AreSame, Exposes};
-ghost use Rattle.cc_host.specs.Steps.{IsReady, IsStep};
+ghost use Rattle.cc_host.specs.Steps.{IsReady, IsStep, IsTried};
 
 use cc_heaps::Heaps;
 use cc_names::{NoMemory, RegNo, SKey, SlotNo};
@@ -21,7 +21,7 @@ use cc_wrappers::preserve;
 pub(crate) fn expose_key(heaps: &mut Heaps, key: SKey)
     requires ready { IsReady heaps.old }
     requires live { IsTrue (is_there heaps.old.scripts key.0) }
-    ensures exposes { Exposes heaps.old heaps.new }
+    ensures exposes { Exposes (IsReached heaps.old.heap (script_name heaps.old (Some key))) heaps.old heaps.new }
     ensures ready { IsReady heaps.new }
     ensures black { colour_at heaps.new.scripts key.0 ≡ Some Black }
 {
@@ -32,7 +32,7 @@ pub(crate) fn expose_key(heaps: &mut Heaps, key: SKey)
 fn expose_content(heaps: &mut Heaps, content: Option<SKey>)
     requires ready { IsReady heaps.old }
     requires there { IsScriptThere heaps.old content }
-    ensures exposes { Exposes heaps.old heaps.new }
+    ensures exposes { Exposes (IsReached heaps.old.heap (script_name heaps.old content)) heaps.old heaps.new }
     ensures ready { IsReady heaps.new }
     ensures black { IfSome content (λ k. colour_at heaps.new.scripts k.0 ≡ Some Black) }
 {
@@ -97,7 +97,7 @@ pub(crate) fn set_entry(
     requires value { IsTrue (is_there heaps.old.scripts value.0) }
     ensures step { OnOk result (IsStep (IsReached heaps.old.heap (script_name heaps.old (Some the_map)) × IsReached heaps.old.heap (script_name heaps.old (Some key)) × IsReached heaps.old.heap (script_name heaps.old (Some value)))
         (λ g. graph.set_entry g (script_name heaps.old (Some the_map)) (script_name heaps.old (Some key)) (script_name heaps.old (Some value))) heaps.old heaps.new) }
-    ensures tried { OnErr result (IsStep (Unit {0}) (λ g. g) heaps.old heaps.new) }
+    ensures tried { OnErr result (IsTried (IsReached heaps.old.heap (script_name heaps.old (Some key)) × IsReached heaps.old.heap (script_name heaps.old (Some value))) heaps.old heaps.new) }
     ensures none_left { NothingLeft heaps.old.heap heaps.new.heap }
 {
     expose_key(heaps, key);

@@ -1,13 +1,19 @@
 use Rattle.std.proofs.Common.{◌≡◌, Some, sym, ◌∙◌, ap, subst}
 use Rattle.cc_counted.specs.declared.held.Held.TheVariants.{Script}
 use Rattle.cc_model.specs.Heap.{Heap}
-use Rattle.cc_heaps.specs.Changes.{IsBlackHeld}
+use Rattle.cc_heaps.specs.Changes.{IsBlackHeld, held_name}
+use Rattle.cc_heaps.specs.Standing.{IsReached}
+use Rattle.cc_host.specs.Steps.{IsTried}
 use Rattle.cc_host.proofs.Exposed.{exposed-names, exposed-step}
 use Rattle.cc_host.proofs.Exposing.{exposed-slots, exposed-stays, same-step}
 use Rattle.cc_host.proofs.steps.expose_held.Goals as goal
 
 pub returns-in-Some-Script-clause-step : goal.returns-in-Some-Script-clause-step
-returns-in-Some-Script-clause-step c = exposed-step c.args.heaps.now c.expose_key.new.heaps c.expose_key.ensures.exposes c.requires.ready
+returns-in-Some-Script-clause-step c =
+    let v = c.args.heaps.now in
+    let of : c.in-Some-Script.field-0 ≡ Script c.in-Some-Script.key = rw c.in-Some-Script.is at c.in-Some-Script.field-0-is in
+    subst (λ x. IsTried (IsReached v.heap (held_name v x)) v c.expose_key.new.heaps) (sym (c.in-Some-Script.is ∙ ap (λ x. Some x) of))
+    (exposed-step v c.expose_key.new.heaps c.expose_key.ensures.exposes c.requires.ready)
 
 pub returns-in-Some-Script-clause-black : goal.returns-in-Some-Script-clause-black
 returns-in-Some-Script-clause-black c =

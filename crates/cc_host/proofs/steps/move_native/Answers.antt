@@ -7,7 +7,7 @@ use Rattle.cc_heaps.specs.Leaving.{NoneCame}
 use Rattle.cc_heaps.specs.Standing.{IsReached}
 use Rattle.cc_host.proofs.Around.{around-step, around-tells}
 use Rattle.cc_host.proofs.Spare.{move-leaves}
-use Rattle.cc_host.proofs.Storing.{moved-kept, moved-none_came, moved-stands, live-same, within-same}
+use Rattle.cc_host.proofs.Storing.{moved-kept, moved-leaves, moved-none_came, moved-stands, live-same, within-same}
 use Rattle.cc_host.proofs.steps.move_native.Given as given
 use Rattle.cc_host.proofs.steps.move_native.Goals as goal
 
@@ -51,6 +51,7 @@ returns-clause-step g c =
     around-step v w u c.let_go.new.heaps c.requires.ready h (kept g c) c.let_go.ensures.empty (IsReached v.heap x × IsReached v.heap y)
     (λ k. graph.move_slot k x c.args.i y c.args.j z) (move-leaves x c.args.i y c.args.j z) (λ p. p.0)
     (λ p. moved-stands v w h c.requires.to_live u c.args.i c.args.from c.args.j c.requires.from_live c.move_slot.ensures.stands p.1)
+    (λ p. moved-leaves v w h c.requires.to_live u c.args.i c.args.from c.args.j c.requires.from_live c.move_slot.ensures.heap p.1)
 
 pub returns-clause-tells : goal.returns-clause-tells
 returns-clause-tells g c =

@@ -1,4 +1,8 @@
+use Rattle.std.proofs.Common.{sym, ap, subst}
+use Rattle.cc_heaps.specs.Keyed.{Keyed}
 use Rattle.cc_heaps.proofs.FewCounts.{none-owned}
+use Rattle.cc_host.specs.Missing.{KeepsDoomed}
+use Rattle.cc_host.proofs.KeptDoomed.{hold_native-doomed}
 use Rattle.cc_heaps.specs.Changes.{native_name}
 use Rattle.cc_host.proofs.Spare.{root-spared}
 use Rattle.cc_host.proofs.steps.root_native.Goals as goal
@@ -14,4 +18,5 @@ returns-clause-step g c =
       kept = e.kept;
       spared = root-spared v c.set_native_reg.new.self c.args.r (native_name v c.args.content) c.requires.within c.requires.ready e.heap;
       stands = e.stands;
+      doomed = λ p. subst (KeepsDoomed v.heap) (sym (ap (λ (w : Keyed). w.heap) e.heap)) (hold_native-doomed v.heap c.args.r (native_name v c.args.content) p);
     }

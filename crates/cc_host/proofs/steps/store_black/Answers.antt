@@ -9,7 +9,7 @@ use Rattle.cc_heaps.proofs.FewCounts.{none-owned}
 use Rattle.cc_host.proofs.Around.{around-none_came, around-step, around-tells}
 use Rattle.cc_host.proofs.Exposing.{stays-same}
 use Rattle.cc_host.proofs.Spare.{slot-leaves}
-use Rattle.cc_host.proofs.Storing.{stored-kept, stored-none_came, stored-stands, within-same}
+use Rattle.cc_host.proofs.Storing.{stored-kept, stored-leaves, stored-none_came, stored-stands, within-same}
 use Rattle.cc_host.proofs.steps.store_black.Given as given
 use Rattle.cc_host.proofs.steps.store_black.Goals as goal
 
@@ -51,6 +51,7 @@ returns-clause-step g c =
     around-step v w u c.let_go.new.heaps c.requires.ready h (kept g c) c.let_go.ensures.empty (IsReached v.heap x × IsReached v.heap y)
     (λ k. graph.set_slot k x c.args.i y) (slot-leaves x c.args.i y) (λ p. p.0)
     (λ p. stored-stands v w h c.requires.live u c.args.i c.args.content c.requires.there c.store_native.ensures.stands p.1)
+    (λ p. stored-leaves v w h c.requires.live u c.args.i c.args.content c.requires.there c.store_native.ensures.heap p.1)
 
 pub returns-clause-none_came : goal.returns-clause-none_came
 returns-clause-none_came g c =

@@ -36,7 +36,7 @@ returns-clause-step g c =
     let p = IsReached v.heap x × IsReached v.heap y in
     subst (λ z. IsStep p (λ k. graph.set_slot k z c.args.i y) v u) near
     (subst (λ z. IsStep p (λ k. graph.set_slot k (native_name w (Some c.args.key)) c.args.i z) v u) same
-    (step-after v w u c.requires.ready e.step c.store_black.ensures.none_came
+    (step-after v w u c.requires.ready e.step c.store_black.ensures.none_came (λ r. r.1)
     (λ r. (subst (IsReached w.heap) (sym near) (e.reached x r.0), subst (IsReached w.heap) (sym same) (e.reached y r.1))) c.store_black.ensures.step))
 
 pub returns-clause-tells : goal.returns-clause-tells

@@ -1,5 +1,5 @@
 use Rattle.std.proofs.Common.{[], Some, sym, subst}
-use Rattle.std.proofs.lemmas.Result.{on_err_weaker, on_ok_weaker}
+use Rattle.std.proofs.lemmas.Result.{on_err_weaker}
 use Rattle.cc_lists.specs.Members.{Among}
 use Rattle.cc_names.specs.Names.{native}
 use Rattle.cc_model.specs.Graph as graph
@@ -10,6 +10,9 @@ use Rattle.cc_heaps.specs.Standing.{IsReached, StandsAfter}
 use Rattle.cc_heaps.proofs.FewCounts.{none-owned}
 use Rattle.cc_heaps.proofs.Kept.{KeepsAll-reached}
 use Rattle.cc_host.specs.Holding.{IsLetGo}
+use Rattle.cc_host.specs.Missing.{KeepsDoomed}
+use Rattle.cc_host.proofs.KeptDoomed.{wrapped-doomed}
+use Rattle.cc_host.proofs.ScriptSteps.{ok-both}
 use Rattle.cc_host.proofs.Around.{around-step, nothing-step}
 use Rattle.cc_host.proofs.Composing.{tells-after}
 use Rattle.cc_host.proofs.Spare.{wrapped-leaves}
@@ -37,10 +40,12 @@ returns-clause-step g c =
     let u = c.wrap-made.new.heaps in
     let h = c.hold.ensures.held in
     let x = native_name v (Some c.args.key) in
-    on_ok_weaker c.wrap-made.result (λ stands. around-step v w u c.let_go.new.heaps c.requires.ready h (kept g c) c.let_go.ensures.empty (IsReached v.heap x)
+    let held = held-reached v w h c.requires.live in
+    ok-both c.wrap-made.result c.wrap-made.ensures.heap c.wrap-made.ensures.stands (λ heap stands.
+    around-step v w u c.let_go.new.heaps c.requires.ready h (kept g c) c.let_go.ensures.empty (IsReached v.heap x)
     (λ k. graph.wrapped k x) (wrapped-leaves x) (λ p. p)
-    (λ p. subst (λ z. StandsAfter w.heap u.heap (λ k. graph.wrapped k z)) (sym (native_name-is v w h.keys c.args.key c.requires.live))
-    (stands (held-reached v w h c.requires.live)))) c.wrap-made.ensures.stands
+    (λ p. subst (λ z. StandsAfter w.heap u.heap (λ k. graph.wrapped k z)) (sym (native_name-is v w h.keys c.args.key c.requires.live)) (stands held))
+    (λ p. subst (KeepsDoomed w.heap) (sym heap) (wrapped-doomed w.heap (Some (native (the_number w c.args.key.0))) held)))
 
 pub returns-clause-tried : goal.returns-clause-tried
 returns-clause-tried g c =

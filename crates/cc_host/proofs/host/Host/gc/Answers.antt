@@ -1,7 +1,28 @@
+use Rattle.std.proofs.Common.{List, subst}
+use Rattle.cc_names.specs.declared.name.Name.{Name}
+use Rattle.cc_collector.specs.Kept.{machine_of}
+use Rattle.cc_host.specs.Hosted.{Hosted}
+use Rattle.cc_host.specs.Missing.{CannotMiss, Takes}
+use Rattle.cc_host.proofs.Keeping.{hosted}
 use Rattle.cc_host.proofs.Collecting.{collected-keeps}
+use Rattle.cc_host.proofs.Taking.{gc-takes, gc-takes_garbage}
 use Rattle.cc_host.proofs.host.Host.gc.Goals as goal
 
 pub invariant_of-self : goal.invariant_of-self
 invariant_of-self g c =
     let e = c.gc.ensures in
     collected-keeps c.self.inside.heaps c.gc.new.heaps c.self.inside.collector c.gc.new.self c.self.inside.mark e.keeps e.suspected e.runs c.self.invariant
+
+pub returns-clause-takes : goal.returns-clause-takes
+returns-clause-takes g c =
+    let telling = g.N.Notices.telling in
+    let old : Hosted = hosted c.self.inside.heaps c.self.inside.collector c.self.inside.mark in
+    subst (λ (h : Hosted). (ds : List Name) → CannotMiss h ds → Takes ds (telling c.args.out.now) (telling c.gc.new.out)) c.self.view_is
+    (gc-takes old c.self.invariant.runs (machine_of c.gc.new.heaps.heap c.gc.new.self) (telling c.args.out.now) (telling c.gc.new.out) c.gc.ensures.swept)
+
+pub returns-clause-garbage : goal.returns-clause-garbage
+returns-clause-garbage g c =
+    let telling = g.N.Notices.telling in
+    let old : Hosted = hosted c.self.inside.heaps c.self.inside.collector c.self.inside.mark in
+    let new : Hosted = hosted c.gc.new.heaps c.gc.new.self c.self.inside.mark in
+    gc-takes_garbage old new (telling c.args.out.now) (telling c.gc.new.out) c.self.invariant c.gc.ensures.over c.gc.ensures.swept

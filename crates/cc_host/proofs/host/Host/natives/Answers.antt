@@ -1,4 +1,4 @@
-use Rattle.std.proofs.Common.{◌≡◌, ◌∙◌, length, ap}
+use Rattle.std.proofs.Common.{◌∙◌, length, ap}
 use Rattle.cc_counted.specs.Counts.{Counts}
 use Rattle.cc_heaps.specs.Keyed.{counts_of}
 use Rattle.cc_host.specs.Hosted.{Hosted}

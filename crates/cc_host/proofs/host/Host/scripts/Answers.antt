@@ -1,4 +1,4 @@
-use Rattle.std.proofs.Common.{◌≡◌, ◌∙◌, length, List, ap, subst}
+use Rattle.std.proofs.Common.{◌∙◌, length, List, ap, subst}
 use Rattle.cc_script.specs.Objects.{Object}
 use Rattle.cc_host.specs.Hosted.{Hosted, IsKept}
 use Rattle.cc_host.proofs.Counting.{scripts-many}

@@ -3,7 +3,7 @@ use Rattle.cc_names.specs.declared.number.SKey.{SKey}
 use Rattle.cc_host.specs.declared.stop.Stop.{Stop}
 use Rattle.cc_host.specs.declared.stop.Stop.TheVariants.{NoMemory}
 use Rattle.cc_host.specs.Stops.{IsStoppedOrRefused, stop_entry, stop_map, stop_script, stop_setting}
-use Rattle.cc_host.proofs.Keeping.{step-keeps}
+use Rattle.cc_host.proofs.Keeping.{step-keeps, tried-keeps}
 use Rattle.cc_host.proofs.Stopping.{at-first, at-second, or-passed, or-refused, or-stopped, passed, stopped}
 use Rattle.cc_host.proofs.host.Host.set_entry.Goals as goal
 
@@ -55,7 +55,7 @@ returns-clause-stops c =
 
 pub invariant_of-self : goal.invariant_of-self
 invariant_of-self c =
-    step-keeps c.self.inside.heaps c.set_entry.new.heaps c.self.inside.collector c.self.inside.mark c.in_err-set_entry.ensures.tried c.self.invariant
+    tried-keeps c.self.inside.heaps c.set_entry.new.heaps c.self.inside.collector c.self.inside.mark c.in_err-set_entry.ensures.tried c.self.invariant
 
 pub invariant_of-self-2 : goal.invariant_of-self-2
 invariant_of-self-2 c =

@@ -1,7 +1,34 @@
+use Rattle.std.proofs.Common.{List, ◌<◌, subst}
+use Rattle.cc_names.specs.declared.name.Name.{Name}
+use Rattle.cc_laws_run.specs.Missing.{lost}
+use Rattle.cc_collector.specs.Collected.{progress_of}
+use Rattle.cc_host.specs.Hosted.{Hosted}
+use Rattle.cc_host.specs.Missing.{CannotMiss, IsOfAGraph, TakesBySlice, TakesGarbage}
+use Rattle.cc_host.proofs.Keeping.{hosted}
 use Rattle.cc_host.proofs.Collecting.{collected-keeps}
+use Rattle.cc_host.proofs.Taking.{slice-takes, slice-takes_lost}
 use Rattle.cc_host.proofs.host.Host.slice.Goals as goal
 
 pub invariant_of-self : goal.invariant_of-self
 invariant_of-self g c =
     let e = c.slice.ensures in
     collected-keeps c.self.inside.heaps c.slice.new.heaps c.self.inside.collector c.slice.new.collector c.self.inside.mark e.keeps e.suspected e.runs c.self.invariant
+
+pub returns-clause-takes : goal.returns-clause-takes
+returns-clause-takes g c =
+    let e = c.slice.ensures in
+    let telling = g.N.Notices.telling in
+    let old : Hosted = hosted c.self.inside.heaps c.self.inside.collector c.self.inside.mark in
+    let new : Hosted = hosted c.slice.new.heaps c.slice.new.collector c.self.inside.mark in
+    subst (λ (h : Hosted). (ds : List Name) → CannotMiss h ds → TakesBySlice ds new (progress_of c.slice.result) (telling c.args.out.now) (telling c.slice.new.out)) c.self.view_is
+    (slice-takes old c.self.invariant.runs c.args.units 0 e.sliced.0 new (progress_of c.slice.result) (telling c.args.out.now) (telling c.slice.new.out) e.sliced.1 e.stands)
+
+pub returns-clause-begins : goal.returns-clause-begins
+returns-clause-begins g c =
+    let e = c.slice.ensures in
+    let telling = g.N.Notices.telling in
+    let old : Hosted = hosted c.self.inside.heaps c.self.inside.collector c.self.inside.mark in
+    let new : Hosted = hosted c.slice.new.heaps c.slice.new.collector c.self.inside.mark in
+    subst (λ (h : Hosted). 0 < c.args.units → IsOfAGraph h → TakesGarbage h →
+    TakesBySlice (lost h.heaps.heap) new (progress_of c.slice.result) (telling c.args.out.now) (telling c.slice.new.out)) c.self.view_is
+    (slice-takes_lost old c.self.invariant.runs c.args.units 0 e.sliced.0 new (progress_of c.slice.result) (telling c.args.out.now) (telling c.slice.new.out) e.sliced.1 e.stands)

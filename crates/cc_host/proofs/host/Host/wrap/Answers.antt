@@ -1,13 +1,15 @@
-use Rattle.std.proofs.Common.{subst}
+use Rattle.std.proofs.Common.{subst, ◌≡◌, Some, sym}
 use Rattle.cc_lists.proofs.KnownBytes.{on_err_of}
-use Rattle.cc_host.specs.Hosted.{Hosted}
-use Rattle.cc_host.specs.Calls.{Always, Does}
-use Rattle.cc_host.proofs.Keeping.{hosted, step-does, step-keeps}
+use Rattle.cc_heaps.specs.Standing.{IsReached}
+use Rattle.cc_host.specs.Hosted.{Hosted, IsRooted}
+use Rattle.cc_host.specs.Calls.{Tries}
+use Rattle.cc_host.proofs.Keeping.{hosted, step-keeps, tried-does, tried-keeps}
+use Rattle.cc_heaps.specs.Changes.{native_name}
 use Rattle.cc_host.proofs.host.Host.wrap.Goals as goal
 
 pub invariant_of-self : goal.invariant_of-self
 invariant_of-self g c =
-    step-keeps c.self.inside.heaps c.wrap_native.new.heaps c.self.inside.collector c.self.inside.mark c.in_err-made.ensures.tried c.self.invariant
+    tried-keeps c.self.inside.heaps c.wrap_native.new.heaps c.self.inside.collector c.self.inside.mark c.in_err-made.ensures.tried c.self.invariant
 
 pub returns-in_err-made-clause-tried : goal.returns-in_err-made-clause-tried
 returns-in_err-made-clause-tried g c =
@@ -15,7 +17,9 @@ returns-in_err-made-clause-tried g c =
     let b = c.self.inside.collector in
     let m = c.self.inside.mark in
     on_err_of c.from_residual-in_err-made.result
-    (subst (λ (k : Hosted). Does Always (λ g. g) k (hosted w b m)) c.self.view_is (step-does c.self.inside.heaps w b m c.in_err-made.ensures.tried))
+    (subst (λ (k : Hosted). Tries (IsRooted k c.args.x) k (hosted w b m)) c.self.view_is
+    (subst (λ x. Tries (IsReached c.self.inside.heaps.heap x) (hosted c.self.inside.heaps b m) (hosted w b m)) (subst (λ (k : Hosted). native_name k.heaps (Some c.in_ok-key.key) ≡ Some c.args.x.name) (sym c.self.view_is) c.in_ok-key.ensures.name)
+    (tried-does c.self.inside.heaps w b m c.in_err-made.ensures.tried)))
 
 pub invariant_of-self-2 : goal.invariant_of-self-2
 invariant_of-self-2 g c =

@@ -1,8 +1,10 @@
-use Rattle.std.proofs.Common.{◌≡◌, ◌+◌, None, Some, sym, ◌∙◌, ap, arith}
+use Rattle.std.proofs.Common.{◌≡◌, ◌+◌, [], None, Some, sym, ◌∙◌, ap, subst, arith}
 use Rattle.cc_names.specs.Names.{native}
 use Rattle.cc_heaps.specs.Changes.{native_name}
 use Rattle.cc_host.specs.Hosted.{spare}
-use Rattle.cc_host.proofs.Making.{native-held, native-beside, native-came}
+use Rattle.cc_host.specs.Missing.{KeepsDoomed}
+use Rattle.cc_host.proofs.KeptDoomed.{make_native-doomed}
+use Rattle.cc_host.proofs.Making.{native-beside, native-came, native-held, native-reaches}
 use Rattle.cc_host.proofs.steps.making.make_native.Goals as goal
 
 pub unreachable-requires : goal.unreachable-requires
@@ -24,7 +26,13 @@ returns-clause-step g c =
       spared = native-beside h w.heap c.args.r c.args.slots (omega (arith, c.requires.within)) c.requires.slots (λ few. let full = e.full_always few in absurd (cc)) c.requires.ready.order.sound e.heap spare (λ same. omega (arith, c.requires.within, same))
           ∙ c.requires.ready.spared;
       stands = λ d. e.stands;
+      doomed = λ d. subst (KeepsDoomed h) (sym e.heap) (make_native-doomed h c.requires.ready.order.sound.well_formed c.args.r c.args.slots);
     }
+
+pub returns-clause-reaches : goal.returns-clause-reaches
+returns-clause-reaches g c empty =
+    let e = c.in_ok-new_native.ensures in
+    native-reaches c.args.heaps.now.heap c.new_native.new.self.heap c.args.r c.args.slots empty (e.kept.order [] c.requires.ready.order).sound.well_formed e.heap
 
 pub returns-clause-name : goal.returns-clause-name
 returns-clause-name g c =

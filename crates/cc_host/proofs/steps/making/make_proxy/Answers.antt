@@ -1,10 +1,12 @@
-use Rattle.std.proofs.Common.{◌∙◌, ap, subst}
+use Rattle.std.proofs.Common.{sym, ◌∙◌, ap, subst}
 use Rattle.cc_names.specs.declared.register.Reg.TheVariants.{N}
 use Rattle.cc_model.specs.Graph as graph
 use Rattle.cc_model.specs.Heap.{Heap, register}
 use Rattle.cc_script.specs.Objects.{name_at}
 use Rattle.cc_heaps.specs.Standing.{IsReached, StandsAfter}
 use Rattle.cc_host.specs.Hosted.{spare}
+use Rattle.cc_host.specs.Missing.{KeepsDoomed}
+use Rattle.cc_host.proofs.KeptDoomed.{doomed-then, make_proxy-doomed}
 use Rattle.cc_host.proofs.Exposed.{KeepsAll-after, StandsAfter-still}
 use Rattle.cc_host.proofs.Making.{proxy-beside}
 use Rattle.cc_host.proofs.steps.making.make_proxy.Goals as goal
@@ -22,4 +24,8 @@ returns-clause-step c =
       stands = λ d. StandsAfter-still u.heap v.heap w.heap e.exposes.stands
           (subst (λ x. IsReached v.heap x → StandsAfter v.heap w.heap (λ g. graph.with_proxy g c.args.r x)) (e.exposes.same c.args.delegate.0 c.requires.live).name p.stands
           (e.exposes.reached _ d));
+      doomed = λ d. doomed-then u.heap v.heap w.heap (e.exposes.doomed d)
+          (subst (KeepsDoomed v.heap) (sym p.heap)
+          (make_proxy-doomed v.heap e.ready.order.sound.well_formed c.args.r (name_at v.scripts c.args.delegate.0)
+          (subst (IsReached v.heap) (sym (e.exposes.same c.args.delegate.0 c.requires.live).name) (e.exposes.reached _ d))));
     }

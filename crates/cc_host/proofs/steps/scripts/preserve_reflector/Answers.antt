@@ -5,6 +5,8 @@ use Rattle.cc_heaps.specs.Keyed.{Keyed}
 use Rattle.cc_heaps.specs.Standing.{IsReached, MayHold, StandsAfter}
 use Rattle.cc_heaps.proofs.Kept.{KeepsAll-black}
 use Rattle.cc_host.specs.Exposing.{AreSame}
+use Rattle.cc_host.specs.Missing.{KeepsDoomed}
+use Rattle.cc_host.proofs.KeptDoomed.{doomed-then, preserve-doomed}
 use Rattle.cc_host.proofs.Exposed.{KeepsAll-after, StandsAfter-still, exposed-none_left}
 use Rattle.cc_host.proofs.ScriptSteps.{StaysBeside, beside-none_left, beside-spared, preserve-beside}
 use Rattle.cc_host.proofs.steps.scripts.preserve_reflector.Goals as goal
@@ -35,6 +37,9 @@ returns-clause-step c =
       spared = beside-spared v w (beside c) e.ready.spared;
       stands = λ d. StandsAfter-still u.heap v.heap w.heap e.exposes.stands
           (subst (λ x. IsReached v.heap x → StandsAfter v.heap w.heap (λ g. graph.preserve g x)) (name c) c.preserve.ensures.stands (e.exposes.reached _ d));
+      doomed = λ d. doomed-then u.heap v.heap w.heap (e.exposes.doomed d)
+          (subst (KeepsDoomed v.heap) (sym (ap (λ (x : Keyed). x.heap) c.preserve.ensures.heap))
+          (preserve-doomed v.heap e.ready.order.sound.well_formed (name_at v.scripts c.args.key.0) (subst (IsReached v.heap) (sym (name c)) (e.exposes.reached _ d))));
     }
 
 pub returns-clause-keys : goal.returns-clause-keys

@@ -1,5 +1,7 @@
 use Rattle.std.proofs.Common.{[], sym, subst}
 use Rattle.cc_heaps.specs.Changes.{script_name}
+use Rattle.cc_host.specs.Missing.{KeepsDoomed}
+use Rattle.cc_host.proofs.KeptDoomed.{hold_script-doomed}
 use Rattle.cc_host.proofs.ScriptSteps.{StaysBeside, beside-none_left, beside-spared, hold_script-beside}
 use Rattle.cc_host.proofs.steps.scripts.root_script.Goals as goal
 
@@ -13,8 +15,9 @@ beside c =
 
 pub returns-clause-step : goal.returns-clause-step
 returns-clause-step c =
+    let v = c.args.heaps.now in
     let e = c.set_script_reg.ensures in
-    record { kept = e.kept; spared = beside-spared c.args.heaps.now c.set_script_reg.new.self (beside c) c.requires.ready.spared; stands = e.stands }
+    record { kept = e.kept; spared = beside-spared c.args.heaps.now c.set_script_reg.new.self (beside c) c.requires.ready.spared; stands = e.stands; doomed = λ p. subst (KeepsDoomed v.heap) (sym e.heap) (hold_script-doomed v.heap c.args.r (script_name v c.args.content) p) }
 
 pub returns-clause-none_left : goal.returns-clause-none_left
 returns-clause-none_left c = beside-none_left c.args.heaps.now c.set_script_reg.new.self (beside c)

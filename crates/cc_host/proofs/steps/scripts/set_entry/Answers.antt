@@ -11,7 +11,9 @@ use Rattle.cc_heaps.specs.Standing.{IsReached, StandsAfter}
 use Rattle.cc_heaps.proofs.Kept.{KeepsAll-black}
 use Rattle.cc_heaps.proofs.EntriesSet.{map-there}
 use Rattle.cc_host.specs.Exposing.{Exposes}
-use Rattle.cc_host.specs.Steps.{IsStep}
+use Rattle.cc_host.specs.Missing.{KeepsDoomed}
+use Rattle.cc_host.specs.Steps.{IsTried}
+use Rattle.cc_host.proofs.KeptDoomed.{doomed-then, set_entry-doomed}
 use Rattle.cc_host.proofs.Exposed.{AreSame-then, Exposes-then, KeepsAll-after, StandsAfter-still, exposed-none_left, exposed-step}
 use Rattle.cc_host.proofs.ScriptSteps.{StaysBeside, beside-none_left, beside-spared, either-way, entry-beside, ok-both}
 use Rattle.cc_host.proofs.steps.scripts.set_entry.Goals as goal
@@ -35,8 +37,13 @@ pub set_entry-requires-clause-value : goal.set_entry-requires-clause-value
 set_entry-requires-clause-value c = (AreSame-then _ _ _ c.expose_key.ensures.exposes.same c.expose_key-2.ensures.exposes.same c.args.value.0 c.requires.value).there
 
 -- key and value exposed
-both : (c : goal.After-set_entry) → Exposes c.args.heaps.now c.expose_key-2.new.heaps
-both c = Exposes-then c.args.heaps.now c.expose_key.new.heaps c.expose_key-2.new.heaps c.expose_key.ensures.exposes c.expose_key-2.ensures.exposes
+both : (c : goal.After-set_entry) →
+    Exposes (IsReached c.args.heaps.now.heap (script_name c.args.heaps.now (Some c.args.key)) × IsReached c.args.heaps.now.heap (script_name c.args.heaps.now (Some c.args.value)))
+    c.args.heaps.now c.expose_key-2.new.heaps
+both c =
+    let e = c.expose_key.ensures.exposes in
+    Exposes-then c.args.heaps.now c.expose_key.new.heaps c.expose_key-2.new.heaps e c.expose_key-2.ensures.exposes (λ r. r.0)
+    (λ r. subst (IsReached c.expose_key.new.heaps.heap) (sym (e.same c.args.value.0 c.requires.value).name) (e.reached _ r.1))
 
 -- natives and registers stay
 beside : (c : goal.After-set_entry) →
@@ -51,7 +58,8 @@ pub returns-clause-tried : goal.returns-clause-tried
 returns-clause-tried c =
     let u = c.args.heaps.now in
     on_err_weaker c.set_entry.result
-    (λ same. subst (IsStep (Unit {0}) (λ g. g) u) (sym same) (exposed-step u c.expose_key-2.new.heaps (both c) c.requires.ready)) c.set_entry.ensures.same
+    (λ same. subst (IsTried (IsReached u.heap (script_name u (Some c.args.key)) × IsReached u.heap (script_name u (Some c.args.value))) u) (sym same)
+    (exposed-step u c.expose_key-2.new.heaps (both c) c.requires.ready)) c.set_entry.ensures.same
 
 pub returns-clause-none_left : goal.returns-clause-none_left
 returns-clause-none_left c x i =
@@ -91,4 +99,9 @@ returns-clause-step c =
       spared = beside-spared v w (beside c heap) c.expose_key-2.ensures.ready.spared;
       stands = stood c _ _ _ (script_name u (Some c.args.the_map)) (script_name u (Some c.args.key)) (script_name u (Some c.args.value))
           (b.same c.args.the_map.0 (map-there u.scripts c.args.the_map.0 c.requires.the_map)).name key.name (b.same c.args.value.0 c.requires.value).name stands;
+      doomed = λ d. doomed-then u.heap v.heap w.heap (b.doomed (d.1, d.2))
+          (subst (KeepsDoomed v.heap) (sym heap)
+          (set_entry-doomed v.heap c.expose_key-2.ensures.ready.order.sound.well_formed (name_at v.scripts c.args.the_map.0) (name_at v.scripts c.args.key.0) (name_at v.scripts c.args.value.0)
+          (subst (IsReached v.heap) (sym key.name) (b.reached _ d.1))
+          (subst (IsReached v.heap) (sym (b.same c.args.value.0 c.requires.value).name) (b.reached _ d.2))));
     })

@@ -4,6 +4,8 @@ use Rattle.cc_script.specs.Objects.{name_at}
 use Rattle.cc_heaps.specs.Changes.{script_name}
 use Rattle.cc_heaps.specs.Standing.{IsReached, MayHold, StandsAfter}
 use Rattle.cc_host.specs.Exposing.{AreSame}
+use Rattle.cc_host.specs.Missing.{KeepsDoomed}
+use Rattle.cc_host.proofs.KeptDoomed.{doomed-then, slot-doomed}
 use Rattle.cc_host.proofs.Exposed.{AreSame-then, KeepsAll-after, StandsAfter-still, exposed-none_left}
 use Rattle.cc_host.proofs.Composing.{stands-then}
 use Rattle.cc_host.proofs.ScriptSteps.{StaysBeside, beside-none_left, beside-spared, content-black, content-name, content-there, slot-beside}
@@ -71,4 +73,10 @@ returns-clause-step c =
           StandsAfter v.heap w.heap (λ g. graph.set_slot g (script_name v (Some c.args.key)) c.args.i y)) content c.store_script.ensures.stands) in
           stands-then t.heap v.heap w.heap _ _ preserved
           (stored (p.reached _ (e.reached _ d.0)) (p.reached _ (e.reached _ d.1)) (subst (MayHold v.heap) was p.may_hold));
+      doomed = λ d. doomed-then t.heap u.heap w.heap (e.doomed d.1)
+          (doomed-then u.heap v.heap w.heap (p.step.doomed (subst (IsReached u.heap) (sym was) (e.reached _ d.0)))
+          (subst (KeepsDoomed v.heap) (sym c.store_script.ensures.heap)
+          (slot-doomed v.heap (name_at v.scripts c.args.key.0) c.args.i (script_name v c.args.content)
+          (subst (IsReached v.heap) (sym name) (p.reached _ (e.reached _ d.0)))
+          (subst (IsReached v.heap) (sym content) (p.reached _ (e.reached _ d.1))))));
     }

@@ -1,5 +1,7 @@
 use Rattle.std.proofs.Common.{[], None, sym, subst}
 use Rattle.cc_script.specs.Objects.{name_at}
+use Rattle.cc_host.specs.Missing.{KeepsDoomed}
+use Rattle.cc_host.proofs.KeptDoomed.{set_entry-doomed}
 use Rattle.cc_host.proofs.ScriptSteps.{StaysBeside, beside-none_left, beside-spared, entry-beside}
 use Rattle.cc_host.proofs.steps.scripts.unset_entry.Goals as goal
 
@@ -13,8 +15,15 @@ beside c =
 
 pub returns-clause-step : goal.returns-clause-step
 returns-clause-step c =
+    let v = c.args.heaps.now in
     let e = c.unset_entry.ensures in
-    record { kept = e.kept; spared = beside-spared c.args.heaps.now c.unset_entry.new.self (beside c) c.requires.ready.spared; stands = λ d. e.stands d.0 d.1 }
+    record {
+      kept = e.kept;
+      spared = beside-spared c.args.heaps.now c.unset_entry.new.self (beside c) c.requires.ready.spared;
+      stands = λ d. e.stands d.0 d.1;
+      doomed = λ d. subst (KeepsDoomed v.heap) (sym e.heap)
+          (set_entry-doomed v.heap c.requires.ready.order.sound.well_formed (name_at v.scripts c.args.the_map.0) (name_at v.scripts c.args.key.0) None d.1 tt);
+    }
 
 pub returns-clause-none_left : goal.returns-clause-none_left
 returns-clause-none_left c = beside-none_left c.args.heaps.now c.unset_entry.new.self (beside c)

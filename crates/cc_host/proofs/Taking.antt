@@ -1,0 +1,282 @@
+-- WHAT A COLLECTION CAN'T MISS IS TAKEN by the calls that bring it to its end; `gc` leaves what one that begins then can't miss.
+use Rattle.std.specs.Prelude.{OnOk, OnErr}
+use Rattle.std.proofs.Common.{Result, ◌≡◌, ◌≢◌, ℕ, zero, suc, ◌<◌, Bool, true, false, List, [], ◌∷◌, ◌++◌, Some, None, is_some, refl, sym, ◌∙◌, ap, subst, inl, inr, ⊎_elim, arith}
+use Rattle.std.proofs.lemmas.Bool.{not-true}
+use Rattle.std.proofs.lemmas.List.{append_assoc, append-nil}
+use Rattle.cc_lists.specs.Members.{Among}
+use Rattle.cc_lists.proofs.Members.{Among-left}
+use Rattle.cc_names.specs.declared.name.Name.{Name}
+use Rattle.cc_names.specs.Names.{native}
+use Rattle.cc_model.specs.declared.command.Command.TheVariants.{Slice, Collect, Gc}
+use Rattle.cc_model.specs.declared.item.Event.{Event}
+use Rattle.cc_model.specs.declared.item.Event.TheVariants.{Unlinked, Abandoned}
+use Rattle.cc_model.specs.Asks.{taken}
+use Rattle.cc_model.specs.Graph.{Graph}
+use Rattle.cc_model.specs.Heap.{Heap}
+use Rattle.cc_model.specs.View.{view}
+use Rattle.cc_model.specs.WellFormed.{IsWellFormed, names_there}
+use Rattle.cc_model.specs.Listed.{census_order}
+use Rattle.cc_model.specs.Lawful.{State}
+use Rattle.cc_model.specs.Snapshot.{Snapshot}
+use Rattle.cc_model.specs.Sweep.{collect_scripts}
+use Rattle.cc_model.specs.Units.{begun, with_empty_buffer}
+use Rattle.cc_model.specs.End.{Progress, went_on, at_end, refused, unit}
+use Rattle.cc_model.specs.Collecting.{Machine, UnitsDone, no_units, next_answer, units_done, enough_units, to_the_end, finish_running, starting_anew, unless_stopped, slice, collect, gc}
+use Rattle.cc_model.specs.Run.{census_names, do_ask}
+use Rattle.cc_model.specs.Telling.{Telling, TellsEvents}
+use Rattle.cc_model.proofs.Tellings.{TellsEvents-trans}
+use Rattle.cc_model.proofs.UnitsEnd.{to_the_end-stops}
+use Rattle.cc_laws_heap.proofs.Face.{script_names-named}
+use Rattle.cc_laws_snapshot.proofs.Face.{native-name_of}
+use Rattle.cc_laws_run.specs.Running.{IsRunning}
+use Rattle.cc_laws_run.specs.Doomed.{IsDoomed, KeepsReflectors, garbage}
+use Rattle.cc_laws_run.specs.Memory.{with_memory}
+use Rattle.cc_laws_run.specs.Missing.{lost}
+use Rattle.cc_laws_run.proofs.Face.{IsFollowed, ask-follows, begin-follows, collect-none, collected-doomed, filter-first, filter-second, gc-collects, lost-doomed, lost-keeps, units_done-keep}
+use Rattle.cc_heaps.specs.Standing.{StillStands}
+use Rattle.cc_collector.specs.Kept.{RunsIn, running_snapshot}
+use Rattle.cc_collector.specs.Collected.{LedTo, IsSliced, IsCollected, IsSwept}
+use Rattle.cc_collector.specs.Settled.{IsSettled, IsUnsettled}
+use Rattle.cc_collector.proofs.Keeping.{RunsIn-fresh}
+use Rattle.cc_host.specs.Hosted.{Hosted, IsKept, machine}
+use Rattle.cc_host.specs.Missing.{IsOfAGraph, CannotMiss, TakesGarbage, TellsUnlinked, TellsAbandoned, TakesBySlice, Takes}
+
+-- what holds of each result holds
+pub on_both : {T E P : Type 0} (r : Result T E) → OnOk r P → OnErr r P → P
+on_both r p q = grind arith
+
+-- an end is no refusal
+at_end-unrefused : at_end ≢ refused
+at_end-unrefused e = cc
+
+-- What is told
+
+-- what is told later changes nothing of what was told
+unlinked-then : (ds : List Name) (t t₁ t₂ : Telling) (fs : List Event) → TellsUnlinked ds t t₁ → TellsEvents t₁ t₂ fs → TellsUnlinked ds t t₂
+unfolding TellsUnlinked
+unlinked-then ds t t₁ t₂ fs u more = (u.0 ++ fs, TellsEvents-trans t t₁ t₂ u.0 fs u.1 more, λ i m. Among-left (Unlinked (native i)) u.0 fs (u.2 i m))
+
+abandoned-then : (t t₁ t₂ : Telling) (fs : List Event) → TellsAbandoned t t₁ → TellsEvents t₁ t₂ fs → TellsAbandoned t t₂
+unfolding TellsAbandoned
+abandoned-then t t₁ t₂ fs a more = (a.0 ++ fs, TellsEvents-trans t t₁ t₂ (Abandoned ∷ a.0) fs a.1 more)
+
+Takes-then : (ds : List Name) (t t₁ t₂ : Telling) (fs : List Event) → Takes ds t t₁ → TellsEvents t₁ t₂ fs → Takes ds t t₂
+unfolding Takes
+Takes-then ds t t₁ t₂ fs a more = ⊎_elim (λ u. inl (unlinked-then ds t t₁ t₂ fs u more)) (λ b. inr (abandoned-then t t₁ t₂ fs b more)) a
+
+-- the list begins with these events
+abbrev BeginsWith : List Event → List Event → Type 0
+BeginsWith es all = (rest : List Event) × (all ≡ es ++ rest)
+
+-- what is told begins with what the units of the followed collection told
+module _ (ds : List Name) (d : UnitsDone) (n : Machine) (all : List Event) (t t₁ : Telling) (b : BeginsWith d.events all) (told : TellsEvents t t₁ all) where
+  -- it came to its end
+  followed-unlinks : IsFollowed ds d.events at_end n → TellsUnlinked ds t t₁
+  unfolding TellsUnlinked
+  followed-unlinks f = (all, told, λ i m. subst (Among (Unlinked (native i))) (sym b.1) (Among-left (Unlinked (native i)) d.events b.0 (f.0 i m)))
+
+  -- it was refused memory
+  followed-abandons : IsFollowed ds d.events refused n → TellsAbandoned t t₁
+  unfolding TellsAbandoned
+  followed-abandons f = (b.0, subst (TellsEvents t t₁) (b.1 ∙ ap (λ l. l ++ b.0) f) told)
+
+  -- either
+  followed-takes : d.progress ≢ went_on → IsFollowed ds d.events d.progress n → Takes ds t t₁
+  unfolding Takes
+  followed-takes = go d.progress
+    where
+      go : (p : Progress) → p ≢ went_on → IsFollowed ds d.events p n → Takes ds t t₁
+      go went_on s f = absurd (s refl)
+      go at_end s f = inl (followed-unlinks f)
+      go refused s f = inr (followed-abandons f)
+
+  -- the first where it was not refused
+  followed-done : d.progress ≢ went_on → d.progress ≢ refused → IsFollowed ds d.events d.progress n → TellsUnlinked ds t t₁
+  followed-done = go d.progress
+    where
+      go : (p : Progress) → p ≢ went_on → p ≢ refused → IsFollowed ds d.events p n → TellsUnlinked ds t t₁
+      go went_on s r f = absurd (s refl)
+      go at_end s r f = followed-unlinks f
+      go refused s r f = absurd (r refl)
+
+-- by a slice
+by_slice : (ds : List Name) (d : UnitsDone) (old : Machine) (new : Hosted) (p : Progress) (t t₁ : Telling) → KeepsReflectors ds → IsOfAGraph new →
+    LedTo d old (machine new) p t t₁ → IsFollowed ds d.events p d.machine → TakesBySlice ds new p t t₁
+unfolding TakesBySlice TellsUnlinked TellsAbandoned
+by_slice ds d old new went_on t t₁ keeps graph led f = record {
+  graph = graph;
+  reflectors = keeps;
+  doomed = (f.1.0, sym led.same.snapshot ∙ f.1.1, subst (λ (h : Heap). IsDoomed (view h) f.1.0 ds) led.same.heap f.1.2);
+}
+by_slice ds d old new at_end t t₁ keeps graph led f = (d.events, led.told, f.0)
+by_slice ds d old new refused t t₁ keeps graph led f = ([], subst (TellsEvents t t₁) f led.told)
+
+-- The plain run of collections
+
+-- a running collection is brought to its end
+finish-some : (m : Machine) (s : Snapshot) → m.snapshot ≡ Some s → finish_running m ≡ to_the_end (no_units m)
+finish-some m s e = ap (λ (b : Bool). elim b [ true ↦ to_the_end (no_units m) | false ↦ no_units m ]) (ap is_some e)
+
+-- units only add to what was told before
+units-begin : (es : List Event) (n : ℕ) (d : UnitsDone) → BeginsWith es d.events → BeginsWith es (units_done n d).events
+units-begin es n d b = units_done-keep (λ u. BeginsWith es u.events)
+    (λ u e b. let fs : List Event = (unit u.machine.heap u.machine.snapshot (next_answer u.machine.memory)).events in
+    (b.0 ++ fs, ap (λ l. l ++ fs) b.1 ∙ append_assoc es b.0 fs)) n d b
+
+-- whatever holds of units, and of a collection that begins after them, holds of what `collect` makes of them
+unless_stopped-cases : (d : UnitsDone) (P : UnitsDone → Type 0) → P d → P (to_the_end (starting_anew d)) → P (unless_stopped d)
+unless_stopped-cases d P stopped more = grind arith
+
+-- what `collect` tells begins with what the collection tells that it ends
+collect-begins : (m : Machine) → BeginsWith (finish_running m).events (collect m).events
+unfolding collect
+collect-begins m =
+    let d : UnitsDone = finish_running m in
+    let all : BeginsWith d.events d.events = ([], sym (append-nil d.events)) in
+    unless_stopped-cases d (λ u. BeginsWith d.events u.events) all (units-begin d.events (enough_units d.machine) (starting_anew d) all)
+
+-- and it is refused where that one was
+collect-refused : (m : Machine) → (finish_running m).progress ≡ refused → (collect m).progress ≡ refused
+unfolding collect
+collect-refused m e = grind arith
+
+-- what `gc` tells begins with it too
+gc-begins : (m : Machine) → BeginsWith (finish_running m).events (gc m).events
+unfolding gc
+gc-begins m = ((collect_scripts (finish_running m).machine.heap).events, refl)
+
+-- A host's machine
+
+-- what is there, natives and then script objects, is in census order
+listed-there : (h : Heap) → IsWellFormed h → census_names h ≡ census_order (names_there h)
+listed-there h w = grind (arith, filter-first, native-name_of, not-true, script_names-named, filter-second)
+
+module _ (h : Hosted) (r : RunsIn h.heaps h.running) (memory : List Bool) where
+  -- as the plain run has it, with answers of memory
+  abbrev plain : Machine
+  plain = with_memory (machine h) memory
+
+  -- beside a graph
+  abbrev beside : Graph → State
+  beside g = record { graph = g; listed = names_there h.heaps.heap }
+
+  -- it runs beside each graph that its heaps stand for
+  is-running : (g : IsOfAGraph h) → IsRunning plain (beside g.0)
+  is-running g = record {
+    sound = r.order.sound;
+    colours = r.colours;
+    fresh = RunsIn-fresh h.heaps h.running r;
+    well_made = g.1;
+    stands = g.2;
+    listed = listed-there h.heaps.heap r.order.sound.well_formed;
+  }
+
+  -- the running collection, by a slice
+  slice-follows : (ds : List Name) → CannotMiss h ds → (units : ℕ) →
+      let d = slice units plain in IsFollowed ds d.events d.progress d.machine
+  unfolding do_ask
+  slice-follows ds c units = ask-follows plain (beside c.graph.0) (taken (Slice units)) ds (is-running c.graph) c.reflectors c.doomed
+
+  -- one that begins
+  slice-begins : (units : ℕ) → 0 < units → IsOfAGraph h → TakesGarbage h →
+      let d = slice units plain in IsFollowed (lost h.heaps.heap) d.events d.progress d.machine
+  unfolding do_ask
+  slice-begins zero p g t = absurd (omega (arith, p))
+  slice-begins (suc n) p g t = begin-follows plain (beside g.0) (lost h.heaps.heap) (is-running g) (ap running_snapshot t.idle)
+      (lost-doomed h.heaps.heap g.0 r.order.sound g.1 g.2 t.garbage_doomed) (taken (Slice (suc n))) refl
+
+  -- the running collection, brought to its end
+  finished : (ds : List Name) → CannotMiss h ds → finish_running plain ≡ to_the_end (no_units plain)
+  finished ds c = finish-some plain c.doomed.0 c.doomed.1
+
+  finish-stops : (ds : List Name) → CannotMiss h ds → (finish_running plain).progress ≢ went_on
+  finish-stops ds c e = to_the_end-stops plain (sym (ap (λ (d : UnitsDone). d.progress) (finished ds c)) ∙ e)
+
+  gc-follows : (ds : List Name) → CannotMiss h ds → let d = finish_running plain in IsFollowed ds d.events d.progress (do_ask plain (taken Gc)).machine
+  gc-follows ds c = ask-follows plain (beside c.graph.0) (taken Gc) ds (is-running c.graph) c.reflectors c.doomed
+
+  collect-follows : (ds : List Name) → CannotMiss h ds → let d = finish_running plain in IsFollowed ds d.events d.progress (do_ask plain (taken Collect)).machine
+  collect-follows ds c = subst (λ (d : UnitsDone). IsFollowed ds d.events d.progress (do_ask plain (taken Collect)).machine) (sym (finished ds c))
+      (ask-follows plain (beside c.graph.0) (taken Collect) ds (is-running c.graph) c.reflectors c.doomed)
+
+  -- one that begins, brought to its end
+  whole-begins : IsOfAGraph h → TakesGarbage h → let d = to_the_end (no_units plain) in IsFollowed (lost h.heaps.heap) d.events d.progress (do_ask plain (taken Collect)).machine
+  whole-begins g t = begin-follows plain (beside g.0) (lost h.heaps.heap) (is-running g) (ap running_snapshot t.idle)
+      (lost-doomed h.heaps.heap g.0 r.order.sound g.1 g.2 t.garbage_doomed) (taken Collect) refl
+
+-- THE CALLS
+
+module _ (h : Hosted) (r : RunsIn h.heaps h.running) where
+  -- a slice of the running collection
+  pub slice-takes : (units steps steps_now : ℕ) (new : Hosted) (p : Progress) (t t₁ : Telling) → IsSliced units (machine h) (machine new) p steps steps_now t t₁ →
+      StillStands h.heaps.heap new.heaps.heap → (ds : List Name) → CannotMiss h ds → TakesBySlice ds new p t t₁
+  slice-takes units steps steps_now new p t t₁ s stands ds c =
+      let d : UnitsDone = slice units (plain h r s.memory) in
+      by_slice ds d (machine h) new p t t₁ c.reflectors (c.graph.0, c.graph.1, stands c.graph.0 c.graph.1 c.graph.2) s.led
+      (subst (λ q. IsFollowed ds d.events q d.machine) s.led.came_to (slice-follows h r s.memory ds c units))
+
+  -- of one that begins
+  pub slice-takes_lost : (units steps steps_now : ℕ) (new : Hosted) (p : Progress) (t t₁ : Telling) → IsSliced units (machine h) (machine new) p steps steps_now t t₁ →
+      StillStands h.heaps.heap new.heaps.heap → 0 < units → IsOfAGraph h → TakesGarbage h → TakesBySlice (lost h.heaps.heap) new p t t₁
+  slice-takes_lost units steps steps_now new p t t₁ s stands some g garbage =
+      let d : UnitsDone = slice units (plain h r s.memory) in
+      let ds : List Name = lost h.heaps.heap in
+      by_slice ds d (machine h) new p t t₁ (lost-keeps h.heaps.heap r.order.sound) (g.0, g.1, stands g.0 g.1 g.2) s.led
+      (subst (λ q. IsFollowed ds d.events q d.machine) s.led.came_to (slice-begins h r s.memory units some g garbage))
+
+  -- a whole collection, whatever it came to
+  pub collect-takes : (new : Machine) (p : Progress) (t t₁ : Telling) → IsCollected (machine h) new p t t₁ → (ds : List Name) → CannotMiss h ds → Takes ds t t₁
+  collect-takes new p t t₁ s ds c =
+      let m : Machine = plain h r s.memory in
+      followed-takes ds (finish_running m) (do_ask m (taken Collect)).machine (collect m).events t t₁ (collect-begins m) s.led.told
+      (finish-stops h r s.memory ds c) (collect-follows h r s.memory ds c)
+
+  -- that was done
+  pub collect-unlinks : (new : Machine) (t t₁ : Telling) → IsCollected (machine h) new at_end t t₁ → (ds : List Name) → CannotMiss h ds → TellsUnlinked ds t t₁
+  collect-unlinks new t t₁ s ds c =
+      let m : Machine = plain h r s.memory in
+      followed-done ds (finish_running m) (do_ask m (taken Collect)).machine (collect m).events t t₁ (collect-begins m) s.led.told
+      (finish-stops h r s.memory ds c) (λ e. at_end-unrefused (sym s.led.came_to ∙ collect-refused m e)) (collect-follows h r s.memory ds c)
+
+  -- that began
+  pub collect-takes_lost : (new : Machine) (t t₁ : Telling) → IsCollected (machine h) new at_end t t₁ → IsOfAGraph h → TakesGarbage h → TellsUnlinked (lost h.heaps.heap) t t₁
+  collect-takes_lost new t t₁ s g garbage =
+      let m : Machine = plain h r s.memory in
+      let d : UnitsDone = to_the_end (no_units m) in
+      let same : collect m ≡ d = collect-none m (ap running_snapshot garbage.idle) in
+      followed-done (lost h.heaps.heap) d (do_ask m (taken Collect)).machine (collect m).events t t₁
+      ([], ap (λ (u : UnitsDone). u.events) same ∙ sym (append-nil d.events)) s.led.told
+      (to_the_end-stops m) (λ e. at_end-unrefused (sym s.led.came_to ∙ (ap (λ (u : UnitsDone). u.progress) same ∙ e))) (whole-begins h r s.memory g garbage)
+
+  -- `gc`
+  pub gc-takes : (new : Machine) (t t₁ : Telling) → IsSwept (machine h) new t t₁ → (ds : List Name) → CannotMiss h ds → Takes ds t t₁
+  gc-takes new t t₁ s ds c =
+      let m : Machine = plain h r s.memory in
+      followed-takes ds (finish_running m) (do_ask m (taken Gc)).machine (gc m).events t t₁ (gc-begins m) s.led.told
+      (finish-stops h r s.memory ds c) (gc-follows h r s.memory ds c)
+
+  -- settling
+  pub settle-takes : (new : Machine) (t t₁ : Telling) → IsSettled (machine h) new t t₁ → (ds : List Name) → CannotMiss h ds → Takes ds t t₁
+  settle-takes new t t₁ s ds c =
+      let k = s.collected in
+      Takes-then ds t s.told_second t₁ _ (Takes-then ds t k.told_first s.told_second _ (gc-takes k.first t k.told_first k.swept ds c) k.collected.led.told) s.swept.led.told
+
+  -- that was refused
+  pub unsettled-takes : (new : Machine) (t t₁ : Telling) → IsUnsettled (machine h) new t t₁ → (ds : List Name) → CannotMiss h ds → Takes ds t t₁
+  unsettled-takes new t t₁ s ds c = Takes-then ds t s.told_first t₁ _ (gc-takes s.first t s.told_first s.swept ds c) s.collected.led.told
+
+-- AFTER `gc` a collection that begins takes all garbage.
+pub gc-takes_garbage : (h new : Hosted) (t t₁ : Telling) → IsKept h → new.running ≡ None → IsSwept (machine h) (machine new) t t₁ → TakesGarbage new
+gc-takes_garbage h new t t₁ k idle s =
+    let m : Machine = with_memory (machine h) s.memory in
+    let f = gc-collects m (record {
+      sound = k.runs.order.sound;
+      colours = k.runs.colours;
+      fresh = RunsIn-fresh h.heaps h.running k.runs;
+      suspected = k.suspected;
+      stopped = λ d. absurd (d refl);
+    }) in
+    record {
+      idle = idle;
+      garbage_doomed = subst (λ (g : Heap). IsDoomed (view (with_empty_buffer g)) (begun g) (garbage g)) (sym f.3 ∙ s.led.same.heap) (collected-doomed f.0 f.1 f.2);
+    }

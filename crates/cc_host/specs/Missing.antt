@@ -1,0 +1,62 @@
+-- WHAT THE RUNNING COLLECTION CAN'T MISS: that calls leave it alone, and that its end takes it.
+use Rattle.std.specs.Prelude.{◌≡◌, ◌⊎◌, List, ◌∷◌, None}
+use Rattle.cc_names.specs.declared.name.Name.{Name}
+use Rattle.cc_model.specs.declared.item.Event.{Event}
+use Rattle.cc_model.specs.declared.item.Event.TheVariants.{Abandoned}
+use Rattle.cc_model.specs.Graph.{Graph}
+use Rattle.cc_model.specs.WellMade.{IsWellMade}
+use Rattle.cc_model.specs.StandsFor.{StandsFor}
+use Rattle.cc_model.specs.Heap.{Heap}
+use Rattle.cc_model.specs.View.{view}
+use Rattle.cc_model.specs.Snapshot.{Snapshot}
+use Rattle.cc_model.specs.Units.{begun, with_empty_buffer}
+use Rattle.cc_model.specs.End.{Progress, went_on, at_end, refused}
+use Rattle.cc_model.specs.Telling.{Telling, TellsEvents}
+use Rattle.cc_laws_run.specs.Doomed.{AreUnlinked, IsDoomed, IsDoomedNow, KeepsReflectors, garbage}
+use Rattle.cc_laws_run.specs.Missing.{lost}
+use Rattle.cc_host.specs.Hosted.{Hosted, machine}
+
+-- A CHANGE LEAVES DOOMED WHAT IS DOOMED, in each snapshot: names that only such names hold, which a collection can't miss. A
+-- reflector is to be one of them only where its native is, since a reached native may be wrapped again.
+unfoldable pub KeepsDoomed : Heap → Heap → Type 0
+KeepsDoomed old new = (s : Snapshot) (ds : List Name) → KeepsReflectors ds → IsDoomed (view old) s ds → IsDoomed (view new) s ds
+
+-- the heaps stand for a graph, which is well made
+abbrev pub IsOfAGraph : Hosted → Type 0
+IsOfAGraph h = (g : Graph) × IsWellMade g × StandsFor h.heaps.heap g
+
+-- THE RUNNING COLLECTION CAN'T MISS THESE
+pub record CannotMiss (h : Hosted) (ds : List Name) : Type 0 where
+  pub graph : IsOfAGraph h
+  pub reflectors : KeepsReflectors ds
+  pub doomed : IsDoomedNow (machine h) ds
+
+-- what nothing reaches, each native of it among these, but for the reflectors of reached natives, which may be wrapped again
+abbrev pub lost_in : Hosted → List Name
+lost_in h = lost h.heaps.heap
+
+-- A COLLECTION THAT BEGINS NOW can't miss what nothing reaches now: none runs, and its first unit would doom it
+pub record TakesGarbage (h : Hosted) : Type 0 where
+  pub idle : h.running ≡ None
+  pub garbage_doomed : IsDoomed (view (with_empty_buffer h.heaps.heap)) (begun h.heaps.heap) (garbage h.heaps.heap)
+
+-- What becomes of them
+
+-- each native of them is told unlinked
+unfoldable pub TellsUnlinked : List Name → Telling → Telling → Type 0
+TellsUnlinked ds before after = (es : List Event) × TellsEvents before after es × AreUnlinked ds es
+
+-- that the collection is abandoned is told, before anything else
+unfoldable pub TellsAbandoned : Telling → Telling → Type 0
+TellsAbandoned before after = (es : List Event) × TellsEvents before after (Abandoned ∷ es)
+
+-- BY A SLICE: the collection goes on and can't miss them still; or it ended, and told each native of them unlinked; or it was
+-- refused memory, and told that it is abandoned
+unfoldable pub TakesBySlice : List Name → Hosted → Progress → Telling → Telling → Type 0
+TakesBySlice ds new went_on before after = CannotMiss new ds
+TakesBySlice ds new at_end before after = TellsUnlinked ds before after
+TakesBySlice ds new refused before after = TellsAbandoned before after
+
+-- BY A CALL THAT BRINGS IT TO ITS END
+unfoldable pub Takes : List Name → Telling → Telling → Type 0
+Takes ds before after = TellsUnlinked ds before after ⊎ TellsAbandoned before after
