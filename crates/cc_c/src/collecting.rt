@@ -1,10 +1,12 @@
 //! Collections, whole and in slices.
-ghost use Rattle.std.specs.Prelude.{◌≡◌, ◌≢◌, ◌⊎◌, ℕ, None, is_some};
+ghost use Rattle.std.specs.Prelude.{◌≡◌, ◌≢◌, ◌<◌, ◌⊎◌, ℕ, List, None, is_some};
+ghost use Rattle.cc_names.specs.declared.name.Name.{Name};
 ghost use Rattle.cc_model.specs.End.{at_end, refused};
 ghost use Rattle.cc_collector.specs.Collected.{IsCollected, IsSliced, IsSwept};
 ghost use Rattle.cc_collector.specs.Settled.{HasWhatIsReached};
 ghost use Rattle.cc_host.specs.Calls.{Collects};
 ghost use Rattle.cc_host.specs.Hosted.{machine};
+ghost use Rattle.cc_host.specs.Missing.{CannotMiss, IsOfAGraph, Takes, TakesBySlice, TakesGarbage, TellsUnlinked, lost_in};
 ghost use Rattle.cc_session.specs.Sessions.{Aside};
 ghost use Rattle.cc_c.specs.Calls.{Open, Reads, Stays};
 ghost use Rattle.cc_c.specs.Values.{flag, progress_in};
@@ -26,6 +28,11 @@ pub extern "C" fn cc_slice(alloc: Global, c: &mut Collector, units: u32, over: &
     ensures ended { (result ≢ 0) ⊎ (over.new ≡ 1) → Open c.old.handle.session c.new.handle.session (λ s t. t.host.running ≡ None) }
     ensures left { result ≢ 0 → over.new ≡ over.old }
     ensures aside { Open c.old.handle.session c.new.handle.session Aside }
+    // what the running collection can't miss is told unlinked at its end; what one can't miss that begins after `cc_gc`
+    ensures takes { Open c.old.handle.session c.new.handle.session (λ s t. (ds : List Name) → CannotMiss s.host ds →
+        TakesBySlice ds t.host (progress_in result over.new) s.told t.told) }
+    ensures begins { Open c.old.handle.session c.new.handle.session (λ s t. 0 < units → IsOfAGraph s.host → TakesGarbage s.host →
+        TakesBySlice (lost_in s.host) t.host (progress_in result over.new) s.told t.told) }
 {
     let Some(mut session) = c.take(alloc) else {
         return CLOSED;
@@ -55,6 +62,9 @@ pub extern "C" fn cc_collect(alloc: Global, c: &mut Collector) -> u32
     ensures refused { result ≢ 0 → Open c.old.handle.session c.new.handle.session (λ s t. IsCollected (machine s.host) (machine t.host) refused s.told t.told) }
     ensures over { Open c.old.handle.session c.new.handle.session (λ s t. t.host.running ≡ None) }
     ensures aside { Open c.old.handle.session c.new.handle.session Aside }
+    ensures takes { Open c.old.handle.session c.new.handle.session (λ s t. (ds : List Name) → CannotMiss s.host ds → Takes ds s.told t.told) }
+    ensures takes_if_done { result ≡ 0 → Open c.old.handle.session c.new.handle.session (λ s t. (ds : List Name) → CannotMiss s.host ds → TellsUnlinked ds s.told t.told) }
+    ensures begins { result ≡ 0 → Open c.old.handle.session c.new.handle.session (λ s t. IsOfAGraph s.host → TakesGarbage s.host → TellsUnlinked (lost_in s.host) s.told t.told) }
 {
     let Some(mut session) = c.take(alloc) else {
         return CLOSED;
@@ -76,6 +86,8 @@ pub extern "C" fn cc_gc(alloc: Global, c: &mut Collector) -> u32
     ensures swept { Open c.old.handle.session c.new.handle.session (λ s t. IsSwept (machine s.host) (machine t.host) s.told t.told) }
     ensures over { Open c.old.handle.session c.new.handle.session (λ s t. t.host.running ≡ None) }
     ensures aside { Open c.old.handle.session c.new.handle.session Aside }
+    ensures takes { Open c.old.handle.session c.new.handle.session (λ s t. (ds : List Name) → CannotMiss s.host ds → Takes ds s.told t.told) }
+    ensures garbage { Open c.old.handle.session c.new.handle.session (λ s t. TakesGarbage t.host) }
 {
     let Some(mut session) = c.take(alloc) else {
         return CLOSED;
@@ -94,6 +106,7 @@ pub extern "C" fn cc_settle(alloc: Global, c: &mut Collector) -> u32
     ensures collects { Open c.old.handle.session c.new.handle.session (λ s t. Collects s.host t.host s.told t.told) }
     ensures over { Open c.old.handle.session c.new.handle.session (λ s t. t.host.running ≡ None) }
     ensures aside { Open c.old.handle.session c.new.handle.session Aside }
+    ensures takes { Open c.old.handle.session c.new.handle.session (λ s t. (ds : List Name) → CannotMiss s.host ds → Takes ds s.told t.told) }
 {
     let Some(mut session) = c.take(alloc) else {
         return CLOSED;

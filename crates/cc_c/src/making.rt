@@ -5,7 +5,7 @@ ghost use Rattle.cc_names.specs.declared.register.Reg.TheVariants.{N as n_regist
 ghost use Rattle.cc_model.specs.declared.command.Command.TheVariants as command;
 ghost use Rattle.cc_model.specs.Graph as graph;
 ghost use Rattle.cc_model.specs.Heap.{register};
-ghost use Rattle.cc_host.specs.Calls.{Always, Does, TellsFreed};
+ghost use Rattle.cc_host.specs.Calls.{Always, Does, TellsFreed, Tries};
 ghost use Rattle.cc_host.specs.Hosted.{IsRooted, IsThere};
 ghost use Rattle.cc_host.specs.Stops.{are_natives_made, are_scripts_made};
 ghost use Rattle.cc_session.specs.Sessions.{Aside, Quiet};
@@ -133,7 +133,7 @@ pub extern "C" fn cc_new_proxy(
     ensures name { result ≡ 0 → Open c.old.handle.session c.new.handle.session (λ s t. (to_object made.new).name ≡ object (s.host.heaps.heap.scripts_made + 1)) }
     ensures held { result ≡ 0 → Open c.old.handle.session c.new.handle.session (λ s t. register t.host.heaps.heap (s_register r) ≡ Some (to_object made.new).name) }
     ensures left { result ≢ 0 → made.new ≡ made.old }
-    ensures tried { result ≢ 0 → Open c.old.handle.session c.new.handle.session (λ s t. Does Always (λ g. g) s.host t.host) }
+    ensures tried { result ≢ 0 → Open c.old.handle.session c.new.handle.session (λ s t. Tries (IsRooted s.host (to_object delegate.now)) s.host t.host) }
     ensures quiet { Open c.old.handle.session c.new.handle.session Quiet }
 {
     let Some(mut session) = c.take(alloc) else {

@@ -3,7 +3,7 @@ ghost use Rattle.std.specs.Prelude.{◌≡◌, ◌≢◌, None, Some, option_map
 ghost use Rattle.cc_model.specs.Checks.{native_of, reflector_of};
 ghost use Rattle.cc_model.specs.Graph as graph;
 ghost use Rattle.cc_script.specs.Objects.{kind_at};
-ghost use Rattle.cc_host.specs.Calls.{Always, Does, TellsFreed};
+ghost use Rattle.cc_host.specs.Calls.{Does, TellsFreed, Tries};
 ghost use Rattle.cc_host.specs.Hosted.{IsRooted, IsThere, IsThereIfAny, named};
 ghost use Rattle.cc_host.specs.Stops.{stop_native, stop_reflector, stop_script};
 ghost use Rattle.cc_session.specs.Sessions.{Aside, Quiet};
@@ -29,7 +29,7 @@ pub extern "C" fn cc_wrap(
     ensures does { result ≡ 0 → Open c.old.handle.session c.new.handle.session (λ s t. Does (IsRooted s.host (to_object x.now)) (λ g. graph.wrapped g (Some (to_object x.now).name)) s.host t.host) }
     ensures there { result ≡ 0 → Open c.old.handle.session c.new.handle.session (λ s t. IsThere t.host (to_object reflector.new)) }
     ensures name { result ≡ 0 → Open c.old.handle.session c.new.handle.session (λ s t. Some (to_object reflector.new).name ≡ reflector_of (Some (to_object x.now).name)) }
-    ensures tried { result ≢ 0 → Open c.old.handle.session c.new.handle.session (λ s t. Does Always (λ g. g) s.host t.host) }
+    ensures tried { result ≢ 0 → Open c.old.handle.session c.new.handle.session (λ s t. Tries (IsRooted s.host (to_object x.now)) s.host t.host) }
     ensures left { result ≢ 0 → reflector.new ≡ reflector.old }
     ensures tells { Open c.old.handle.session c.new.handle.session (λ s t. TellsFreed s.host t.host s.told t.told) }
     ensures aside { Open c.old.handle.session c.new.handle.session Aside }

@@ -11,6 +11,7 @@ use Rattle.cc_model.specs.Telling.{Telling}
 use Rattle.cc_heaps.specs.Leaving.{NoneCame, TellsWhatIsFreed}
 use Rattle.cc_heaps.specs.Standing.{IsReached, StandsAfter}
 use Rattle.cc_host.specs.Calls.{Always, Does}
+use Rattle.cc_host.specs.Missing.{KeepsDoomed}
 use Rattle.cc_host.specs.Hosted.{Hosted, IsKept, named, roots, spare}
 use Rattle.cc_host.specs.declared.object.Object.{Object}
 use Rattle.cc_session.specs.Sessions.{Comes, table, tabled}
@@ -35,27 +36,33 @@ module _ (a b c : Hosted) (kept : IsKept a) (between : IsKept b) (late : IsKept 
   abbrev put : (Graph → Graph) → ℕ → ℕ → Name → Graph → Graph
   put change s i x g = graph.set_slot (change g) (table c s) i (Some x)
 
+  -- what is reached stays so where the table is made
+  abbrev pub Reaches : Type 0
+  Reaches = (x : Option Name) → IsReached a.heaps.heap x → IsReached b.heaps.heap x
+
   empty : is_none (table a r) ≡ true
   empty = ap is_none none
 
   -- THE CHANGE OF BOTH
-  both : (i : ℕ) (x : Name) → Does Always (tabled a r) a b → Does (IsReached b.heaps.heap (Some x)) (λ g. graph.set_slot g (table b r) i (Some x)) b c →
+  both : (i : ℕ) (x : Name) → Reaches → Does Always (tabled a r) a b → Does (IsReached b.heaps.heap (Some x)) (λ g. graph.set_slot g (table b r) i (Some x)) b c →
       Does (IsReached a.heaps.heap (Some x)) (put (tabled a r) r i x) a c
-  both i x d e = record {
+  unfolding KeepsDoomed
+  both i x reaches d e = record {
     stands = λ reached. subst (λ t. StandsAfter a.heaps.heap c.heaps.heap (put (made t) r i x)) (sym empty)
         (stands-both a.heaps.heap b.heaps.heap c.heaps.heap kept.runs.order.sound.well_formed between.runs.order.sound.well_formed r i most_slots x none registers
         (subst (λ t. StandsAfter a.heaps.heap b.heaps.heap (made t)) empty (d.stands tt)) e.stands reached);
+    doomed = λ reached s ds keeps k. e.doomed (reaches (Some x) reached) s ds keeps (d.doomed tt s ds keeps k);
     keys = KeepsKeys-then a.heaps b.heaps c.heaps between.runs.order.sound.well_formed late.runs.order.sound.well_formed came d.keys e.keys;
     running = e.running ∙ d.running;
     mark = e.mark ∙ d.mark;
   }
 
   -- by the place of the root
-  pub does-both : (s i j : ℕ) (x : Name) → r ≡ s → i ≡ j → Does Always (tabled a r) a b →
+  pub does-both : (s i j : ℕ) (x : Name) → r ≡ s → i ≡ j → Reaches → Does Always (tabled a r) a b →
       Does (IsReached b.heaps.heap (Some x)) (λ g. graph.set_slot g (table b r) i (Some x)) b c → Does (IsReached a.heaps.heap (Some x)) (put (tabled a s) s j x) a c
-  does-both s i j x at slot d e =
+  does-both s i j x at slot reaches d e =
       subst (λ t. Does (IsReached a.heaps.heap (Some x)) (put (tabled a t) t j x) a c) at
-      (subst (λ k. Does (IsReached a.heaps.heap (Some x)) (put (tabled a r) r k x) a c) slot (both i x d e))
+      (subst (λ k. Does (IsReached a.heaps.heap (Some x)) (put (tabled a r) r k x) a c) slot (both i x reaches d e))
 
   -- WHAT BOTH TELL
   pub tells-both : (name : Name) → table b r ≡ Some name → Comes name a b → (before told after : Telling) →

@@ -12,3 +12,4 @@ pub use Rattle.cc_laws_run.specs.Doomed
 pub use Rattle.cc_host.specs.Hosted
 pub use Rattle.cc_host.specs.Stops
 pub use Rattle.cc_host.specs.Calls
+pub use Rattle.cc_host.specs.Missing

@@ -1,7 +1,7 @@
 //! Entries of weak maps.
 ghost use Rattle.std.specs.Prelude.{◌≡◌, Some, None, OnErr, OnOk};
 ghost use Rattle.cc_model.specs.Graph as graph;
-ghost use Rattle.cc_host.specs.Calls.{Always, Does};
+ghost use Rattle.cc_host.specs.Calls.{Does, Tries};
 ghost use Rattle.cc_host.specs.Hosted.{IsRooted};
 ghost use Rattle.cc_host.specs.Stops.{IsStoppedBy, IsStoppedOrRefused, stop_entry, stop_setting};
 ghost use Rattle.cc_session.specs.Sessions.{Quiet};
@@ -17,7 +17,7 @@ impl Session {
         ensures stops { IsStoppedOrRefused (stop_setting self.old.host the_map key value) result }
         ensures does { OnOk result (Does (IsRooted self.old.host the_map × IsRooted self.old.host key × IsRooted self.old.host value)
             (λ g. graph.set_entry g (Some the_map.name) (Some key.name) (Some value.name)) self.old.host self.new.host) }
-        ensures tried { OnErr result (Does Always (λ g. g) self.old.host self.new.host) }
+        ensures tried { OnErr result (Tries (IsRooted self.old.host key × IsRooted self.old.host value) self.old.host self.new.host) }
         ensures quiet { Quiet self.old self.new }
     {
         self.host.set_entry(the_map, key, value)

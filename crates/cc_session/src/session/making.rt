@@ -5,7 +5,7 @@ ghost use Rattle.cc_names.specs.declared.register.Reg.TheVariants.{N as n_regist
 ghost use Rattle.cc_model.specs.declared.command.Command.TheVariants as command;
 ghost use Rattle.cc_model.specs.Graph as graph;
 ghost use Rattle.cc_model.specs.Heap.{register};
-ghost use Rattle.cc_host.specs.Calls.{Always, Does, TellsFreed};
+ghost use Rattle.cc_host.specs.Calls.{Always, Does, TellsFreed, Tries};
 ghost use Rattle.cc_host.specs.Hosted.{IsRooted, IsThere};
 ghost use Rattle.cc_host.specs.Stops.{are_natives_made, are_scripts_made};
 ghost use Rattle.cc_session.specs.Sessions.{Aside, Quiet};
@@ -74,13 +74,14 @@ impl Session {
     /// that is a reflector is preserved.
     ///
     /// `Full` and `NoMemory` leave the graph as it is (`tried`): the delegate may have been exposed to script.
+    #[tactic(auto, using(cc_host::proofs::KeptDoomed::still_doomed))]
     pub fn new_proxy(&mut self, r: RegNo, delegate: Object) -> Result<Object, Stop>
         ensures stops { IsStoppedOrWants (stop_proxy_made self.old.host delegate r) result }
         ensures does { OnOk result (Does (IsRooted self.old.host delegate) (λ g. graph.with_proxy g r (Some delegate.name)) self.old.host self.new.host) }
         ensures there { IfOk result (λ x. IsThere self.new.host x) }
         ensures name { IfOk result (λ x. x.name ≡ object (self.old.host.heaps.heap.scripts_made + 1)) }
         ensures held { IfOk result (λ x. register self.new.host.heaps.heap (s_register r) ≡ Some x.name) }
-        ensures tried { OnErr result (Does Always (λ g. g) self.old.host self.new.host) }
+        ensures tried { OnErr result (Tries (IsRooted self.old.host delegate) self.old.host self.new.host) }
         ensures quiet { Quiet self.old self.new }
     {
         if r >= NUMBERED_ROOTS {

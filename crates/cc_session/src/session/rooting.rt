@@ -1,9 +1,10 @@
 //! Roots, as many as wanted.
-ghost use Rattle.std.specs.Prelude.{◌≡◌, ◌≢◌, ◌⊎◌, ◌+◌, ◌<◌, ◌≤◌, ℕ, Some, None, IfOk, IfSome, IfNone, OnErr, OnOk, slice_index_or};
+ghost use Rattle.std.specs.Prelude.{◌≡◌, ◌≢◌, ◌⊎◌, ◌+◌, ◌<◌, ◌≤◌, ℕ, Option, Some, None, IfOk, IfSome, IfNone, OnErr, OnOk, slice_index_or};
 ghost use Rattle.cc_model.specs.Graph as graph;
 ghost use Rattle.cc_names.specs.Sizes.{most_slots};
 ghost use Rattle.cc_names.specs.declared.name.Name.{Name};
 ghost use Rattle.cc_heaps.specs.Leaving.{NoneCame};
+ghost use Rattle.cc_heaps.specs.Standing.{IsReached};
 ghost use Rattle.cc_host.specs.Calls.{Always, Does, TellsFreed};
 ghost use Rattle.cc_host.specs.Hosted.{IsKept, IsRooted, IsThereIfAny, named, roots};
 ghost use Rattle.cc_host.specs.Stops.{IsStoppedBy, slots_at_root, stop_at};
@@ -31,6 +32,7 @@ fn place(index: u32) -> Option<(RegNo, SlotNo)>
 
 impl Session {
     // The slot of a root, by its place, holds an object from then on. Where its table was not there it is made.
+    #[tactic(auto, using(cc_host::proofs::KeptDoomed::still_doomed))]
     fn hold(&mut self, index: u32, x: Object) -> Result<(), Stop>
         requires { stop_at self.old.host x ≡ None }
         ensures refused { (s : Stop) → result ≡ Err s → (s ≡ Stop.NoMemory) ⊎ (s ≡ Stop.Full) }
@@ -57,6 +59,7 @@ impl Session {
         ensures refused { (s : Stop) → result ≡ Err s → (s ≡ Stop.NoMemory) ⊎ (s ≡ Stop.Full) }
         ensures does { OnOk result (Does Always (tabled self.old.host r) self.old.host self.new.host) }
         ensures came { OnOk result ((made : Name) × (table self.new.host r ≡ Some made) × Comes made self.old.host self.new.host) }
+        ensures reaches { OnOk result ((x : Option Name) → IsReached self.old.host.heaps.heap x → IsReached self.new.host.heaps.heap x) }
         ensures same { OnErr result (self.new.host ≡ self.old.host) }
         ensures tells { TellsFreed self.old.host self.new.host self.old.told self.new.told }
         ensures aside { Aside self.old self.new }
@@ -93,6 +96,7 @@ impl Session {
     /// It takes a place in a table: a native of 256 slots, which is made where all others are full. `Full` where no table can
     /// be made for it: behind some 200,000 roots, or where as many natives as the limit were ever made. `Full` and `NoMemory`
     /// leave the graph as it is, but for such a table (`tried`), and no root is in use that was not.
+    #[tactic(auto, using(cc_host::proofs::KeptDoomed::still_doomed))]
     pub fn root(&mut self, x: Object) -> Result<Root, Stop>
         ensures stops { IsRootRefused (stop_at self.old.host x) result }
         ensures does { IfOk result (λ root. Does (IsRooted self.old.host x)

@@ -6,7 +6,7 @@ ghost use Rattle.cc_model.specs.Checks.{reflector_of};
 ghost use Rattle.cc_model.specs.Graph as graph;
 ghost use Rattle.cc_heaps.specs.Changes.{slot_held};
 ghost use Rattle.cc_heaps.specs.Standing.{IsReachedOrReflects};
-ghost use Rattle.cc_host.specs.Calls.{Always, Does, TellsFreed, stored};
+ghost use Rattle.cc_host.specs.Calls.{Does, TellsFreed, Tries, stored};
 ghost use Rattle.cc_host.specs.Hosted.{IsRooted, IsRootedIfAny, IsThere, named};
 ghost use Rattle.cc_host.specs.Stops.{IsStoppedBy, IsStoppedOrRefused, stop_native, stop_reflector, stop_script};
 ghost use Rattle.cc_session.specs.Sessions.{Aside, Quiet, data_at};
@@ -88,12 +88,13 @@ impl Session {
     /// nothing.
     ///
     /// `NoMemory` leaves the graph as it is (`tried`).
+    #[tactic(auto, using(cc_host::proofs::KeptDoomed::still_doomed))]
     pub fn wrap(&mut self, x: Object) -> Result<Object, Stop>
         ensures stops { IsStoppedOrWants (stop_native self.old.host x) result }
         ensures does { OnOk result (Does (IsRooted self.old.host x) (λ g. graph.wrapped g (Some x.name)) self.old.host self.new.host) }
         ensures there { IfOk result (λ y. IsThere self.new.host y) }
         ensures name { IfOk result (λ y. Some y.name ≡ reflector_of (Some x.name)) }
-        ensures tried { OnErr result (Does Always (λ g. g) self.old.host self.new.host) }
+        ensures tried { OnErr result (Tries (IsRooted self.old.host x) self.old.host self.new.host) }
         ensures tells { TellsFreed self.old.host self.new.host self.old.told self.new.told }
         ensures aside { Aside self.old self.new }
     {

@@ -12,7 +12,7 @@ returns-clause-does c =
     let none = subst (λ (s : State). table s.host c.in-Some.r ≡ None) c.self.view_is (unheld c.native_root.result _ (sym c.is_some.ensures ∙ c.if-is_some.false) (c.native_root.ensures.name c.in-Some.ensures.within.0)) in
     let at = c.in-Some.ensures.place in
     on_ok c.put-2.result
-    (does-both a b c.put-2.new.self.host e.kept.0 e.kept.1 p.kept c.in-Some.r none p.registers p.none_came _ c.in-Some.i _ c.args.x.name at.0 at.1 e.does)
+    (does-both a b c.put-2.new.self.host e.kept.0 e.kept.1 p.kept c.in-Some.r none p.registers p.none_came _ c.in-Some.i _ c.args.x.name at.0 at.1 e.reaches e.does)
     p.does
 
 pub returns-clause-tells : goal.returns-clause-tells
