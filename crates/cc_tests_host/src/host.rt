@@ -2,7 +2,7 @@
 //!
 //! Each function makes a few calls alone, since the check of a long one takes minutes.
 use cc_collector::Ended;
-use cc_host::{Host, Object, Queue, ROOTS, Stop};
+use cc_host::{Host, Object, Queue, ROOTS, Stop, calls_make_it_miss_nothing};
 use cc_model::{Event, Item, Notebook};
 use cc_names::{Kind, Limits, Name, NativeNo, ScriptNo};
 use std::alloc::Global;
@@ -108,6 +108,46 @@ fn takes_a_thousand_cycles(alloc: Global) -> bool {
 #[test]
 fn thousand_cycles_go_in_frames(rt: HostRuntime) {
     assert!(rt; takes_a_thousand_cycles(rt.alloc()));
+}
+
+// Garbage in slices
+
+// Behind its end a slice would begin another collection.
+fn goes_on(host: &mut Host, over: bool, out: &mut Notebook) -> bool {
+    over || host.slice(1, out) == Ok(Ended::Yes)
+}
+
+// Between two slices the program makes another cycle, and lets it go.
+fn ends_in_slices(host: &mut Host, out: &mut Notebook) -> bool {
+    let mut over = false;
+    let mut worked = true;
+    for _ in 0..30 {
+        over = goes_on(host, over, out);
+        worked &= make_cycle(host, out);
+    }
+    over & worked
+}
+
+// A cycle that nothing reaches when a collection begins right after `gc` is unlinked at its end, whatever comes between the
+// slices, and nothing else is.
+fn takes_in_slices(host: &mut Host, out: &mut Notebook) -> bool {
+    let made = make_cycle(host, out);
+    host.gc(out);
+    made & ends_in_slices(host, out) & (out.text() == b"- unlink #1\n".as_slice())
+}
+
+fn takes_garbage(alloc: Global) -> bool {
+    let mut out = Notebook::new(alloc);
+    match Host::new(alloc, Limits::new(100, 100, 0), 1) {
+        Ok(mut host) => takes_in_slices(&mut host, &mut out),
+        Err(_) => false,
+    }
+}
+
+#[test]
+fn garbage_goes_in_slices_while_a_program_goes_on(rt: HostRuntime) {
+    calls_make_it_miss_nothing();
+    assert!(rt; takes_garbage(rt.alloc()));
 }
 
 // Answers
