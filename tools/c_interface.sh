@@ -1,6 +1,9 @@
 #!/usr/bin/env bash
 # The library from C and C++: builds it (rt lib in crates/cc_c), then the programs of tools/c, and runs them.
-#   tools/c_interface.sh
+#   tools/c_interface.sh [--over-gate]
+# With --over-gate the library is built over the libraries that rt ci has just proved in this checkout and left in its folders:
+# rt lib would prove all of them once more, since those hold statements alone.
+#
 # Each program is built with all warnings as errors, and run; built again with the address and undefined behaviour checks of
 # the compiler, where it has them, and run; and two of them are run under valgrind, where it is there. Status 0 only if all
 # passed. Without cc nothing is built, and the status is 0.
@@ -14,10 +17,35 @@ if ! command -v "$cc" >/dev/null 2>&1; then
     echo "c: there is no $cc, so nothing was built"
     exit 0
 fi
+
+# Checks cc_c and builds it over the libraries that the gate left, by the words that rt gives the compiler.
+over_gate() {
+    local kit words=() name line
+    kit=$(dirname "$(rt doc)") || return 1
+    line=$(grep '^cc_c staticlib:' crates.txt) || return 1
+    for name in std ${line#*:}; do
+        if [ -d "crates/$name" ]; then
+            words+=(--extern "$name=$PWD/crates/$name/out/rlib/$name.rlib")
+        else
+            words+=(--extern "$name=$kit/rlibs/$name.rlib")
+        fi
+    done
+    for name in crates/*/out/rlib; do words+=(-L "dependency=$PWD/$name"); done
+    cd crates/cc_c || return 1
+    mkdir -p out
+    "$kit/bin/rattle" build --crate-name cc_c src/lib.rt "${words[@]}" -L "dependency=$kit/rlibs" --links cc_c= \
+        --antt-project "$kit/rattle/logic/antt-project.json" --logic-built "$kit/logic_built" --jobs "$(nproc)" \
+        --crate-type staticlib --toolchain "$kit/toolchain" --backend llvm -o out/libcc_c.a
+}
+
 library=${CCOLLECT:-}
 if [ -z "$library" ]; then
-    (cd crates/cc_c && rt lib) || exit 1
     library=crates/cc_c/out/libcc_c.a
+    if [ "${1:-}" = --over-gate ]; then
+        (over_gate) || exit 1
+    else
+        (cd crates/cc_c && rt lib) || exit 1
+    fi
 fi
 if [ ! -r "$library" ]; then
     echo "c: there is no library $library" >&2
