@@ -1,17 +1,13 @@
-use Rattle.std.proofs.Common.{◌≡◌, None, Some, Result, Err, length, sym, ◌∙◌, ap, subst, arith, IsSome}
+use Rattle.std.proofs.Common.{◌≡◌, None, Some, Result, Err, length, sym, ◌∙◌, ap, subst, arith}
 use Rattle.cc_names.specs.declared.number.NKey.{NKey}
-use Rattle.cc_heaps.specs.Keyed.{counts_of, number_at}
+use Rattle.cc_heaps.specs.Keyed.{counts_of}
 use Rattle.cc_host.specs.declared.stop.Stop.{Stop}
 use Rattle.cc_host.specs.declared.stop.Stop.TheVariants.{Index}
-use Rattle.cc_host.specs.Hosted.{Hosted, IsKept, slots_of, IsRooted}
+use Rattle.cc_host.specs.Hosted.{Hosted, IsKept, slots_of}
 use Rattle.cc_host.specs.Stops.{IsStoppedBy, first, stop_moving, stop_native, stop_slot}
 use Rattle.cc_host.proofs.Reading.{native_slots-many}
-use Rattle.cc_host.proofs.Keeping.{hosted, moved-does, step-keeps}
+use Rattle.cc_host.proofs.Keeping.{step-keeps}
 use Rattle.cc_host.proofs.Stopping.{at-first, at-second, beyond-slots, by-passed, by-stopped, moving, passed, stopped, within-slots}
-use Rattle.cc_host.specs.Calls.{Does}
-use Rattle.cc_names.specs.Names.{number_of}
-use Rattle.cc_heaps.specs.Changes.{slot_held, native_name}
-use Rattle.cc_model.specs.Graph as graph
 use Rattle.cc_host.proofs.host.Host.move_slot.Goals as goal
 use Rattle.cc_host.proofs.host.Host.move_slot.Goals.{then-i-slots-via-then-i-slots, then-i-slots-via-else-i-slots+then-j-slots}
 
@@ -67,16 +63,3 @@ returns-clause-stops g c =
     (moving h x c.args.i y c.args.j None (passed (stop_native h x) c.in_ok-to.to c.in_ok-to.ensures.stops) (passed (stop_native h y) c.in_ok-from.from c.in_ok-from.ensures.stops)
     (at-second (stop_slot h x c.args.i) (stop_slot h y c.args.j) None (within-slots h x c.slots.result c.args.i one c.if-i-slots.false)
     (within-slots h y c.slots-else-i-slots.result c.args.j two c.if-j-slots.false)))
-
-pub returns-clause-does : goal.returns-clause-does
-returns-clause-does g c =
-    let v = c.self.inside.heaps in
-    let w = c.move_native.new.heaps in
-    let b = c.self.inside.collector in
-    let m = c.self.inside.mark in
-    subst (λ (k : Hosted). Does (IsRooted k c.args.to × IsRooted k c.args.from) (λ q. graph.move_slot q (Some c.args.to.name) c.args.i (Some c.args.from.name) c.args.j (slot_held k.heaps.heap (number_of c.args.from.name) c.args.j)) k (hosted w b m)) c.self.view_is
-    (moved-does v w b m c.in_ok-to.to c.args.i c.in_ok-from.from c.args.j c.args.to.name c.args.from.name
-    (subst (λ (k : Hosted). native_name k.heaps (Some c.in_ok-to.to) ≡ Some c.args.to.name) (sym c.self.view_is) c.in_ok-to.ensures.name)
-    (subst (λ (k : Hosted). native_name k.heaps (Some c.in_ok-from.from) ≡ Some c.args.from.name) (sym c.self.view_is) c.in_ok-from.ensures.name)
-    (subst (λ (k : Hosted). IsSome (number_at k.heaps c.in_ok-from.from.0)) (sym c.self.view_is) c.in_ok-from.ensures.live)
-    c.move_native.ensures.step)

@@ -4,10 +4,7 @@ use Rattle.cc_names.specs.declared.name.Name.{Name}
 use Rattle.cc_names.specs.Names.{native}
 use Rattle.cc_model.specs.WellFormed.{names_there}
 use Rattle.cc_host.specs.Hosted.{Hosted, named}
-use Rattle.cc_host.proofs.Keeping.{step-keeps, hosted, step-does}
-use Rattle.cc_host.specs.Calls.{Does, Always}
-use Rattle.cc_model.specs.Graph as graph
-use Rattle.cc_model.specs.declared.command.Command.TheVariants as command
+use Rattle.cc_host.proofs.Keeping.{step-keeps}
 use Rattle.cc_host.proofs.host.Host.new_native.Goals as goal
 
 pub invariant_of-self-2 : goal.invariant_of-self-2
@@ -23,12 +20,3 @@ returns-clause-came g c =
     some-same (sym (ap named c.in-Some.is) ∙ (c.of_native.ensures.name ∙ c.in_ok-key.ensures.name)) in
     subst (λ (k : Hosted). (y : Name) → Among y (names_there c.make_native.new.heaps.heap) → Among y (names_there k.heaps.heap) ⊎ (y ≡ c.in-Some.made.name)) c.self.view_is
     (λ y m. ⊎_elim (λ l. inl l) (λ e. inr (e ∙ sym made)) (c.in_ok-key.ensures.came y m))
-
-pub returns-clause-does : goal.returns-clause-does
-returns-clause-does g c =
-    let v = c.self.inside.heaps in
-    let w = c.make_native.new.heaps in
-    let b = c.self.inside.collector in
-    let m = c.self.inside.mark in
-    subst (λ (k : Hosted). Does Always (λ q. graph.step q (command.Native c.args.r c.args.slots)) k (hosted w b m)) c.self.view_is
-    (step-does v w b m c.in_ok-key.ensures.step)

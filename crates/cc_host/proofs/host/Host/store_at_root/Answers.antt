@@ -1,19 +1,16 @@
-use Rattle.std.proofs.Common.{◌≡◌, ◌≤◌, ◌<◌, Option, None, Some, IsSome, length, nat_le, ◌∙◌, ap, subst, sym}
+use Rattle.std.proofs.Common.{◌≡◌, ◌≤◌, ◌<◌, Option, None, Some, IsSome, length, nat_le, ◌∙◌, ap, subst}
 use Rattle.cc_names.specs.declared.register.Reg.TheVariants.{N}
 use Rattle.cc_model.specs.Heap.{register}
 use Rattle.cc_heaps.specs.Keyed.{counts_of, number_at}
-use Rattle.cc_heaps.specs.Changes.{native_name, held_name}
+use Rattle.cc_heaps.specs.Changes.{native_name}
 use Rattle.cc_heaps.specs.Leaving.{NoneCame}
 use Rattle.cc_host.specs.declared.stop.Stop.{Stop}
 use Rattle.cc_host.specs.declared.stop.Stop.TheVariants.{Index}
-use Rattle.cc_host.specs.Hosted.{Hosted, IsKept, IsRootedIfAny, named}
+use Rattle.cc_host.specs.Hosted.{Hosted, IsKept}
 use Rattle.cc_host.specs.Stops.{slots_at_root, stop_at, stop_if_any, stop_storing_at_root, where_so}
-use Rattle.cc_host.proofs.Keeping.{step-keeps, hosted, step-does}
+use Rattle.cc_host.proofs.Keeping.{step-keeps}
 use Rattle.cc_host.proofs.Rooted.{rooted-slots, rooted-storing}
 use Rattle.cc_host.proofs.Stopping.{beyond, by-passed, by-stopped, passed, within}
-use Rattle.cc_host.specs.Calls.{Does}
-use Rattle.cc_heaps.specs.Standing.{IsReached}
-use Rattle.cc_model.specs.Graph as graph
 use Rattle.cc_host.proofs.host.Host.store_at_root.Given as given
 use Rattle.cc_host.proofs.host.Host.store_at_root.Goals as goal
 use Rattle.cc_host.proofs.host.Host.store_at_root.Goals.{After-slots}
@@ -60,15 +57,3 @@ returns-clause-stops g c =
 pub returns-clause-none_came : goal.returns-clause-none_came
 returns-clause-none_came g c =
     subst (λ (k : Hosted). NoneCame k.heaps.heap c.store_rooted.new.heaps.heap) c.self.view_is c.store_rooted.ensures.none_came
-
-pub returns-clause-does : goal.returns-clause-does
-returns-clause-does g c =
-    let v = c.self.inside.heaps in
-    let w = c.store_rooted.new.heaps in
-    let b = c.self.inside.collector in
-    let m = c.self.inside.mark in
-    subst (λ (k : Hosted). Does (IsRootedIfAny k c.args.y) (λ q. graph.set_slot q (register k.heaps.heap (N c.args.r)) c.args.i (named c.args.y)) k (hosted w b m)) c.self.view_is
-    (subst (λ z. Does (IsReached v.heap z) (λ q. graph.set_slot q (register v.heap (N c.args.r)) c.args.i z) (hosted v b m) (hosted w b m))
-    (subst (λ (k : Hosted). held_name k.heaps c.in_ok-content.content ≡ named c.args.y) (sym c.self.view_is) c.in_ok-content.ensures.name)
-    (subst (λ y. Does (IsReached v.heap (held_name v c.in_ok-content.content)) (λ q. graph.set_slot q y c.args.i (held_name v c.in_ok-content.content)) (hosted v b m) (hosted w b m))
-    c.in-Some.ensures.name (step-does v w b m c.store_rooted.ensures.step)))

@@ -1,15 +1,11 @@
-use Rattle.std.proofs.Common.{◌≡◌, None, Some, length, ◌∙◌, ap, subst, sym}
+use Rattle.std.proofs.Common.{◌≡◌, None, Some, length, ◌∙◌, ap, subst}
 use Rattle.cc_heaps.specs.Keyed.{counts_of}
 use Rattle.cc_host.specs.declared.stop.Stop.TheVariants.{Index}
-use Rattle.cc_host.specs.Hosted.{Hosted, IsKept, slots_of, IsRooted, IsRootedIfAny, named}
+use Rattle.cc_host.specs.Hosted.{Hosted, IsKept, slots_of}
 use Rattle.cc_host.specs.Stops.{stop_at, stop_if_any, stop_native, stop_storing}
 use Rattle.cc_host.proofs.Reading.{native_slots-many}
-use Rattle.cc_host.proofs.Keeping.{hosted, step-does, step-keeps, unpreserved-does}
+use Rattle.cc_host.proofs.Keeping.{step-keeps}
 use Rattle.cc_host.proofs.Stopping.{beyond-slots, by-passed, by-stopped, native-storing, passed, within-slots}
-use Rattle.cc_host.specs.Calls.{Does}
-use Rattle.cc_heaps.specs.Standing.{IsReached}
-use Rattle.cc_heaps.specs.Changes.{held_name, native_name}
-use Rattle.cc_model.specs.Graph as graph
 use Rattle.cc_host.proofs.host.Host.store_in_native.Goals as goal
 
 pub invariant_of-self : goal.invariant_of-self
@@ -37,16 +33,3 @@ returns-clause-stops g c =
     (native-storing h c.args.x c.args.i c.args.y None c.requires (passed (stop_native h c.args.x) c.in_ok-key.key c.in_ok-key.ensures.stops)
     (passed (stop_if_any stop_at h c.args.y) c.in_ok-content.content c.in_ok-content.ensures.stops)
     (within-slots h c.args.x c.slots.result c.args.i count c.if-i-slots.false))
-
-pub returns-clause-does : goal.returns-clause-does
-returns-clause-does g c =
-    let v = c.self.inside.heaps in
-    let w = c.store_native.new.heaps in
-    let b = c.self.inside.collector in
-    let m = c.self.inside.mark in
-    subst (λ (k : Hosted). Does (IsRooted k c.args.x × IsRootedIfAny k c.args.y) (λ q. graph.set_slot (graph.preserve q (Some c.args.x.name)) (Some c.args.x.name) c.args.i (named c.args.y)) k (hosted w b m)) c.self.view_is
-    (unpreserved-does c.args.x.name c.requires (IsReached v.heap (Some c.args.x.name) × IsReached v.heap (named c.args.y)) c.args.i (named c.args.y) (hosted v b m) (hosted w b m)
-    (subst (λ z. Does (IsReached v.heap (Some c.args.x.name) × IsReached v.heap z) (λ q. graph.set_slot q (Some c.args.x.name) c.args.i z) (hosted v b m) (hosted w b m))
-    (subst (λ (k : Hosted). held_name k.heaps c.in_ok-content.content ≡ named c.args.y) (sym c.self.view_is) c.in_ok-content.ensures.name)
-    (subst (λ y. Does (IsReached v.heap y × IsReached v.heap (held_name v c.in_ok-content.content)) (λ q. graph.set_slot q y c.args.i (held_name v c.in_ok-content.content)) (hosted v b m) (hosted w b m))
-    (subst (λ (k : Hosted). native_name k.heaps (Some c.in_ok-key.key) ≡ Some c.args.x.name) (sym c.self.view_is) c.in_ok-key.ensures.name) (step-does v w b m c.store_native.ensures.step))))
