@@ -3,7 +3,7 @@ use Rattle.std.proofs.Common.{◌≡◌, ◌⊎◌, ℕ, ◌≤◌, ◌+◌, ◌
 use Rattle.std.proofs.lemmas.Bool.{cases_lt}
 use Rattle.std.proofs.lemmas.List.{map-append}
 use Rattle.cc_lists.specs.Members.{Among}
-use Rattle.cc_lists.proofs.Members.{Among-left, Among-right, Among-append, Among-map_cases}
+use Rattle.cc_lists.proofs.Members.{Among-left, Among-right, Among-append}
 use Rattle.cc_lists.proofs.Least.{derive-root}
 use Rattle.cc_names.specs.declared.name.Name.{Name}
 use Rattle.cc_names.specs.declared.register.Reg.TheVariants.{N}
@@ -14,37 +14,17 @@ use Rattle.cc_model.specs.Telling.{Telling, TellsEvents}
 use Rattle.cc_model.specs.Graph as graph
 use Rattle.cc_model.specs.Slots.{Slots, contents}
 use Rattle.cc_model.specs.Entries.{joints, rules_of}
-use Rattle.cc_model.specs.Heap.{Heap, HeapNative, register}
+use Rattle.cc_model.specs.Heap.{Heap, register}
 use Rattle.cc_model.specs.StandsFor.{StandsFor}
 use Rattle.cc_model.specs.WellMade.{IsWellMade}
 use Rattle.cc_model.specs.View.{view, ReachedIn}
-use Rattle.cc_model.specs.WellFormed.{IsWellFormed, native_names, script_names, names_there}
+use Rattle.cc_model.specs.WellFormed.{IsWellFormed, names_there}
 use Rattle.cc_model.proofs.Tellings.{TellsEvents-trans}
-use Rattle.cc_laws_heap.proofs.Face.{contents-get, in-reached, native-no_script, native-there, reached-in, times-among, times-append}
+use Rattle.cc_laws_heap.proofs.Face.{contents-get, in-reached, reached-in, times-among, times-append}
 use Rattle.cc_laws_snapshot.proofs.Face.{reached-there}
-use Rattle.cc_heaps.specs.Keyed.{Keyed}
-use Rattle.cc_heaps.specs.Changes.{KeepsKeys}
 use Rattle.cc_heaps.specs.Leaving.{HasLeft, NoneCame, TellsWhatIsFreed, freed}
 use Rattle.cc_heaps.specs.Standing.{IsReached, StandsAfter}
 use Rattle.cc_session.proofs.Reaching.{reached-step}
-
--- Keys
-
--- what is a script object afterwards was one before, where nothing came
-script-there : (h k : Heap) → IsWellFormed k → NoneCame h k → (x : Name) → Among x (script_names k) → Among x (script_names h)
-script-there h k w came x m = ⊎_elim
-    (λ l. let f = Among-map_cases (λ (n : HeapNative). native n.number) h.natives x l in
-    absurd (native-no_script k f.0.number w (subst (λ y. Among y (script_names k)) (sym f.2) m)))
-    (λ r. r)
-    (Among-append x (native_names h) (script_names h) (came x (Among-right x (native_names k) (script_names k) m)))
-
--- where nothing comes back between
-pub KeepsKeys-then : (a b c : Keyed) → IsWellFormed b.heap → IsWellFormed c.heap → NoneCame b.heap c.heap → KeepsKeys a b → KeepsKeys b c → KeepsKeys a c
-KeepsKeys-then a b c between late came s t = record {
-  natives = λ key k at there. t.natives key k (s.natives key k at
-      (native-there b.heap k between (came (native k) (Among-left (native k) (native_names c.heap) (script_names c.heap) there)))) there;
-  scripts = λ key x at there. t.scripts key x (s.scripts key x at (script-there b.heap c.heap late came x there)) there;
-}
 
 -- What leaves
 

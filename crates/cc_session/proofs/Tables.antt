@@ -15,7 +15,8 @@ use Rattle.cc_host.specs.Missing.{KeepsDoomed}
 use Rattle.cc_host.specs.Hosted.{Hosted, IsKept, named, roots, spare}
 use Rattle.cc_host.specs.declared.object.Object.{Object}
 use Rattle.cc_session.specs.Sessions.{Comes, table, tabled}
-use Rattle.cc_session.proofs.Rows.{KeepsKeys-then, stands-both, tells-then, was-before}
+use Rattle.cc_host.proofs.Composing.{KeepsKeys-then}
+use Rattle.cc_session.proofs.Rows.{stands-both, tells-then, was-before}
 
 -- where a call went well, what it did is what both did
 pub on_ok : {T E P Q : Type 0} (r : Result T E) → (P → Q) → OnOk r P → OnOk r Q

@@ -4,7 +4,7 @@ use Rattle.cc_host.specs.Hosted.{IsKept}
 use Rattle.cc_host.specs.Stops.{where_so}
 use Rattle.cc_session.specs.Sessions.{State, register_for, table}
 use Rattle.cc_session.specs.Refusals.{stop_held, stop_root}
-use Rattle.cc_session.proofs.Stopping.{at-first, at-second, by-stopped, passed}
+use Rattle.cc_host.proofs.Stopping.{at-first, at-second, by-stopped, passed}
 use Rattle.cc_session.proofs.Tables.{beyond-none}
 use Rattle.cc_session.proofs.session.Session.held.Goals as goal
 

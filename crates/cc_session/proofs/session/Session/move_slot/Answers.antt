@@ -3,7 +3,8 @@ use Rattle.cc_host.specs.Stops.{IsStoppedBy, first, stop_moving}
 use Rattle.cc_heaps.proofs.Leaving.{nothing-told}
 use Rattle.cc_session.specs.Sessions.{State}
 use Rattle.cc_session.specs.Refusals.{stop_moved, stop_table}
-use Rattle.cc_session.proofs.Stopping.{first-by, handed-on, passed, second-by}
+use Rattle.cc_host.proofs.Stopping.{passed}
+use Rattle.cc_session.proofs.Stopping.{first-by, handed-on, second-by}
 use Rattle.cc_session.proofs.session.Session.move_slot.Goals as goal
 
 pub returns-in_err-look-2-clause-stops : goal.returns-in_err-look-2-clause-stops
