@@ -32,6 +32,10 @@
  * a native comes the number that cc_set_data gave it. Room for what one collection can tell is taken when objects are made: a
  * program that fetches between two collections loses nothing; what was lost all the same shows in cc_is_told_broken.
  *
+ * SLICES. Call cc_gc, and then cc_slice for some units in each frame. What no root reached when the first of them began the
+ * collection is told as unlinked at its end, each native of it, whatever calls come between the slices; the next cc_gc frees it.
+ * So it is unless the collection is abandoned, or a call between was handed an object that no root reached any more.
+ *
  * STATUS. Each call answers one of the CC_ numbers: of those that apply the first of CC_CLOSED; CC_INDEX of a numbered root; then
  * of the objects in the order in which they are handed in CC_FOREIGN, CC_GONE, CC_KIND of each; CC_INDEX of slots; CC_FULL. Where
  * memory is wanted CC_NO_MEMORY may come in place of any of these but CC_CLOSED and CC_INDEX of a numbered root. Unless it is
