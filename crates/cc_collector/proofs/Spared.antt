@@ -27,7 +27,7 @@ use Rattle.cc_collector.specs.Collected.{SparesInEachGraph}
 use Rattle.cc_collector.proofs.Keeping.{RunsIn-fresh}
 
 -- what is there, natives and then script objects, is in census order
-listed-there : (h : Heap) → IsWellFormed h → census_names h ≡ census_order (names_there h)
+pub listed-there : (h : Heap) → IsWellFormed h → census_names h ≡ census_order (names_there h)
 listed-there h w = grind (arith, filter-first, native-name_of, not-true, script_names-named, filter-second)
 
 -- Heaps with a running collection run beside each graph that they stand for

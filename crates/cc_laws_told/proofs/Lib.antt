@@ -1,0 +1,9 @@
+pub mod Face
+pub mod Counted
+pub mod Few
+pub mod EndTells
+pub mod UnitTells
+pub mod UnitsTell
+pub mod ScriptsTell
+pub mod CollectionsTell
+pub mod Leaving

@@ -1,0 +1,10 @@
+//! Laws of what collections tell: no more than each object once that leaves, each native once for each collection that
+//! unlinks it, and that a collection was given up. So whoever is told can take the room for it before.
+//!
+//! The function has an empty body and is a law that its clauses state, over the definitions of `cc_model`, over `IsSound` of
+//! `cc_laws_heap`, and over `specs/Told.antt`.
+#![tactic(auto)]
+
+mod told;
+
+pub use told::collections_tell_few;
