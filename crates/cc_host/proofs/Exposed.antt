@@ -19,7 +19,7 @@ use Rattle.cc_laws_heap.proofs.Face.{IsHeldBlack, exposed-black, is_one_of, scri
 use Rattle.cc_script.specs.Objects.{Object, colour_at, is_there, name_at, object_at, slots_at, slots_or_none}
 use Rattle.cc_heaps.specs.Keyed.{Keyed, IsInOrder, name_held, named_object}
 use Rattle.cc_heaps.specs.Keeping.{KeepsAll}
-use Rattle.cc_heaps.specs.Leaving.{NothingLeft}
+use Rattle.cc_heaps.specs.Leaving.{NoneCame, NothingLeft}
 use Rattle.cc_heaps.specs.Standing.{IsReached, StandsAfter, StillStands}
 use Rattle.cc_heaps.proofs.ContentNames.{object-there}
 use Rattle.cc_heaps.proofs.Kept.{KeepsAll-same}
@@ -151,6 +151,9 @@ module _ {p : Type 0} (v w : Keyed) (e : Exposes p v w) where
 
   pub exposed-none_left : NothingLeft v.heap w.heap
   exposed-none_left x i = subst (Among x) (sym exposed-names) i
+
+  pub exposed-none_came : NoneCame v.heap w.heap
+  exposed-none_came x i = subst (Among x) exposed-names i
 
   -- It is a step that leaves the graph.
   pub exposed-step : IsReady v → IsTried p v w

@@ -31,7 +31,7 @@ use Rattle.cc_host.proofs.Stopping.{at-second, within}
 use Rattle.cc_host.proofs.Storing.{native_name-is, register-reached, stored-none_came}
 
 -- what a register holds, if anything
-root-reached : (h : Heap) (r : ℕ) → IsReached h (register h (N r))
+pub root-reached : (h : Heap) (r : ℕ) → IsReached h (register h (N r))
 root-reached h r = go (register h (N r)) refl
   where
     go : (o : Option Name) → register h (N r) ≡ o → IsReached h o

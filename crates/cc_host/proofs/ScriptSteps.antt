@@ -16,7 +16,7 @@ use Rattle.cc_laws_heap.proofs.Face.{native_names-change, script_names-exposed}
 use Rattle.cc_script.specs.Objects.{colour_at}
 use Rattle.cc_heaps.specs.Keyed.{Keyed}
 use Rattle.cc_heaps.specs.Changes.{IsScriptThere, script_name}
-use Rattle.cc_heaps.specs.Leaving.{NothingLeft}
+use Rattle.cc_heaps.specs.Leaving.{NoneCame, NothingLeft}
 use Rattle.cc_host.specs.Exposing.{AreSame}
 use Rattle.cc_host.specs.Hosted.{spare}
 use Rattle.cc_host.proofs.Exposed.{exposed-rest}
@@ -86,6 +86,9 @@ module _ (v w : Keyed) (b : StaysBeside v.heap w.heap) where
 
   pub beside-none_left : NothingLeft v.heap w.heap
   beside-none_left x i = subst (Among x) (sym b.names) i
+
+  pub beside-none_came : NoneCame v.heap w.heap
+  beside-none_came x i = subst (Among x) b.names i
 
 -- What follows of a call that may be refused
 

@@ -51,7 +51,7 @@ contents-kept (Some z ∷ slots) (suc i) x e y m = ⊎_elim (λ f. inl f) (λ r.
 
 module _ (h : Heap) (r : ℕ) (x : Option Name) where
   -- the heaps with a register written, before what it held is given up
-  abbrev written : Heap
+  abbrev pub written : Heap
   written = set_register (take_up h x) (N r) x
 
   beside : SameBeside h (take_up h x)
@@ -68,7 +68,7 @@ module _ (h : Heap) (r : ℕ) (x : Option Name) where
   written-natives : native_names written ≡ native_names h
   written-natives = native_names-alike h (take_up h x) (HoldsTheSame-take_up h x)
 
-  written-names : names_there written ≡ names_there h
+  pub written-names : names_there written ≡ names_there h
   written-names = names_there-alike h (take_up h x) (HoldsTheSame-take_up h x)
 
   module _ (empty : register h (N r) ≡ None) where

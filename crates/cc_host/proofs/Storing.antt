@@ -55,7 +55,7 @@ moved-none_came h g k i m j w is y n = subst (Among y) (taken_out-names h m j (s
 -- By keys
 
 -- a native has as many slots by its key as by its name
-slots-counted : (v : Keyed) (key : ℕ) → length (slots_of (counts_of v) key) ≡ length (slots_now (native_at v.heap (the_number v key)))
+pub slots-counted : (v : Keyed) (key : ℕ) → length (slots_of (counts_of v) key) ≡ length (slots_now (native_at v.heap (the_number v key)))
 slots-counted v key = ap length (slots-keyed v (the_number v key)) ∙ length-map (slots_now (native_at v.heap (the_number v key))) (λ x. option_and_then (keyed_name v.scripts) x)
 
 module _ (v w : Keyed) (keys : w.keys ≡ v.keys) where

@@ -1,7 +1,6 @@
 -- WHAT A COLLECTION CAN'T MISS IS TAKEN by the calls that bring it to its end; `gc` leaves what one that begins then can't miss.
 use Rattle.std.specs.Prelude.{OnOk, OnErr}
 use Rattle.std.proofs.Common.{Result, ◌≡◌, ◌≢◌, ℕ, zero, suc, ◌<◌, Bool, true, false, List, [], ◌∷◌, ◌++◌, Some, None, is_some, refl, sym, ◌∙◌, ap, subst, inl, inr, ⊎_elim, arith}
-use Rattle.std.proofs.lemmas.Bool.{not-true}
 use Rattle.std.proofs.lemmas.List.{append_assoc, append-nil}
 use Rattle.cc_lists.specs.Members.{Among}
 use Rattle.cc_lists.proofs.Members.{Among-left}
@@ -14,30 +13,28 @@ use Rattle.cc_model.specs.Asks.{taken}
 use Rattle.cc_model.specs.Graph.{Graph}
 use Rattle.cc_model.specs.Heap.{Heap}
 use Rattle.cc_model.specs.View.{view}
-use Rattle.cc_model.specs.WellFormed.{IsWellFormed, names_there}
-use Rattle.cc_model.specs.Listed.{census_order}
+use Rattle.cc_model.specs.WellFormed.{names_there}
 use Rattle.cc_model.specs.Lawful.{State}
 use Rattle.cc_model.specs.Snapshot.{Snapshot}
 use Rattle.cc_model.specs.Sweep.{collect_scripts}
 use Rattle.cc_model.specs.Units.{begun, with_empty_buffer}
 use Rattle.cc_model.specs.End.{Progress, went_on, at_end, refused, unit}
 use Rattle.cc_model.specs.Collecting.{Machine, UnitsDone, no_units, next_answer, units_done, enough_units, to_the_end, finish_running, starting_anew, unless_stopped, slice, collect, gc}
-use Rattle.cc_model.specs.Run.{census_names, do_ask}
+use Rattle.cc_model.specs.Run.{do_ask}
 use Rattle.cc_model.specs.Telling.{Telling, TellsEvents}
 use Rattle.cc_model.proofs.Tellings.{TellsEvents-trans}
 use Rattle.cc_model.proofs.UnitsEnd.{to_the_end-stops}
-use Rattle.cc_laws_heap.proofs.Face.{script_names-named}
-use Rattle.cc_laws_snapshot.proofs.Face.{native-name_of}
 use Rattle.cc_laws_run.specs.Running.{IsRunning}
 use Rattle.cc_laws_run.specs.Doomed.{IsDoomed, KeepsReflectors, garbage}
 use Rattle.cc_laws_run.specs.Memory.{with_memory}
 use Rattle.cc_laws_run.specs.Missing.{lost}
-use Rattle.cc_laws_run.proofs.Face.{IsFollowed, ask-follows, begin-follows, collect-none, collected-doomed, filter-first, filter-second, gc-collects, lost-doomed, lost-keeps, units_done-keep}
+use Rattle.cc_laws_run.proofs.Face.{IsFollowed, ask-follows, begin-follows, collect-none, collected-doomed, gc-collects, lost-doomed, lost-keeps, units_done-keep}
 use Rattle.cc_heaps.specs.Standing.{StillStands}
 use Rattle.cc_collector.specs.Kept.{RunsIn, running_snapshot}
 use Rattle.cc_collector.specs.Collected.{LedTo, IsSliced, IsCollected, IsSwept}
 use Rattle.cc_collector.specs.Settled.{IsSettled, IsUnsettled}
 use Rattle.cc_collector.proofs.Keeping.{RunsIn-fresh}
+use Rattle.cc_collector.proofs.Spared.{listed-there}
 use Rattle.cc_host.specs.Hosted.{Hosted, IsKept, machine}
 use Rattle.cc_host.specs.Missing.{IsOfAGraph, CannotMiss, TakesGarbage, TellsUnlinked, TellsAbandoned, TakesBySlice, Takes}
 
@@ -146,10 +143,6 @@ unfolding gc
 gc-begins m = ((collect_scripts (finish_running m).machine.heap).events, refl)
 
 -- A host's machine
-
--- what is there, natives and then script objects, is in census order
-listed-there : (h : Heap) → IsWellFormed h → census_names h ≡ census_order (names_there h)
-listed-there h w = grind (arith, filter-first, native-name_of, not-true, script_names-named, filter-second)
 
 module _ (h : Hosted) (r : RunsIn h.heaps h.running) (memory : List Bool) where
   -- as the plain run has it, with answers of memory

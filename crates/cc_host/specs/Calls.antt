@@ -1,12 +1,16 @@
 -- WHAT A CALL OF A HOST COMES TO.
-use Rattle.std.specs.Prelude.{◌≡◌, ℕ, Option, Some}
+use Rattle.std.specs.Prelude.{◌≡◌, ◌⊎◌, ℕ, ◌+◌, ◌≤◌, List, length, Option, Some}
+use Rattle.cc_lists.specs.Members.{Among}
 use Rattle.cc_names.specs.declared.name.Name.{Name}
+use Rattle.cc_model.specs.declared.item.Event.{Event}
 use Rattle.cc_model.specs.Graph.{Graph, preserve, set_slot}
-use Rattle.cc_model.specs.Telling.{Telling}
+use Rattle.cc_model.specs.Telling.{Telling, TellsEvents}
+use Rattle.cc_model.specs.WellFormed.{names_there}
 use Rattle.cc_gc.specs.Sparing.{KeepsWhatIsReached}
 use Rattle.cc_collector.specs.Collected.{TellsWhatLeaves}
 use Rattle.cc_heaps.specs.Changes.{KeepsKeys}
-use Rattle.cc_heaps.specs.Leaving.{TellsWhatIsFreed}
+use Rattle.cc_heaps.specs.Leaving.{NoneCame, TellsWhatIsFreed}
+use Rattle.cc_laws_told.specs.Told.{objects}
 use Rattle.cc_heaps.specs.Standing.{StandsAfter, StillStands}
 use Rattle.cc_host.specs.Hosted.{Hosted}
 use Rattle.cc_host.specs.Missing.{KeepsDoomed}
@@ -34,6 +38,14 @@ pub record Tries (premise : Type 0) (old new : Hosted) : Type 0 where
   pub running : new.running ≡ old.running
   pub mark : new.mark ≡ old.mark
 
+-- NO OBJECT COMES
+abbrev pub NoneComes : Hosted → Hosted → Type 0
+NoneComes old new = NoneCame old.heaps.heap new.heaps.heap
+
+-- no object comes but this one
+abbrev pub Comes : Name → Hosted → Hosted → Type 0
+Comes made old new = (x : Name) → Among x (names_there new.heaps.heap) → Among x (names_there old.heaps.heap) ⊎ (x ≡ made)
+
 -- WHAT LEFT BY A CALL IS TOLD: natives that lost their last reference, each once, and nothing else
 abbrev pub TellsFreed : Hosted → Hosted → Telling → Telling → Type 0
 TellsFreed old new before after = TellsWhatIsFreed old.heaps.heap new.heaps.heap before after
@@ -45,6 +57,16 @@ pub record Collects (old new : Hosted) (before after : Telling) : Type 0 where
   pub tells : TellsWhatLeaves old.heaps.heap new.heaps.heap before after
   pub keys : KeepsKeys old.heaps new.heaps
   pub mark : new.mark ≡ old.mark
+
+-- events are few: one for each object that leaves, and at most so many besides; no object comes
+pub record IsFew (besides : ℕ) (old new : Hosted) (es : List Event) : Type 0 where
+  pub told : length es + objects new.heaps.heap ≤ objects old.heaps.heap + besides
+  pub natives : length new.heaps.heap.natives ≤ length old.heaps.heap.natives
+  pub scripts : length new.heaps.heap.scripts ≤ length old.heaps.heap.scripts
+
+-- A COLLECTION TELLS FEW ITEMS, and nothing else
+unfoldable pub TellsFew : ℕ → Hosted → Hosted → Telling → Telling → Type 0
+TellsFew besides old new before after = (es : List Event) × TellsEvents before after es × IsFew besides old new es
 
 -- slot i of an object written; a reflector is preserved before
 abbrev pub stored : Object → ℕ → Option Name → Graph → Graph

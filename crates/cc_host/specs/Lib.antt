@@ -1,7 +1,9 @@
 pub mod Hosted
 pub mod Missing
 pub mod Stops
+pub mod Paths
 pub mod Calls
 pub mod Steps
 pub mod Holding
 pub mod Exposing
+pub mod Queues

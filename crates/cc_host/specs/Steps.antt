@@ -1,8 +1,11 @@
 -- A STEP OF A HOST: one change of the heaps that may come at any time.
-use Rattle.std.specs.Prelude.{◌≡◌, [], Option, None}
+use Rattle.std.specs.Prelude.{◌≡◌, ◌⊎◌, [], Option, Some, None}
+use Rattle.cc_lists.specs.Members.{Among}
+use Rattle.cc_names.specs.declared.name.Name.{Name}
 use Rattle.cc_names.specs.declared.register.Reg.TheVariants.{N}
 use Rattle.cc_model.specs.Graph.{Graph}
-use Rattle.cc_model.specs.Heap.{register}
+use Rattle.cc_model.specs.Heap.{Heap, register}
+use Rattle.cc_model.specs.WellFormed.{names_there}
 use Rattle.cc_heaps.specs.Keyed.{Keyed, IsInOrder}
 use Rattle.cc_heaps.specs.Keeping.{KeepsAll}
 use Rattle.cc_heaps.specs.Standing.{StandsAfter, StillStands}
@@ -35,3 +38,7 @@ pub record IsTried (premise : Type 0) (old new : Keyed) : Type 0 where
 pub record StaysThere (old new : Keyed) : Type 0 where
   pub there : (x : Option Held) → IsThere old x → IsThere new x
   pub same : (x : Option Held) → IsThere old x → held_name new x ≡ held_name old x
+
+-- NO OBJECT CAME but this one
+abbrev pub OneCame : Option Name → Heap → Heap → Type 0
+OneCame made old new = (x : Name) → Among x (names_there new) → Among x (names_there old) ⊎ (Some x ≡ made)

@@ -1,5 +1,5 @@
 -- WHEN A CALL IS REFUSED: each cause is tested, in one order, and the first that is so is the answer.
-use Rattle.std.specs.Prelude.{◌≡◌, ◌==◌, ℕ, Bool, true, false, not, length, nat_le, nat_lt, Option, Some, None, is_none, option_and_then, Result, Err, IsOk}
+use Rattle.std.specs.Prelude.{◌≡◌, ◌==◌, ◌&&◌, ℕ, List, Bool, true, false, not, length, nat_le, nat_lt, Option, Some, None, is_none, option_and_then, slice_index_or, Result, Err, IsOk}
 use Rattle.cc_names.specs.declared.kind.Kind.{Kind}
 use Rattle.cc_names.specs.declared.kind.Kind.TheVariants as kind
 use Rattle.cc_names.specs.declared.register.Reg.TheVariants.{N}
@@ -15,6 +15,7 @@ use Rattle.cc_host.specs.declared.object.Object.{Object}
 use Rattle.cc_host.specs.declared.stop.Stop.{Stop}
 use Rattle.cc_host.specs.declared.stop.Stop.TheVariants.{Foreign, Gone, Kind as wrong_kind, Index, Full, NoMemory}
 use Rattle.cc_host.specs.Hosted.{Hosted, is_found, slots_of, roots}
+use Rattle.cc_host.specs.Paths.{native_below, slots_below}
 
 -- a stop of the heaps, as the host's
 abbrev pub stop_of_making : MakeStop → Stop
@@ -139,3 +140,21 @@ stop_storing_at_root h r i y =
     first (stop_root r)
     (first (where_so (is_none (register h.heaps.heap (N r))) Gone)
     (first (stop_if_any stop_at h y) (where_so (nat_le (length (slots_at_root h r)) i) Index)))
+
+-- a slot of the native below a root is written
+abbrev pub stop_storing_below_root : Hosted → ℕ → List ℕ → ℕ → Option Object → Option Stop
+stop_storing_below_root h r path i y =
+    first (stop_root r)
+    (first (where_so (is_none (native_below h r path)) Gone)
+    (first (stop_if_any stop_at h y) (where_so (nat_le (length (slots_below h r path)) i) Index)))
+
+-- a native is made in an empty slot of the native below a root
+abbrev pub is_free : Slots → ℕ → Bool
+is_free slots i = nat_lt i (length slots) && is_none (slice_index_or slots i None)
+
+abbrev pub stop_free_below_root : Hosted → ℕ → List ℕ → ℕ → Option Stop
+stop_free_below_root h r path i = first (where_so (is_none (native_below h r path)) Gone) (where_so (not (is_free (slots_below h r path) i)) Index)
+
+abbrev pub stop_making_below_root : Hosted → ℕ → List ℕ → ℕ → ℕ → Option Stop
+stop_making_below_root h r path i slots =
+    first (stop_root r) (first (where_so (nat_lt most_slots slots) Index) (first (stop_free_below_root h r path i) (where_so (are_natives_made h) Full)))

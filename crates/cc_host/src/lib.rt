@@ -13,9 +13,11 @@
 //! What goes is told to any receiver; `Queue` keeps it until the program fetches it.
 //!
 //! The contracts say of each call what it makes of an object graph from which nothing is freed (`Does`), and of each
-//! collection that it leaves the graph as it is, tells what leaves, and spares what the roots reach (`Collects`). A collection in
-//! slices that begins right after `gc` takes all that nothing reached by then, whatever calls come between its slices
-//! (`garbage`, `begins`, `takes`).
+//! collection that it leaves the graph as it is, tells what leaves, and spares what the roots reach (`Collects`). A call makes
+//! no object but the one that it answers (`came`, `none_came`), and a collection tells few items (`few`).
+//!
+//! A collection in slices that begins right after `gc` takes each native that nothing reached by then, where the calls between
+//! its slices are handed what is reached, unless the collection is abandoned, which is told (`garbage`, `begins`, `takes`).
 #![tactic(auto)]
 
 mod host;

@@ -407,7 +407,7 @@ fn fetches(host: &mut Host, told: &mut Queue) -> bool {
     let let_go = host.set_native_root(0, None, told).is_ok();
     let freed = told.next() == Some(Item::Event(Event::Freed(Name::Native(NativeNo(1)))));
     told.mend();
-    made & let_go & freed & told.next().is_none() & !told.is_broken()
+    made & let_go & freed & told.next().is_none() & !told.is_broken() & (told.room() == 1)
 }
 
 fn fetches_what_is_told(alloc: Global) -> bool {
@@ -463,4 +463,42 @@ fn stop_is_printed(rt: HostRuntime) -> Result<(), Fail> {
     let text = format!(in rt.alloc(); "{stop}; {stop:?}")?;
     assert_eq!(rt; text.as_str(), "an object is of another host; Foreign");
     Ok(())
+}
+
+// A native is made in slot 1 of the one in root 0.
+fn makes_below(host: &mut Host, out: &mut Notebook) -> bool {
+    let made = host.new_native(0, 2, out).is_ok();
+    let below = host.new_native_below_root(0, &[], 1, 3, out).is_ok();
+    made & below & host.native_below_root(0, &[0]).is_none()
+}
+
+// It holds itself in its last slot.
+fn ties_below(host: &mut Host, out: &mut Notebook) -> bool {
+    let below = host.native_below_root(0, &[1]);
+    let tied = host.store_below_root(0, &[1], 2, below, out).is_ok();
+    tied & below.is_some() & (host.native_below_root(0, &[1, 2]) == below)
+}
+
+// A slot that holds something takes no other, and a path that leads nowhere is refused.
+fn refuses_below(host: &mut Host, out: &mut Notebook) -> bool {
+    let full = host.new_native_below_root(0, &[], 1, 0, out) == Err(Stop::Index);
+    full & (host.store_below_root(0, &[0], 0, None, out) == Err(Stop::Gone))
+}
+
+fn writes_below(alloc: Global, host: &mut Host) -> bool {
+    let mut out = Notebook::new(alloc);
+    let made = makes_below(host, &mut out) & ties_below(host, &mut out);
+    made & refuses_below(host, &mut out)
+}
+
+fn new_host_writes_below(alloc: Global) -> bool {
+    match Host::new(alloc, Limits::new(10, 0, 0), 1) {
+        Ok(mut host) => writes_below(alloc, &mut host),
+        Err(_) => false,
+    }
+}
+
+#[test]
+fn natives_hang_below_roots(rt: HostRuntime) {
+    assert!(rt; new_host_writes_below(rt.alloc()));
 }

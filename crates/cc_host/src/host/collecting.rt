@@ -1,5 +1,5 @@
 //! Collections, whole and in slices.
-ghost use Rattle.std.specs.Prelude.{◌≡◌, ◌≢◌, ◌<◌, ℕ, List, [], None, Ok, OnErr, OnOk, is_some};
+ghost use Rattle.std.specs.Prelude.{◌≡◌, ◌≢◌, ◌<◌, ◌+◌, ℕ, length, List, [], None, Ok, OnErr, OnOk, is_some};
 ghost use Rattle.cc_names.specs.declared.name.Name.{Name};
 ghost use Rattle.cc_model.specs.End.{at_end, refused};
 ghost use Rattle.cc_laws_run.specs.Doomed.{IsSuspectedNow};
@@ -9,7 +9,7 @@ ghost use Rattle.cc_gc.specs.Sparing.{KeepsWhatIsReached};
 ghost use Rattle.cc_collector.specs.Collected.{IsCollected, IsSliced, IsSwept, TellsWhatLeaves, progress_of};
 ghost use Rattle.cc_collector.specs.Kept.{RunsIn, machine_of};
 ghost use Rattle.cc_collector.specs.Settled.{HasWhatIsReached};
-ghost use Rattle.cc_host.specs.Calls.{Collects};
+ghost use Rattle.cc_host.specs.Calls.{Collects, TellsFew};
 ghost use Rattle.cc_host.specs.Hosted.{machine};
 ghost use Rattle.cc_host.specs.Missing.{CannotMiss, IsOfAGraph, Takes, TakesBySlice, TakesGarbage, TellsUnlinked, lost_in};
 
@@ -36,6 +36,7 @@ impl Host {
     /// is told, and nothing is lost or forgotten.
     pub fn slice<N: Notices>(&mut self, units: u32, out: &mut N) -> Result<Ended, NoMemory>
         ensures collects { Collects self.old self.new (N.telling out.old) (N.telling out.new) }
+        ensures few { TellsFew (length self.old.heaps.heap.natives + 1) self.old self.new (N.telling out.old) (N.telling out.new) }
         ensures sliced { (steps : ℕ) × IsSliced units (machine self.old) (machine self.new) (progress_of result) 0 steps (N.telling out.old) (N.telling out.new) }
         ensures over { result ≢ Ok Ended.No → self.new.running ≡ None }
         // what the running collection can't miss is told unlinked at its end; what one can't miss that begins after `gc`
@@ -57,6 +58,7 @@ impl Host {
     /// `NoMemory` as in a slice.
     pub fn collect<N: Notices>(&mut self, out: &mut N) -> Result<(), NoMemory>
         ensures collects { Collects self.old self.new (N.telling out.old) (N.telling out.new) }
+        ensures few { TellsFew (length self.old.heaps.heap.natives + (length self.old.heaps.heap.natives + 1)) self.old self.new (N.telling out.old) (N.telling out.new) }
         ensures done { OnOk result (IsCollected (machine self.old) (machine self.new) at_end (N.telling out.old) (N.telling out.new)) }
         ensures refused { OnErr result (IsCollected (machine self.old) (machine self.new) refused (N.telling out.old) (N.telling out.new)) }
         ensures over { self.new.running ≡ None }
@@ -70,6 +72,7 @@ impl Host {
     /// A script collection, before which a collection that runs is ended. See `Collector::gc`.
     pub fn gc<N: Notices>(&mut self, out: &mut N)
         ensures collects { Collects self.old self.new (N.telling out.old) (N.telling out.new) }
+        ensures few { TellsFew (length self.old.heaps.heap.natives + 1) self.old self.new (N.telling out.old) (N.telling out.new) }
         ensures swept { IsSwept (machine self.old) (machine self.new) (N.telling out.old) (N.telling out.new) }
         ensures over { self.new.running ≡ None }
         ensures takes { (ds : List Name) → CannotMiss self.old ds → Takes ds (N.telling out.old) (N.telling out.new) }
@@ -85,6 +88,7 @@ impl Host {
     pub fn settle<N: Notices>(&mut self, out: &mut N) -> Result<(), NoMemory>
         ensures exact { OnOk result (HasWhatIsReached self.new.heaps.heap) }
         ensures collects { Collects self.old self.new (N.telling out.old) (N.telling out.new) }
+        ensures few { TellsFew ((length self.old.heaps.heap.natives + 1) + (length self.old.heaps.heap.natives + 1)) self.old self.new (N.telling out.old) (N.telling out.new) }
         ensures over { self.new.running ≡ None }
         ensures takes { (ds : List Name) → CannotMiss self.old ds → Takes ds (N.telling out.old) (N.telling out.new) }
     {

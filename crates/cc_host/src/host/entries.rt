@@ -1,7 +1,7 @@
 //! Entries of weak maps.
 ghost use Rattle.std.specs.Prelude.{◌≡◌, Some, None, OnErr, OnOk};
 ghost use Rattle.cc_model.specs.Graph as graph;
-ghost use Rattle.cc_host.specs.Calls.{Does, Tries};
+ghost use Rattle.cc_host.specs.Calls.{Does, NoneComes, Tries};
 ghost use Rattle.cc_host.specs.Hosted.{IsRooted};
 ghost use Rattle.cc_host.specs.Stops.{IsStoppedBy, IsStoppedOrRefused, stop_entry, stop_setting};
 
@@ -21,6 +21,7 @@ impl Host {
         ensures does { OnOk result (Does (IsRooted self.old the_map × IsRooted self.old key × IsRooted self.old value)
             (λ g. graph.set_entry g (Some the_map.name) (Some key.name) (Some value.name)) self.old self.new) }
         ensures tried { OnErr result (Tries (IsRooted self.old key × IsRooted self.old value) self.old self.new) }
+        ensures none_came { NoneComes self.old self.new }
     {
         let the_map = self.map(the_map)?;
         let key = self.script(key)?;
@@ -35,6 +36,7 @@ impl Host {
         ensures does { OnOk result (Does (IsRooted self.old the_map × IsRooted self.old key)
             (λ g. graph.set_entry g (Some the_map.name) (Some key.name) None) self.old self.new) }
         ensures same { OnErr result (self.new ≡ self.old) }
+        ensures none_came { NoneComes self.old self.new }
     {
         let the_map = self.map(the_map)?;
         let key = self.script(key)?;

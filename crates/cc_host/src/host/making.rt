@@ -1,15 +1,13 @@
 //! Objects made. Each stands in a root from then on.
-ghost use Rattle.std.specs.Prelude.{◌≡◌, ◌+◌, ◌⊎◌, Option, Some, None, Err, IfOk, OnErr, OnOk};
-ghost use Rattle.cc_lists.specs.Members.{Among};
+ghost use Rattle.std.specs.Prelude.{◌≡◌, ◌+◌, Option, Some, None, Err, IfOk, OnErr, OnOk};
 ghost use Rattle.cc_names.specs.declared.name.Name.{Name};
 ghost use Rattle.cc_names.specs.Names.{native, object};
 ghost use Rattle.cc_names.specs.declared.register.Reg.TheVariants.{N as n_register, S as s_register};
 ghost use Rattle.cc_model.specs.declared.command.Command.TheVariants as command;
 ghost use Rattle.cc_model.specs.Graph as graph;
 ghost use Rattle.cc_model.specs.Heap.{register};
-ghost use Rattle.cc_model.specs.WellFormed.{names_there};
 ghost use Rattle.cc_heaps.specs.Standing.{IsReached};
-ghost use Rattle.cc_host.specs.Calls.{Always, Does, TellsFreed, Tries};
+ghost use Rattle.cc_host.specs.Calls.{Always, Comes, Does, NoneComes, TellsFreed, Tries};
 ghost use Rattle.cc_host.specs.Hosted.{IsRooted, IsThere};
 ghost use Rattle.cc_host.specs.Stops.{IsStoppedOrRefused, are_natives_made, are_scripts_made, stop_making, stop_proxy};
 
@@ -39,7 +37,7 @@ impl Host {
         ensures tells { TellsFreed self.old self.new (N.telling out.old) (N.telling out.new) }
         ensures silent { OnErr result (N.telling out.new ≡ N.telling out.old) }
         // no other object comes
-        ensures came { IfOk result (λ x. (y : Name) → Among y (names_there self.new.heaps.heap) → Among y (names_there self.old.heaps.heap) ⊎ (y ≡ x.name)) }
+        ensures came { IfOk result (λ x. Comes x.name self.old self.new) }
         // what is reached stays so, where the root held nothing
         ensures reaches { OnOk result (register self.old.heaps.heap (n_register r) ≡ None → (x : Option Name) → IsReached self.old.heaps.heap x → IsReached self.new.heaps.heap x) }
     {
@@ -61,6 +59,8 @@ impl Host {
         ensures name { IfOk result (λ x. x.name ≡ object (self.old.heaps.heap.scripts_made + 1)) }
         ensures held { IfOk result (λ x. register self.new.heaps.heap (s_register r) ≡ Some x.name) }
         ensures same { OnErr result (self.new ≡ self.old) }
+        // no other object comes
+        ensures came { IfOk result (λ x. Comes x.name self.old self.new) }
     {
         if r >= ROOTS || slots > MOST_SLOTS {
             return Err(Stop::Index);
@@ -80,6 +80,8 @@ impl Host {
         ensures name { IfOk result (λ x. x.name ≡ object (self.old.heaps.heap.scripts_made + 1)) }
         ensures held { IfOk result (λ x. register self.new.heaps.heap (s_register r) ≡ Some x.name) }
         ensures same { OnErr result (self.new ≡ self.old) }
+        // no other object comes
+        ensures came { IfOk result (λ x. Comes x.name self.old self.new) }
     {
         if r >= ROOTS {
             return Err(Stop::Index);
@@ -103,6 +105,9 @@ impl Host {
         ensures name { IfOk result (λ x. x.name ≡ object (self.old.heaps.heap.scripts_made + 1)) }
         ensures held { IfOk result (λ x. register self.new.heaps.heap (s_register r) ≡ Some x.name) }
         ensures tried { OnErr result (Tries (IsRooted self.old delegate) self.old self.new) }
+        // no other object comes
+        ensures came { IfOk result (λ x. Comes x.name self.old self.new) }
+        ensures none_came { OnErr result (NoneComes self.old self.new) }
     {
         let delegate = self.script(delegate)?;
         if r >= ROOTS {

@@ -7,7 +7,7 @@ ghost use Rattle.cc_model.specs.Checks.{reflector_of};
 ghost use Rattle.cc_model.specs.Graph as graph;
 ghost use Rattle.cc_heaps.specs.Changes.{slot_held};
 ghost use Rattle.cc_heaps.specs.Standing.{IsReachedOrReflects};
-ghost use Rattle.cc_host.specs.Calls.{Does, TellsFreed, Tries, stored};
+ghost use Rattle.cc_host.specs.Calls.{Comes, Does, NoneComes, TellsFreed, Tries, stored};
 ghost use Rattle.cc_host.specs.Hosted.{IsRooted, IsRootedIfAny, IsThere, named};
 ghost use Rattle.cc_host.specs.Stops.{IsStoppedBy, IsStoppedOrRefused, stop_moving, stop_native, stop_reflector, stop_rooting, stop_script, stop_storing};
 
@@ -33,6 +33,7 @@ impl Host {
         ensures same { OnErr result (self.new ≡ self.old) }
         ensures tells { TellsFreed self.old self.new (N.telling out.old) (N.telling out.new) }
         ensures silent { OnErr result (N.telling out.new ≡ N.telling out.old) }
+        ensures none_came { NoneComes self.old self.new }
     {
         let content = self.native_if_any(x)?;
         if r >= ROOTS {
@@ -47,6 +48,7 @@ impl Host {
         ensures stops { IsStoppedBy (stop_rooting stop_script self.old r x) result }
         ensures does { OnOk result (Does (IsReachedOrReflects self.old.heaps.heap (named x)) (λ g. graph.set_register g (s_register r) (named x)) self.old self.new) }
         ensures same { OnErr result (self.new ≡ self.old) }
+        ensures none_came { NoneComes self.old self.new }
     {
         let content = self.script_if_any(x)?;
         if r >= ROOTS {
@@ -70,6 +72,7 @@ impl Host {
         ensures same { OnErr result (self.new ≡ self.old) }
         ensures tells { TellsFreed self.old self.new (N.telling out.old) (N.telling out.new) }
         ensures silent { OnErr result (N.telling out.new ≡ N.telling out.old) }
+        ensures none_came { NoneComes self.old self.new }
     {
         let key = self.native(x)?;
         let content = self.held_if_any(y)?;
@@ -87,6 +90,7 @@ impl Host {
         ensures does { OnOk result (Does (IsRooted self.old x × IsRootedIfAny self.old y) (stored x i (named y)) self.old self.new) }
         ensures same { OnErr result (self.new ≡ self.old) }
         ensures none_left { NothingLeft self.old.heaps.heap self.new.heaps.heap }
+        ensures none_came { NoneComes self.old self.new }
     {
         let key = self.script(x)?;
         let content = self.script_if_any(y)?;
@@ -114,6 +118,7 @@ impl Host {
         ensures same { OnErr result (self.new ≡ self.old) }
         ensures tells { TellsFreed self.old self.new (N.telling out.old) (N.telling out.new) }
         ensures silent { OnErr result (N.telling out.new ≡ N.telling out.old) }
+        ensures none_came { NoneComes self.old self.new }
     {
         match x.name {
             Name::Native(_) => self.store_in_native(x, i, y, out),
@@ -140,6 +145,7 @@ impl Host {
         ensures same { OnErr result (self.new ≡ self.old) }
         ensures tells { TellsFreed self.old self.new (N.telling out.old) (N.telling out.new) }
         ensures silent { OnErr result (N.telling out.new ≡ N.telling out.old) }
+        ensures none_came { NoneComes self.old self.new }
     {
         let to = self.native(to)?;
         let from = self.native(from)?;
@@ -163,6 +169,9 @@ impl Host {
         ensures name { IfOk result (λ y. Some y.name ≡ reflector_of (Some x.name)) }
         ensures tried { OnErr result (Tries (IsRooted self.old x) self.old self.new) }
         ensures tells { TellsFreed self.old self.new (N.telling out.old) (N.telling out.new) }
+        // no object comes but that reflector
+        ensures came { IfOk result (λ y. Comes y.name self.old self.new) }
+        ensures none_came { OnErr result (NoneComes self.old self.new) }
     {
         let key = self.native(x)?;
         let made = steps::wrap_native(&mut self.heaps, key, out)?;
@@ -177,6 +186,7 @@ impl Host {
         ensures stops { IsStoppedBy (stop_reflector self.old x) result }
         ensures does { OnOk result (Does (IsRooted self.old x) (λ g. graph.preserve g (Some x.name)) self.old self.new) }
         ensures same { OnErr result (self.new ≡ self.old) }
+        ensures none_came { NoneComes self.old self.new }
     {
         let key = self.reflector(x)?;
         steps::preserve_reflector(&mut self.heaps, key);

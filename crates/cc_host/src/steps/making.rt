@@ -1,6 +1,5 @@
 //! Objects made, each in a root, and where they stand.
-ghost use Rattle.std.specs.Prelude.{◌≡◌, ◌⊎◌, ◌+◌, ◌<◌, ◌≤◌, Option, Some, None, Err, IsTrue, IfOk, OnOk, OnErr};
-ghost use Rattle.cc_lists.specs.Members.{Among};
+ghost use Rattle.std.specs.Prelude.{◌≡◌, ◌+◌, ◌<◌, ◌≤◌, Option, Some, None, Err, IsTrue, IfOk, OnOk, OnErr};
 ghost use Rattle.cc_names.specs.Names.{native, object};
 ghost use Rattle.cc_names.specs.Sizes.{most_slots};
 ghost use Rattle.cc_names.specs.declared.name.Name.{Name};
@@ -8,13 +7,12 @@ ghost use Rattle.cc_names.specs.declared.register.Reg.TheVariants.{N as n_regist
 ghost use Rattle.cc_model.specs.declared.command.Command.TheVariants as command;
 ghost use Rattle.cc_model.specs.Graph as graph;
 ghost use Rattle.cc_model.specs.Heap.{register};
-ghost use Rattle.cc_model.specs.WellFormed.{names_there};
 ghost use Rattle.cc_script.specs.Objects.{is_there};
 ghost use Rattle.cc_heaps.specs.Changes.{native_name, script_name};
-ghost use Rattle.cc_heaps.specs.Leaving.{TellsWhatIsFreed};
+ghost use Rattle.cc_heaps.specs.Leaving.{NoneCame, TellsWhatIsFreed};
 ghost use Rattle.cc_heaps.specs.Standing.{IsReached};
 ghost use Rattle.cc_host.specs.Hosted.{roots};
-ghost use Rattle.cc_host.specs.Steps.{IsReady, IsStep, IsTried};
+ghost use Rattle.cc_host.specs.Steps.{IsReady, IsStep, IsTried, OneCame};
 
 use crate::steps::scripts::expose_key;
 use cc_heaps::{Heaps, MakeStop};
@@ -39,7 +37,7 @@ pub(crate) fn make_native<N: Notices>(
     ensures same { OnErr result (heaps.new ≡ heaps.old) }
     ensures tells { TellsWhatIsFreed heaps.old.heap heaps.new.heap (N.telling out.old) (N.telling out.new) }
     ensures silent { OnErr result (N.telling out.new ≡ N.telling out.old) }
-    ensures came { OnOk result ((x : Name) → Among x (names_there heaps.new.heap) → Among x (names_there heaps.old.heap) ⊎ (x ≡ native (heaps.old.heap.natives_made + 1))) }
+    ensures came { IfOk result (λ key. OneCame (native_name heaps.new (Some key)) heaps.old.heap heaps.new.heap) }
     ensures reaches { OnOk result (register heaps.old.heap (n_register r) ≡ None → (x : Option Name) → IsReached heaps.old.heap x → IsReached heaps.new.heap x) }
 {
     heaps.new_native(r, slots, out)?;
@@ -60,6 +58,7 @@ pub(crate) fn make_plain(heaps: &mut Heaps, r: RegNo, slots: SlotNo) -> Result<S
     ensures full { result ≡ Err MakeStop.Full → heaps.old.heap.limits.scripts ≤ heaps.old.heap.scripts_made }
     ensures full_always { heaps.old.heap.limits.scripts ≤ heaps.old.heap.scripts_made → result ≡ Err MakeStop.Full }
     ensures same { OnErr result (heaps.new ≡ heaps.old) }
+    ensures came { IfOk result (λ key. OneCame (script_name heaps.new (Some key)) heaps.old.heap heaps.new.heap) }
 {
     heaps.new_plain(r, slots)?;
     match heaps.script_reg(r) {
@@ -78,6 +77,7 @@ pub(crate) fn make_map(heaps: &mut Heaps, r: RegNo) -> Result<SKey, MakeStop>
     ensures full { result ≡ Err MakeStop.Full → heaps.old.heap.limits.scripts ≤ heaps.old.heap.scripts_made }
     ensures full_always { heaps.old.heap.limits.scripts ≤ heaps.old.heap.scripts_made → result ≡ Err MakeStop.Full }
     ensures same { OnErr result (heaps.new ≡ heaps.old) }
+    ensures came { IfOk result (λ key. OneCame (script_name heaps.new (Some key)) heaps.old.heap heaps.new.heap) }
 {
     heaps.new_map(r)?;
     match heaps.script_reg(r) {
@@ -99,6 +99,8 @@ pub(crate) fn make_proxy(heaps: &mut Heaps, r: RegNo, delegate: SKey) -> Result<
     ensures full { result ≡ Err MakeStop.Full → heaps.old.heap.limits.scripts ≤ heaps.old.heap.scripts_made }
     ensures full_always { heaps.old.heap.limits.scripts ≤ heaps.old.heap.scripts_made → result ≡ Err MakeStop.Full }
     ensures tried { OnErr result (IsTried (IsReached heaps.old.heap (script_name heaps.old (Some delegate))) heaps.old heaps.new) }
+    ensures came { IfOk result (λ key. OneCame (script_name heaps.new (Some key)) heaps.old.heap heaps.new.heap) }
+    ensures none_came { OnErr result (NoneCame heaps.old.heap heaps.new.heap) }
 {
     expose_key(heaps, delegate);
     heaps.new_proxy(r, delegate)?;

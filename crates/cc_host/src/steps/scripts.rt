@@ -8,7 +8,7 @@ ghost use Rattle.cc_host.specs.Hosted.{roots};
 ghost use Rattle.cc_model.specs.Graph as graph;
 ghost use Rattle.cc_script.specs.Objects.{colour_at, is_there, kind_at, slots_at};
 ghost use Rattle.cc_heaps.specs.Changes.{IsScriptThere, script_name};
-ghost use Rattle.cc_heaps.specs.Leaving.{NothingLeft};
+ghost use Rattle.cc_heaps.specs.Leaving.{NoneCame, NothingLeft};
 ghost use Rattle.cc_heaps.specs.Standing.{IsReached, IsReachedOrReflects, MayHold};
 ghost use Rattle.cc_host.specs.Exposing.{AreSame, Exposes};
 ghost use Rattle.cc_host.specs.Steps.{IsReady, IsStep, IsTried};
@@ -48,6 +48,7 @@ pub(crate) fn root_script(heaps: &mut Heaps, r: RegNo, content: Option<SKey>)
     requires there { IsScriptThere heaps.old content }
     ensures step { IsStep (IsReachedOrReflects heaps.old.heap (script_name heaps.old content)) (λ g. graph.set_register g (s_register r) (script_name heaps.old content)) heaps.old heaps.new }
     ensures none_left { NothingLeft heaps.old.heap heaps.new.heap }
+    ensures none_came { NoneCame heaps.old.heap heaps.new.heap }
 {
     heaps.set_script_reg(r, content);
 }
@@ -61,6 +62,7 @@ pub(crate) fn store_script(heaps: &mut Heaps, key: SKey, i: SlotNo, content: Opt
     ensures step { IsStep (IsReached heaps.old.heap (script_name heaps.old (Some key)) × IsReached heaps.old.heap (script_name heaps.old content))
         (λ g. graph.set_slot (graph.preserve g (script_name heaps.old (Some key))) (script_name heaps.old (Some key)) i (script_name heaps.old content)) heaps.old heaps.new }
     ensures none_left { NothingLeft heaps.old.heap heaps.new.heap }
+    ensures none_came { NoneCame heaps.old.heap heaps.new.heap }
 {
     expose_content(heaps, content);
     preserve_reflector(heaps, key);
@@ -77,6 +79,7 @@ pub(crate) fn preserve_reflector(heaps: &mut Heaps, key: SKey)
     ensures reached { (x : Option Name) → IsReached heaps.old.heap x → IsReached heaps.new.heap x }
     ensures may_hold { MayHold heaps.new.heap (script_name heaps.old (Some key)) }
     ensures none_left { NothingLeft heaps.old.heap heaps.new.heap }
+    ensures none_came { NoneCame heaps.old.heap heaps.new.heap }
 {
     expose_key(heaps, key);
     preserve(heaps, key);
@@ -99,6 +102,7 @@ pub(crate) fn set_entry(
         (λ g. graph.set_entry g (script_name heaps.old (Some the_map)) (script_name heaps.old (Some key)) (script_name heaps.old (Some value))) heaps.old heaps.new) }
     ensures tried { OnErr result (IsTried (IsReached heaps.old.heap (script_name heaps.old (Some key)) × IsReached heaps.old.heap (script_name heaps.old (Some value))) heaps.old heaps.new) }
     ensures none_left { NothingLeft heaps.old.heap heaps.new.heap }
+    ensures none_came { NoneCame heaps.old.heap heaps.new.heap }
 {
     expose_key(heaps, key);
     expose_key(heaps, value);
@@ -113,6 +117,7 @@ pub(crate) fn unset_entry(heaps: &mut Heaps, the_map: SKey, key: SKey)
     ensures step { IsStep (IsReached heaps.old.heap (script_name heaps.old (Some the_map)) × IsReached heaps.old.heap (script_name heaps.old (Some key)))
         (λ g. graph.set_entry g (script_name heaps.old (Some the_map)) (script_name heaps.old (Some key)) None) heaps.old heaps.new }
     ensures none_left { NothingLeft heaps.old.heap heaps.new.heap }
+    ensures none_came { NoneCame heaps.old.heap heaps.new.heap }
 {
     heaps.unset_entry(the_map, key);
 }

@@ -40,3 +40,6 @@ returns-2-clause-step c = same-step c.args.heaps.now c.requires.ready
 
 pub returns-in-Some-Script-clause-registers : goal.returns-in-Some-Script-clause-registers
 returns-in-Some-Script-clause-registers c = ap (λ (h : Heap). h.native_registers) c.expose_key.ensures.exposes.rest
+
+pub returns-in-Some-Script-clause-made : goal.returns-in-Some-Script-clause-made
+returns-in-Some-Script-clause-made c = ap (λ (h : Heap). h.natives_made) c.expose_key.ensures.exposes.rest

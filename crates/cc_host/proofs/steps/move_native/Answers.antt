@@ -5,7 +5,7 @@ use Rattle.cc_heaps.specs.Changes.{native_name, slot_held}
 use Rattle.cc_heaps.specs.Keeping.{KeepsAll}
 use Rattle.cc_heaps.specs.Leaving.{NoneCame}
 use Rattle.cc_heaps.specs.Standing.{IsReached}
-use Rattle.cc_host.proofs.Around.{around-step, around-tells}
+use Rattle.cc_host.proofs.Around.{around-none_came, around-step, around-tells}
 use Rattle.cc_host.proofs.Spare.{move-leaves}
 use Rattle.cc_host.proofs.Storing.{moved-kept, moved-leaves, moved-none_came, moved-stands, live-same, within-same}
 use Rattle.cc_host.proofs.steps.move_native.Given as given
@@ -58,3 +58,7 @@ returns-clause-tells g c =
     around-tells c.args.heaps.now c.hold.new.heaps c.move_slot.new.self c.let_go.new.heaps c.requires.ready c.hold.ensures.held (kept g c) c.let_go.ensures.empty
     (g.N.Notices.telling c.args.out.now) (g.N.Notices.telling c.hold.new.out) (g.N.Notices.telling c.move_slot.new.out) (g.N.Notices.telling c.let_go.new.out)
     c.hold.ensures.told (came g c) c.move_slot.ensures.tells c.let_go.ensures.tells
+
+pub returns-clause-none_came : goal.returns-clause-none_came
+returns-clause-none_came g c =
+    around-none_came c.args.heaps.now c.hold.new.heaps c.move_slot.new.self c.let_go.new.heaps c.requires.ready c.hold.ensures.held (kept g c) c.let_go.ensures.empty (came g c)

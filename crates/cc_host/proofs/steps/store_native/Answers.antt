@@ -45,3 +45,6 @@ returns-clause-tells g c =
     let before = g.N.Notices.telling c.args.out.now in
     tells-after c.args.heaps.now.heap c.expose_held.new.heaps.heap c.store_black.new.heaps.heap before before (g.N.Notices.telling c.store_black.new.out)
     (Tells-nil before) (λ x m. subst (Among x) (sym names) m) (λ j m. subst (Among (native j)) names m) c.store_black.ensures.tells
+
+pub returns-clause-none_came : goal.returns-clause-none_came
+returns-clause-none_came g c x m = subst (Among x) c.expose_held.ensures.names (c.store_black.ensures.none_came x m)

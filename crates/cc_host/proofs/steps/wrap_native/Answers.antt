@@ -1,10 +1,10 @@
-use Rattle.std.proofs.Common.{[], Some, sym, subst}
+use Rattle.std.proofs.Common.{[], Some, sym, subst, ap, ◌∙◌, inl, inr, ⊎_elim}
 use Rattle.std.proofs.lemmas.Result.{on_err_weaker}
 use Rattle.cc_lists.specs.Members.{Among}
-use Rattle.cc_names.specs.Names.{native}
+use Rattle.cc_names.specs.Names.{native, reflector}
 use Rattle.cc_model.specs.Graph as graph
-use Rattle.cc_heaps.specs.Keyed.{the_number}
-use Rattle.cc_heaps.specs.Changes.{native_name}
+use Rattle.cc_heaps.specs.Keyed.{Keyed, the_number}
+use Rattle.cc_heaps.specs.Changes.{native_name, script_name}
 use Rattle.cc_heaps.specs.Keeping.{KeepsAll}
 use Rattle.cc_heaps.specs.Standing.{IsReached, StandsAfter}
 use Rattle.cc_heaps.proofs.FewCounts.{none-owned}
@@ -13,11 +13,13 @@ use Rattle.cc_host.specs.Holding.{IsLetGo}
 use Rattle.cc_host.specs.Missing.{KeepsDoomed}
 use Rattle.cc_host.proofs.KeptDoomed.{wrapped-doomed}
 use Rattle.cc_host.proofs.ScriptSteps.{ok-both}
-use Rattle.cc_host.proofs.Around.{around-step, nothing-step}
+use Rattle.cc_host.proofs.Around.{around-none_came, around-step, nothing-step}
 use Rattle.cc_host.proofs.Composing.{tells-after}
 use Rattle.cc_host.proofs.Spare.{wrapped-leaves}
 use Rattle.cc_host.proofs.Storing.{held-reached, native_name-is}
 use Rattle.cc_host.proofs.Wrapping.{wrapped-natives, wrapped-none_left}
+use Rattle.cc_model.specs.WellFormed.{names_there}
+use Rattle.cc_host.proofs.Coming.{OneCame-named, if_ok-with, wrapped-came}
 use Rattle.cc_host.proofs.steps.wrap_native.Given as given
 use Rattle.cc_host.proofs.steps.wrap_native.Goals as goal
 
@@ -68,3 +70,21 @@ returns-clause-tells g c =
     (λ x m. wrapped-none_left w u k c.wrap-made.result early late e.heap e.same x (subst (Among x) (sym h.names) m))
     (λ j m. subst (Among (native j)) h.names (wrapped-natives w u k c.wrap-made.result early late e.heap e.same j m))
     c.let_go.ensures.tells
+
+pub returns-clause-came : goal.returns-clause-came
+returns-clause-came g c =
+    let v = c.args.heaps.now in
+    let w = c.hold.new.heaps in
+    let d = c.let_go.new.heaps in
+    let h = c.hold.ensures.held in
+    let k = the_number w c.args.key.0 in
+    if_ok-with c.wrap-made.result c.wrap-made.ensures.heap c.wrap-made.ensures.name (λ heap made name.
+    OneCame-named v.heap d.heap (reflector k) (script_name d (Some made)) (ap (λ (u : Keyed). script_name u (Some made)) c.let_go.ensures.empty.given_up ∙ name)
+    (λ y m. ⊎_elim (λ l. inl (subst (Among y) h.names l)) (λ e. inr e)
+    (wrapped-came w.heap k (h.kept.order [] c.requires.ready.order).sound.well_formed y
+    (subst (λ u. Among y (names_there u)) heap (c.let_go.ensures.empty.none_came y m)))))
+
+pub returns-clause-none_came : goal.returns-clause-none_came
+returns-clause-none_came g c =
+    on_err_weaker c.wrap-made.result (λ same. around-none_came c.args.heaps.now c.hold.new.heaps c.wrap-made.new.heaps c.let_go.new.heaps c.requires.ready c.hold.ensures.held (kept g c) c.let_go.ensures.empty
+    (λ x m. subst (λ (w : Keyed). Among x (names_there w.heap)) same m)) c.wrap-made.ensures.same

@@ -8,6 +8,7 @@ use Rattle.cc_host.specs.Stops.{IsStoppedBy, first, stop_moving, stop_native, st
 use Rattle.cc_host.proofs.Reading.{native_slots-many}
 use Rattle.cc_host.proofs.Keeping.{step-keeps}
 use Rattle.cc_host.proofs.Stopping.{at-first, at-second, beyond-slots, by-passed, by-stopped, moving, passed, stopped, within-slots}
+use Rattle.cc_heaps.specs.Leaving.{NoneCame}
 use Rattle.cc_host.proofs.host.Host.move_slot.Goals as goal
 use Rattle.cc_host.proofs.host.Host.move_slot.Goals.{then-i-slots-via-then-i-slots, then-i-slots-via-else-i-slots+then-j-slots}
 
@@ -63,3 +64,6 @@ returns-clause-stops g c =
     (moving h x c.args.i y c.args.j None (passed (stop_native h x) c.in_ok-to.to c.in_ok-to.ensures.stops) (passed (stop_native h y) c.in_ok-from.from c.in_ok-from.ensures.stops)
     (at-second (stop_slot h x c.args.i) (stop_slot h y c.args.j) None (within-slots h x c.slots.result c.args.i one c.if-i-slots.false)
     (within-slots h y c.slots-else-i-slots.result c.args.j two c.if-j-slots.false)))
+
+pub returns-clause-none_came : goal.returns-clause-none_came
+returns-clause-none_came g c = subst (λ (k : Hosted). NoneCame k.heaps.heap c.move_native.new.heaps.heap) c.self.view_is c.move_native.ensures.none_came

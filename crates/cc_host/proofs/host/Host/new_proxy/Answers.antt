@@ -1,4 +1,9 @@
+use Rattle.std.proofs.Common.{sym, ◌∙◌, ap, subst}
 use Rattle.cc_host.proofs.Keeping.{step-keeps, tried-keeps}
+use Rattle.cc_host.specs.Hosted.{Hosted, named}
+use Rattle.cc_host.proofs.Coming.{came-here}
+use Rattle.cc_lists.proofs.KnownBytes.{on_err_of}
+use Rattle.cc_heaps.specs.Leaving.{NoneCame}
 use Rattle.cc_host.proofs.host.Host.new_proxy.Goals as goal
 
 pub invariant_of-self : goal.invariant_of-self
@@ -8,3 +13,10 @@ invariant_of-self c =
 pub invariant_of-self-2 : goal.invariant_of-self-2
 invariant_of-self-2 c =
     step-keeps c.self.inside.heaps c.make_proxy.new.heaps c.self.inside.collector c.self.inside.mark c.in_ok-key.ensures.step c.self.invariant
+
+pub returns-clause-came : goal.returns-clause-came
+returns-clause-came c = came-here c.self.view_is c.make_proxy.new.heaps.heap (sym (ap named c.in-Some.is) ∙ c.of_script.ensures.name) c.in_ok-key.ensures.came
+
+pub returns-in_err-key-clause-none_came : goal.returns-in_err-key-clause-none_came
+returns-in_err-key-clause-none_came c = on_err_of c.from_residual-in_err-key.result
+    (subst (λ (k : Hosted). NoneCame k.heaps.heap c.make_proxy.new.heaps.heap) c.self.view_is c.in_err-key.ensures.none_came)

@@ -6,6 +6,7 @@ use Rattle.cc_host.specs.Stops.{stop_at, stop_if_any, stop_native, stop_storing}
 use Rattle.cc_host.proofs.Reading.{native_slots-many}
 use Rattle.cc_host.proofs.Keeping.{step-keeps}
 use Rattle.cc_host.proofs.Stopping.{beyond-slots, by-passed, by-stopped, native-storing, passed, within-slots}
+use Rattle.cc_heaps.specs.Leaving.{NoneCame}
 use Rattle.cc_host.proofs.host.Host.store_in_native.Goals as goal
 
 pub invariant_of-self : goal.invariant_of-self
@@ -33,3 +34,6 @@ returns-clause-stops g c =
     (native-storing h c.args.x c.args.i c.args.y None c.requires (passed (stop_native h c.args.x) c.in_ok-key.key c.in_ok-key.ensures.stops)
     (passed (stop_if_any stop_at h c.args.y) c.in_ok-content.content c.in_ok-content.ensures.stops)
     (within-slots h c.args.x c.slots.result c.args.i count c.if-i-slots.false))
+
+pub returns-clause-none_came : goal.returns-clause-none_came
+returns-clause-none_came g c = subst (λ (k : Hosted). NoneCame k.heaps.heap c.store_native.new.heaps.heap) c.self.view_is c.store_native.ensures.none_came

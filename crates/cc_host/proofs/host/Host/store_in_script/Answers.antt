@@ -1,5 +1,5 @@
 use Rattle.std.proofs.Common.{◌≡◌, None, Some, length, ◌∙◌, ap, subst}
-use Rattle.cc_heaps.specs.Leaving.{NothingLeft}
+use Rattle.cc_heaps.specs.Leaving.{NoneCame, NothingLeft}
 use Rattle.cc_host.specs.declared.stop.Stop.TheVariants.{Index}
 use Rattle.cc_host.specs.Hosted.{Hosted, IsKept, slots_of}
 use Rattle.cc_host.specs.Stops.{stop_if_any, stop_script, stop_storing}
@@ -36,3 +36,6 @@ returns-clause-stops c =
 
 pub returns-clause-none_left : goal.returns-clause-none_left
 returns-clause-none_left c = subst (λ (k : Hosted). NothingLeft k.heaps.heap c.store_script.new.heaps.heap) c.self.view_is c.store_script.ensures.none_left
+
+pub returns-clause-none_came : goal.returns-clause-none_came
+returns-clause-none_came c = subst (λ (k : Hosted). NoneCame k.heaps.heap c.store_script.new.heaps.heap) c.self.view_is c.store_script.ensures.none_came

@@ -1,10 +1,12 @@
-use Rattle.std.proofs.Common.{subst, ◌≡◌, Some, sym}
+use Rattle.std.proofs.Common.{subst, ◌≡◌, Some, sym, ◌∙◌, ap}
 use Rattle.cc_lists.proofs.KnownBytes.{on_err_of}
 use Rattle.cc_heaps.specs.Standing.{IsReached}
-use Rattle.cc_host.specs.Hosted.{Hosted, IsRooted}
+use Rattle.cc_host.specs.Hosted.{Hosted, IsRooted, named}
 use Rattle.cc_host.specs.Calls.{Tries}
 use Rattle.cc_host.proofs.Keeping.{hosted, step-keeps, tried-does, tried-keeps}
 use Rattle.cc_heaps.specs.Changes.{native_name}
+use Rattle.cc_heaps.specs.Leaving.{NoneCame}
+use Rattle.cc_host.proofs.Coming.{came-here}
 use Rattle.cc_host.proofs.host.Host.wrap.Goals as goal
 
 pub invariant_of-self : goal.invariant_of-self
@@ -24,3 +26,10 @@ returns-in_err-made-clause-tried g c =
 pub invariant_of-self-2 : goal.invariant_of-self-2
 invariant_of-self-2 g c =
     step-keeps c.self.inside.heaps c.wrap_native.new.heaps c.self.inside.collector c.self.inside.mark c.in_ok-made.ensures.step c.self.invariant
+
+pub returns-in_err-made-clause-none_came : goal.returns-in_err-made-clause-none_came
+returns-in_err-made-clause-none_came g c = on_err_of c.from_residual-in_err-made.result
+    (subst (λ (k : Hosted). NoneCame k.heaps.heap c.wrap_native.new.heaps.heap) c.self.view_is c.in_err-made.ensures.none_came)
+
+pub returns-clause-came : goal.returns-clause-came
+returns-clause-came g c = came-here c.self.view_is c.wrap_native.new.heaps.heap (sym (ap named c.in-Some.is) ∙ c.of_script.ensures.name) c.in_ok-made.ensures.came

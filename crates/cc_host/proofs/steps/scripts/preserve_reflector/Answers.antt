@@ -7,8 +7,8 @@ use Rattle.cc_heaps.proofs.Kept.{KeepsAll-black}
 use Rattle.cc_host.specs.Exposing.{AreSame}
 use Rattle.cc_host.specs.Missing.{KeepsDoomed}
 use Rattle.cc_host.proofs.KeptDoomed.{doomed-then, preserve-doomed}
-use Rattle.cc_host.proofs.Exposed.{KeepsAll-after, StandsAfter-still, exposed-none_left}
-use Rattle.cc_host.proofs.ScriptSteps.{StaysBeside, beside-none_left, beside-spared, preserve-beside}
+use Rattle.cc_host.proofs.Exposed.{KeepsAll-after, StandsAfter-still, exposed-none_came, exposed-none_left}
+use Rattle.cc_host.proofs.ScriptSteps.{StaysBeside, beside-none_came, beside-none_left, beside-spared, preserve-beside}
 use Rattle.cc_host.proofs.steps.scripts.preserve_reflector.Goals as goal
 
 pub preserve-requires-clause-order : goal.preserve-requires-clause-order
@@ -57,3 +57,7 @@ returns-clause-may_hold c = subst (MayHold c.preserve.new.heaps.heap) (name c) c
 pub returns-clause-none_left : goal.returns-clause-none_left
 returns-clause-none_left c x i =
     beside-none_left c.expose_key.new.heaps c.preserve.new.heaps (beside c) x (exposed-none_left c.args.heaps.now c.expose_key.new.heaps c.expose_key.ensures.exposes x i)
+
+pub returns-clause-none_came : goal.returns-clause-none_came
+returns-clause-none_came c x i =
+    exposed-none_came c.args.heaps.now c.expose_key.new.heaps c.expose_key.ensures.exposes x (beside-none_came c.expose_key.new.heaps c.preserve.new.heaps (beside c) x i)

@@ -2,7 +2,7 @@ use Rattle.std.proofs.Common.{[], sym, subst}
 use Rattle.cc_heaps.specs.Changes.{script_name}
 use Rattle.cc_host.specs.Missing.{KeepsDoomed}
 use Rattle.cc_host.proofs.KeptDoomed.{hold_script-doomed}
-use Rattle.cc_host.proofs.ScriptSteps.{StaysBeside, beside-none_left, beside-spared, hold_script-beside}
+use Rattle.cc_host.proofs.ScriptSteps.{StaysBeside, beside-none_came, beside-none_left, beside-spared, hold_script-beside}
 use Rattle.cc_host.proofs.steps.scripts.root_script.Goals as goal
 
 pub set_script_reg-requires-clause-order : goal.set_script_reg-requires-clause-order
@@ -21,3 +21,6 @@ returns-clause-step c =
 
 pub returns-clause-none_left : goal.returns-clause-none_left
 returns-clause-none_left c = beside-none_left c.args.heaps.now c.set_script_reg.new.self (beside c)
+
+pub returns-clause-none_came : goal.returns-clause-none_came
+returns-clause-none_came c = beside-none_came c.args.heaps.now c.set_script_reg.new.self (beside c)

@@ -6,7 +6,7 @@ use Rattle.cc_model.specs.Graph as graph
 use Rattle.cc_script.specs.Objects.{name_at}
 use Rattle.cc_heaps.specs.Keyed.{Keyed}
 use Rattle.cc_heaps.specs.Changes.{script_name}
-use Rattle.cc_heaps.specs.Leaving.{NothingLeft}
+use Rattle.cc_heaps.specs.Leaving.{NoneCame, NothingLeft}
 use Rattle.cc_heaps.specs.Standing.{IsReached, StandsAfter}
 use Rattle.cc_heaps.proofs.Kept.{KeepsAll-black}
 use Rattle.cc_heaps.proofs.EntriesSet.{map-there}
@@ -14,8 +14,10 @@ use Rattle.cc_host.specs.Exposing.{Exposes}
 use Rattle.cc_host.specs.Missing.{KeepsDoomed}
 use Rattle.cc_host.specs.Steps.{IsTried}
 use Rattle.cc_host.proofs.KeptDoomed.{doomed-then, set_entry-doomed}
-use Rattle.cc_host.proofs.Exposed.{AreSame-then, Exposes-then, KeepsAll-after, StandsAfter-still, exposed-none_left, exposed-step}
-use Rattle.cc_host.proofs.ScriptSteps.{StaysBeside, beside-none_left, beside-spared, either-way, entry-beside, ok-both}
+use Rattle.cc_host.proofs.Exposed.{AreSame-then, Exposes-then, KeepsAll-after, StandsAfter-still, exposed-none_came, exposed-none_left, exposed-step}
+use Rattle.cc_host.proofs.ScriptSteps.{StaysBeside, beside-none_came, beside-none_left, beside-spared, either-way, entry-beside, ok-both}
+use Rattle.cc_lists.specs.Members.{Among}
+use Rattle.cc_model.specs.WellFormed.{names_there}
 use Rattle.cc_host.proofs.steps.scripts.set_entry.Goals as goal
 
 pub expose_key-requires-2-clause-ready : goal.expose_key-requires-2-clause-ready
@@ -70,6 +72,16 @@ returns-clause-none_left c x i =
     either-way c.set_entry.result c.set_entry.ensures.heap c.set_entry.ensures.same
     (λ heap. beside-none_left v w (beside c heap) x (left x i))
     (λ same. subst (λ (k : Keyed). NothingLeft u.heap k.heap) (sym same) left x i)
+
+pub returns-clause-none_came : goal.returns-clause-none_came
+returns-clause-none_came c x i =
+    let u = c.args.heaps.now in
+    let v = c.expose_key-2.new.heaps in
+    let w = c.set_entry.new.self in
+    let came : NoneCame u.heap v.heap = exposed-none_came u v (both c) in
+    either-way c.set_entry.result c.set_entry.ensures.heap c.set_entry.ensures.same
+    (λ heap. came x (beside-none_came v w (beside c heap) x i))
+    (λ same. came x (subst (λ (k : Keyed). Among x (names_there k.heap)) same i))
 
 -- each is handed in under its name
 stood : (c : goal.After-set_entry) (p q r x y z : Option Name) → p ≡ x → q ≡ y → r ≡ z →

@@ -6,9 +6,9 @@ use Rattle.cc_heaps.specs.Standing.{IsReached, MayHold, StandsAfter}
 use Rattle.cc_host.specs.Exposing.{AreSame}
 use Rattle.cc_host.specs.Missing.{KeepsDoomed}
 use Rattle.cc_host.proofs.KeptDoomed.{doomed-then, slot-doomed}
-use Rattle.cc_host.proofs.Exposed.{AreSame-then, KeepsAll-after, StandsAfter-still, exposed-none_left}
+use Rattle.cc_host.proofs.Exposed.{AreSame-then, KeepsAll-after, StandsAfter-still, exposed-none_came, exposed-none_left}
 use Rattle.cc_host.proofs.Composing.{stands-then}
-use Rattle.cc_host.proofs.ScriptSteps.{StaysBeside, beside-none_left, beside-spared, content-black, content-name, content-there, slot-beside}
+use Rattle.cc_host.proofs.ScriptSteps.{StaysBeside, beside-none_came, beside-none_left, beside-spared, content-black, content-name, content-there, slot-beside}
 use Rattle.cc_host.proofs.steps.scripts.store_script.Goals as goal
 
 pub preserve_reflector-requires-clause-ready : goal.preserve_reflector-requires-clause-ready
@@ -80,3 +80,7 @@ returns-clause-step c =
           (subst (IsReached v.heap) (sym name) (p.reached _ (e.reached _ d.0)))
           (subst (IsReached v.heap) (sym content) (p.reached _ (e.reached _ d.1))))));
     }
+
+pub returns-clause-none_came : goal.returns-clause-none_came
+returns-clause-none_came c x i = exposed-none_came c.args.heaps.now c.expose_content.new.heaps c.expose_content.ensures.exposes x
+    (c.preserve_reflector.ensures.none_came x (beside-none_came c.preserve_reflector.new.heaps c.store_script.new.self (beside c) x i))

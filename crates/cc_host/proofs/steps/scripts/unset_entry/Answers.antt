@@ -2,7 +2,7 @@ use Rattle.std.proofs.Common.{[], None, sym, subst}
 use Rattle.cc_script.specs.Objects.{name_at}
 use Rattle.cc_host.specs.Missing.{KeepsDoomed}
 use Rattle.cc_host.proofs.KeptDoomed.{set_entry-doomed}
-use Rattle.cc_host.proofs.ScriptSteps.{StaysBeside, beside-none_left, beside-spared, entry-beside}
+use Rattle.cc_host.proofs.ScriptSteps.{StaysBeside, beside-none_came, beside-none_left, beside-spared, entry-beside}
 use Rattle.cc_host.proofs.steps.scripts.unset_entry.Goals as goal
 
 pub unset_entry-requires-clause-order : goal.unset_entry-requires-clause-order
@@ -27,3 +27,6 @@ returns-clause-step c =
 
 pub returns-clause-none_left : goal.returns-clause-none_left
 returns-clause-none_left c = beside-none_left c.args.heaps.now c.unset_entry.new.self (beside c)
+
+pub returns-clause-none_came : goal.returns-clause-none_came
+returns-clause-none_came c = beside-none_came c.args.heaps.now c.unset_entry.new.self (beside c)
