@@ -22,15 +22,16 @@
  * number is used twice.
  *
  * ROOTS. What no root reaches is garbage. 128 roots of natives and 128 of script objects have numbers, from 0: what is made
- * stands in one of them. Beside them cc_hold keeps any object until cc_release, as many as wanted (some 200,000 at a time); a
- * cc_root that was released is refused (CC_GONE) for ever. They stand in tables, which are natives of the library's own, one for
- * 256 roots: a table takes a number, counts for cc_open's limit and among cc_natives, and stays.
+ * stands in one of them. Beside them cc_hold keeps any object until cc_release, as many as wanted; a cc_root that was released is
+ * refused (CC_GONE) for ever. They stand in tables, which are natives of the library's own, one for 255 roots and a few above
+ * them: a table takes a number, counts for cc_open's limit and among cc_natives, and stays.
  *
  * WHAT IS TOLD. Calls that delete and collections tell what they did, in its order, and cc_next_told hands it out. CC_UNLINKED: a
  * collection took the native's references away; it may be told again at a later collection, while a script object still holds
  * the native. CC_FREED comes once, and is the last of an object. CC_ABANDONED: a collection was given up for want of memory. With
- * a native comes the number that cc_set_data gave it. Room for what one collection can tell is taken when objects are made: a
- * program that fetches between two collections loses nothing; what was lost all the same shows in cc_is_told_broken.
+ * a native comes the number that cc_set_data gave it. Nothing is lost: room for what can be told is taken when objects are made.
+ * Only what collections unlink again and again can outrun it: one that finds no room beside what waits does nothing, and answers
+ * CC_UNFETCHED. Fetch, and call again; where nothing waits that is never the answer.
  *
  * SLICES. Call cc_gc, and then cc_slice for some units in each frame. What no root reached when the first of them began the
  * collection is told as unlinked at its end, each native of it, whatever calls come between the slices; the next cc_gc frees it.
@@ -60,7 +61,8 @@ enum {
     CC_FULL = 7,      /* as many objects as the limit were ever made; or no place is left for a root */
     CC_NO_MEMORY = 8,
     CC_LIMIT = 9,     /* a limit above 1000000 */
-    CC_NONE = 10      /* nothing more was told */
+    CC_NONE = 10,     /* nothing more was told */
+    CC_UNFETCHED = 11 /* a collection found no room beside what waits to be fetched, and did nothing */
 };
 enum { CC_NOTHING = 0, CC_NATIVE = 1, CC_SCRIPT = 2, CC_REFLECTOR = 3 };
 enum { CC_UNLINKED = 1, CC_FREED = 2, CC_ABANDONED = 3 };
@@ -74,7 +76,7 @@ typedef struct cc_root { uint64_t mark; uint64_t serial; uint32_t index; } cc_ro
 typedef struct cc_told { uint64_t data; uint32_t what; uint32_t kind; uint32_t number; } cc_told;
 /* An object on the way to one that was asked for, and why it is reached: a root holds it (by_kind CC_NATIVE or CC_SCRIPT, and
  * by_number the root's), or an object refers to it, or an entry of a weak map (by) gives it to a key. A native root from 128 on
- * holds a table of the roots that cc_hold made, which is a native. */
+ * holds a table of the roots that cc_hold made, which is a native, as are those in its slots and theirs. */
 typedef struct cc_step {
     uint32_t kind, number, why, by_kind, by_number, key_kind, key_number;
 } cc_step;
@@ -129,9 +131,6 @@ uint32_t cc_running(cc_collector *, uint32_t *running);
 
 /* What was told: CC_NONE where all was fetched. */
 uint32_t cc_next_told(cc_collector *, cc_told *);
-/* *broken is 1 where an item was lost for want of memory, and each later one is until cc_mend_told. */
-uint32_t cc_is_told_broken(cc_collector *, uint32_t *broken);
-uint32_t cc_mend_told(cc_collector *);
 
 /* Questions. The answer of cc_is_there is its status. cc_scripts counts reflectors, weak maps and proxies too. cc_data is 0 where
  * no number was given. */

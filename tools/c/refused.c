@@ -59,7 +59,7 @@ struct program {
     cc_object native[ELEMENTS], reflector[ELEMENTS], listener[ELEMENTS], note[ELEMENTS], proxy[ELEMENTS], map;
     cc_root held[ELEMENTS];
     bool is_held[ELEMENTS];
-    unsigned freed_natives[MADE + ROUNDS + 2], freed_scripts[PLAIN_MADE + 1];
+    unsigned freed_natives[MADE + ROUNDS + 8], freed_scripts[PLAIN_MADE + 1];
     unsigned natives_made, scripts_made, reflectors_freed;
     long refusals, given_up, told_given_up;
 };
@@ -128,7 +128,6 @@ static uint64_t take_picture(struct program *m) {
 
 static void fetch(struct program *m) {
     cc_told told;
-    uint32_t broken;
     while (cc_next_told(&m->c, &told) == CC_OK) {
         if (told.what == CC_ABANDONED) m->told_given_up++;
         if (told.what != CC_FREED) continue;
@@ -142,9 +141,6 @@ static void fetch(struct program *m) {
         } else
             m->reflectors_freed++;
     }
-    /* what was told is fetched between two calls, so nothing is lost */
-    TRY(cc_is_told_broken(&m->c, &broken));
-    HOLDS(broken == 0);
 }
 
 /* A call that is asked again until there is memory for it. Where there was none, what the roots reach is as it was. */
@@ -268,7 +264,7 @@ static void check_end(struct program *m) {
     ASK(m, cc_settle(&m->c));
     TRY(cc_scripts(&m->c, &scripts));
     TRY(cc_natives(&m->c, &natives));
-    HOLDS(scripts == 0 && natives <= 1); /* the table of the roots that cc_hold made may be counted */
+    HOLDS(scripts == 0 && natives <= 3); /* the tables of the roots that cc_hold made may be counted */
     for (unsigned i = 0; i < sizeof m->freed_natives / sizeof m->freed_natives[0]; i++) {
         HOLDS(m->freed_natives[i] <= 1);
         freed += m->freed_natives[i];
@@ -311,6 +307,41 @@ static void close_in_the_middle(struct program *m) {
     HOLDS(running == 1 && over == 0);
 }
 
+/* NOTHING IS FETCHED, and no memory is there any more. Each collection is given up, which is told, until there is no room for
+ * what the next one could tell: from then on none does anything. What was told is all there, and once it is fetched they go on. */
+static void fetch_nothing(struct program *m) {
+    cc_object made;
+    cc_told told;
+    long given_up = 0;
+    uint32_t status, over;
+    memset(m, 0, sizeof *m);
+    first_refused = in_a_row = 0;
+    open_collector(m);
+    TRY(cc_new_native(&m->c, 0, 1, &made));
+    TRY(cc_store(&m->c, &made, 0, &made));
+    TRY(cc_set_native_root(&m->c, 0, &nothing));
+    asked = 0;
+    first_refused = 1;
+    in_a_row = 1000000;
+    while ((status = cc_collect(&m->c)) == CC_NO_MEMORY) HOLDS(++given_up < 1000000);
+    HOLDS(status == CC_UNFETCHED && given_up > 0);
+    WANT(cc_slice(&m->c, 1, &over), CC_UNFETCHED);
+    WANT(cc_settle(&m->c), CC_UNFETCHED);
+    WANT(cc_gc(&m->c), CC_UNFETCHED);
+    TRY(cc_is_there(&m->c, &made));
+    while (cc_next_told(&m->c, &told) == CC_OK) {
+        HOLDS(told.what == CC_ABANDONED);
+        given_up--;
+    }
+    HOLDS(given_up == 0);
+    WANT(cc_collect(&m->c), CC_NO_MEMORY);
+    first_refused = in_a_row = 0;
+    TRY(cc_settle(&m->c));
+    WANT(cc_is_there(&m->c, &made), CC_GONE);
+    close_collector(m);
+    printf("nothing was fetched, and nothing was lost\n");
+}
+
 /* One run of the program. Whether an allocation was refused in it. */
 static bool run(long first, long row, struct program *m) {
     memset(m, 0, sizeof *m);
@@ -346,5 +377,6 @@ int main(int count, char **words) {
                rows[i], answered, given_up);
     }
     printf("no object was lost, and no memory\n");
+    fetch_nothing(&m);
     return 0;
 }

@@ -1,5 +1,5 @@
 -- WHAT IS TOLD TO C: items, and steps by which an object is reached.
-use Rattle.std.specs.Prelude.{◌≡◌, ◌∷◌, ℕ, option_map}
+use Rattle.std.specs.Prelude.{◌≡◌, ◌∷◌, ℕ}
 use Rattle.cc_names.specs.declared.name.Name.{Name}
 use Rattle.cc_names.specs.declared.name.Name.TheVariants as name
 use Rattle.cc_names.specs.declared.register.Reg.TheVariants.{N, S}
@@ -82,10 +82,10 @@ shown_step (Reply r) = no_step
 pub record FetchesTold (s t : State) (x : CTold) : Type 0 where
   pub item : Item
   pub as_shown : x ≡ shown t.books item
-  pub fetched : s ≡ record t { told = record t.told { items = option_map (λ later. item ∷ later) t.told.items } }
+  pub fetched : s ≡ record t { told = item ∷ t.told }
 
 -- and the first step
 pub record FetchesStep (s t : State) (x : CStep) : Type 0 where
   pub item : Item
   pub as_shown : x ≡ shown_step item
-  pub fetched : s ≡ record t { steps = record t.steps { items = option_map (λ later. item ∷ later) t.steps.items } }
+  pub fetched : s ≡ record t { steps = item ∷ t.steps }

@@ -8,6 +8,8 @@ use Rattle.cc_model.specs.End.{Progress, went_on, at_end, refused}
 use Rattle.cc_host.specs.declared.object.Object.{Object}
 use Rattle.cc_host.specs.declared.stop.Stop.{Stop}
 use Rattle.cc_host.specs.declared.stop.Stop.TheVariants.{Foreign, Gone, Kind, Index, Full, NoMemory}
+use Rattle.cc_session.specs.declared.hindrance.Hindrance.{Hindrance}
+use Rattle.cc_session.specs.declared.hindrance.Hindrance.TheVariants as hindrance
 use Rattle.cc_session.specs.declared.root.Root.{Root}
 use Rattle.cc_c.specs.declared.values.CObject.{CObject}
 use Rattle.cc_c.specs.declared.values.CRoot.{CRoot}
@@ -70,6 +72,11 @@ status_of Kind = 5
 status_of Index = 6
 status_of Full = 7
 status_of NoMemory = 8
+
+-- and of what hindered a collection
+abbrev pub status_of_hindrance : Hindrance → ℕ
+status_of_hindrance hindrance.NoMemory = 8
+status_of_hindrance hindrance.Unfetched = 11
 
 -- THE STATUS IS THIS STOP'S, and 0 where there is none
 abbrev pub IsStatus : Option Stop → ℕ → Type 0

@@ -7,12 +7,13 @@ ghost use Rattle.cc_collector.specs.Settled.{HasWhatIsReached};
 ghost use Rattle.cc_host.specs.Calls.{Collects};
 ghost use Rattle.cc_host.specs.Hosted.{machine};
 ghost use Rattle.cc_host.specs.Missing.{CannotMiss, IsOfAGraph, Takes, TakesBySlice, TakesGarbage, TellsUnlinked, lost_in};
-ghost use Rattle.cc_session.specs.Sessions.{Aside};
+ghost use Rattle.cc_host.specs.Queues.{told_all};
+ghost use Rattle.cc_session.specs.Sessions.{Aside, IsUnfetched};
 ghost use Rattle.cc_c.specs.Calls.{Open, Reads, Stays};
 ghost use Rattle.cc_c.specs.Values.{flag, progress_in};
 
 use crate::collector::Collector;
-use crate::status::{CLOSED, NO_MEMORY, OK};
+use crate::status::{CLOSED, OK, of_hindrance};
 use crate::values::flag;
 use cc_collector::Ended;
 use std::alloc::Global;
@@ -21,18 +22,19 @@ use std::alloc::Global;
 #[unsafe(no_mangle)]
 pub extern "C" fn cc_slice(alloc: Global, c: &mut Collector, units: u32, over: &mut u32) -> u32
     ensures stays { Stays c.old.handle.session c.new.handle.session result }
-    ensures status { Reads c.old.handle.session (λ s. (result ≡ 0) ⊎ (result ≡ 8)) }
+    ensures status { Reads c.old.handle.session (λ s. (result ≡ 0) ⊎ (result ≡ 8) ⊎ (result ≡ 11)) }
+    ensures unfetched { result ≡ 11 → Open c.old.handle.session c.new.handle.session IsUnfetched }
     ensures flag { result ≡ 0 → (over.new ≡ 0) ⊎ (over.new ≡ 1) }
-    ensures collects { Open c.old.handle.session c.new.handle.session (λ s t. Collects s.host t.host s.told t.told) }
-    ensures sliced { Open c.old.handle.session c.new.handle.session (λ s t. (steps : ℕ) × IsSliced units (machine s.host) (machine t.host) (progress_in result over.new) 0 steps s.told t.told) }
-    ensures ended { (result ≢ 0) ⊎ (over.new ≡ 1) → Open c.old.handle.session c.new.handle.session (λ s t. t.host.running ≡ None) }
+    ensures collects { result ≢ 11 → Open c.old.handle.session c.new.handle.session (λ s t. Collects s.host t.host (told_all s.told) (told_all t.told)) }
+    ensures sliced { result ≢ 11 → Open c.old.handle.session c.new.handle.session (λ s t. (steps : ℕ) × IsSliced units (machine s.host) (machine t.host) (progress_in result over.new) 0 steps (told_all s.told) (told_all t.told)) }
+    ensures ended { (result ≡ 8) ⊎ ((result ≡ 0) × (over.new ≡ 1)) → Open c.old.handle.session c.new.handle.session (λ s t. t.host.running ≡ None) }
     ensures left { result ≢ 0 → over.new ≡ over.old }
     ensures aside { Open c.old.handle.session c.new.handle.session Aside }
     // what the running collection can't miss is told unlinked at its end; what one can't miss that begins after `cc_gc`
-    ensures takes { Open c.old.handle.session c.new.handle.session (λ s t. (ds : List Name) → CannotMiss s.host ds →
-        TakesBySlice ds t.host (progress_in result over.new) s.told t.told) }
-    ensures begins { Open c.old.handle.session c.new.handle.session (λ s t. 0 < units → IsOfAGraph s.host → TakesGarbage s.host →
-        TakesBySlice (lost_in s.host) t.host (progress_in result over.new) s.told t.told) }
+    ensures takes { result ≢ 11 → Open c.old.handle.session c.new.handle.session (λ s t. (ds : List Name) → CannotMiss s.host ds →
+        TakesBySlice ds t.host (progress_in result over.new) (told_all s.told) (told_all t.told)) }
+    ensures begins { result ≢ 11 → Open c.old.handle.session c.new.handle.session (λ s t. 0 < units → IsOfAGraph s.host → TakesGarbage s.host →
+        TakesBySlice (lost_in s.host) t.host (progress_in result over.new) (told_all s.told) (told_all t.told)) }
 {
     let Some(mut session) = c.take(alloc) else {
         return CLOSED;
@@ -48,7 +50,7 @@ pub extern "C" fn cc_slice(alloc: Global, c: &mut Collector, units: u32, over: &
             *over = 0;
             OK
         }
-        Err(_) => NO_MEMORY,
+        Err(hindrance) => of_hindrance(hindrance),
     }
 }
 
@@ -56,15 +58,16 @@ pub extern "C" fn cc_slice(alloc: Global, c: &mut Collector, units: u32, over: &
 #[unsafe(no_mangle)]
 pub extern "C" fn cc_collect(alloc: Global, c: &mut Collector) -> u32
     ensures stays { Stays c.old.handle.session c.new.handle.session result }
-    ensures status { Reads c.old.handle.session (λ s. (result ≡ 0) ⊎ (result ≡ 8)) }
-    ensures collects { Open c.old.handle.session c.new.handle.session (λ s t. Collects s.host t.host s.told t.told) }
-    ensures done { result ≡ 0 → Open c.old.handle.session c.new.handle.session (λ s t. IsCollected (machine s.host) (machine t.host) at_end s.told t.told) }
-    ensures refused { result ≢ 0 → Open c.old.handle.session c.new.handle.session (λ s t. IsCollected (machine s.host) (machine t.host) refused s.told t.told) }
-    ensures over { Open c.old.handle.session c.new.handle.session (λ s t. t.host.running ≡ None) }
+    ensures status { Reads c.old.handle.session (λ s. (result ≡ 0) ⊎ (result ≡ 8) ⊎ (result ≡ 11)) }
+    ensures unfetched { result ≡ 11 → Open c.old.handle.session c.new.handle.session IsUnfetched }
+    ensures collects { result ≢ 11 → Open c.old.handle.session c.new.handle.session (λ s t. Collects s.host t.host (told_all s.told) (told_all t.told)) }
+    ensures done { result ≡ 0 → Open c.old.handle.session c.new.handle.session (λ s t. IsCollected (machine s.host) (machine t.host) at_end (told_all s.told) (told_all t.told)) }
+    ensures refused { result ≡ 8 → Open c.old.handle.session c.new.handle.session (λ s t. IsCollected (machine s.host) (machine t.host) refused (told_all s.told) (told_all t.told)) }
+    ensures over { result ≢ 11 → Open c.old.handle.session c.new.handle.session (λ s t. t.host.running ≡ None) }
     ensures aside { Open c.old.handle.session c.new.handle.session Aside }
-    ensures takes { Open c.old.handle.session c.new.handle.session (λ s t. (ds : List Name) → CannotMiss s.host ds → Takes ds s.told t.told) }
-    ensures takes_if_done { result ≡ 0 → Open c.old.handle.session c.new.handle.session (λ s t. (ds : List Name) → CannotMiss s.host ds → TellsUnlinked ds s.told t.told) }
-    ensures begins { result ≡ 0 → Open c.old.handle.session c.new.handle.session (λ s t. IsOfAGraph s.host → TakesGarbage s.host → TellsUnlinked (lost_in s.host) s.told t.told) }
+    ensures takes { result ≢ 11 → Open c.old.handle.session c.new.handle.session (λ s t. (ds : List Name) → CannotMiss s.host ds → Takes ds (told_all s.told) (told_all t.told)) }
+    ensures takes_if_done { result ≡ 0 → Open c.old.handle.session c.new.handle.session (λ s t. (ds : List Name) → CannotMiss s.host ds → TellsUnlinked ds (told_all s.told) (told_all t.told)) }
+    ensures begins { result ≡ 0 → Open c.old.handle.session c.new.handle.session (λ s t. IsOfAGraph s.host → TakesGarbage s.host → TellsUnlinked (lost_in s.host) (told_all s.told) (told_all t.told)) }
 {
     let Some(mut session) = c.take(alloc) else {
         return CLOSED;
@@ -73,7 +76,7 @@ pub extern "C" fn cc_collect(alloc: Global, c: &mut Collector) -> u32
     *c = Collector::of(session);
     match answer {
         Ok(()) => OK,
-        Err(_) => NO_MEMORY,
+        Err(hindrance) => of_hindrance(hindrance),
     }
 }
 
@@ -81,32 +84,37 @@ pub extern "C" fn cc_collect(alloc: Global, c: &mut Collector) -> u32
 #[unsafe(no_mangle)]
 pub extern "C" fn cc_gc(alloc: Global, c: &mut Collector) -> u32
     ensures stays { Stays c.old.handle.session c.new.handle.session result }
-    ensures ok { Reads c.old.handle.session (λ s. result ≡ 0) }
-    ensures collects { Open c.old.handle.session c.new.handle.session (λ s t. Collects s.host t.host s.told t.told) }
-    ensures swept { Open c.old.handle.session c.new.handle.session (λ s t. IsSwept (machine s.host) (machine t.host) s.told t.told) }
-    ensures over { Open c.old.handle.session c.new.handle.session (λ s t. t.host.running ≡ None) }
+    ensures status { Reads c.old.handle.session (λ s. (result ≡ 0) ⊎ (result ≡ 11)) }
+    ensures unfetched { result ≡ 11 → Open c.old.handle.session c.new.handle.session IsUnfetched }
+    ensures collects { result ≡ 0 → Open c.old.handle.session c.new.handle.session (λ s t. Collects s.host t.host (told_all s.told) (told_all t.told)) }
+    ensures swept { result ≡ 0 → Open c.old.handle.session c.new.handle.session (λ s t. IsSwept (machine s.host) (machine t.host) (told_all s.told) (told_all t.told)) }
+    ensures over { result ≡ 0 → Open c.old.handle.session c.new.handle.session (λ s t. t.host.running ≡ None) }
     ensures aside { Open c.old.handle.session c.new.handle.session Aside }
-    ensures takes { Open c.old.handle.session c.new.handle.session (λ s t. (ds : List Name) → CannotMiss s.host ds → Takes ds s.told t.told) }
-    ensures garbage { Open c.old.handle.session c.new.handle.session (λ s t. TakesGarbage t.host) }
+    ensures takes { result ≡ 0 → Open c.old.handle.session c.new.handle.session (λ s t. (ds : List Name) → CannotMiss s.host ds → Takes ds (told_all s.told) (told_all t.told)) }
+    ensures garbage { result ≡ 0 → Open c.old.handle.session c.new.handle.session (λ s t. TakesGarbage t.host) }
 {
     let Some(mut session) = c.take(alloc) else {
         return CLOSED;
     };
-    session.gc();
+    let answer = session.gc();
     *c = Collector::of(session);
-    OK
+    match answer {
+        Ok(()) => OK,
+        Err(hindrance) => of_hindrance(hindrance),
+    }
 }
 
 /// Leaves exactly what the roots reach.
 #[unsafe(no_mangle)]
 pub extern "C" fn cc_settle(alloc: Global, c: &mut Collector) -> u32
     ensures stays { Stays c.old.handle.session c.new.handle.session result }
-    ensures status { Reads c.old.handle.session (λ s. (result ≡ 0) ⊎ (result ≡ 8)) }
+    ensures status { Reads c.old.handle.session (λ s. (result ≡ 0) ⊎ (result ≡ 8) ⊎ (result ≡ 11)) }
+    ensures unfetched { result ≡ 11 → Open c.old.handle.session c.new.handle.session IsUnfetched }
     ensures exact { result ≡ 0 → Open c.old.handle.session c.new.handle.session (λ s t. HasWhatIsReached t.host.heaps.heap) }
-    ensures collects { Open c.old.handle.session c.new.handle.session (λ s t. Collects s.host t.host s.told t.told) }
-    ensures over { Open c.old.handle.session c.new.handle.session (λ s t. t.host.running ≡ None) }
+    ensures collects { result ≢ 11 → Open c.old.handle.session c.new.handle.session (λ s t. Collects s.host t.host (told_all s.told) (told_all t.told)) }
+    ensures over { result ≢ 11 → Open c.old.handle.session c.new.handle.session (λ s t. t.host.running ≡ None) }
     ensures aside { Open c.old.handle.session c.new.handle.session Aside }
-    ensures takes { Open c.old.handle.session c.new.handle.session (λ s t. (ds : List Name) → CannotMiss s.host ds → Takes ds s.told t.told) }
+    ensures takes { result ≢ 11 → Open c.old.handle.session c.new.handle.session (λ s t. (ds : List Name) → CannotMiss s.host ds → Takes ds (told_all s.told) (told_all t.told)) }
 {
     let Some(mut session) = c.take(alloc) else {
         return CLOSED;
@@ -115,7 +123,7 @@ pub extern "C" fn cc_settle(alloc: Global, c: &mut Collector) -> u32
     *c = Collector::of(session);
     match answer {
         Ok(()) => OK,
-        Err(_) => NO_MEMORY,
+        Err(hindrance) => of_hindrance(hindrance),
     }
 }
 

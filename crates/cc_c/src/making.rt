@@ -8,6 +8,7 @@ ghost use Rattle.cc_model.specs.Heap.{register};
 ghost use Rattle.cc_host.specs.Calls.{Always, Does, TellsFreed, Tries};
 ghost use Rattle.cc_host.specs.Hosted.{IsRooted, IsThere};
 ghost use Rattle.cc_host.specs.Stops.{are_natives_made, are_scripts_made};
+ghost use Rattle.cc_host.specs.Queues.{told_all};
 ghost use Rattle.cc_session.specs.Sessions.{Aside, Quiet};
 ghost use Rattle.cc_session.specs.Refusals.{stop_native_made, stop_proxy_made, stop_script_made};
 ghost use Rattle.cc_c.specs.Calls.{Open, Stays};
@@ -37,7 +38,7 @@ pub extern "C" fn cc_new_native(
     ensures held { result ≡ 0 → Open c.old.handle.session c.new.handle.session (λ s t. register t.host.heaps.heap (n_register r) ≡ Some (to_object made.new).name) }
     ensures left { result ≢ 0 → made.new ≡ made.old }
     ensures same { result ≢ 0 → c.new.handle.session ≡ c.old.handle.session }
-    ensures tells { Open c.old.handle.session c.new.handle.session (λ s t. TellsFreed s.host t.host s.told t.told) }
+    ensures tells { Open c.old.handle.session c.new.handle.session (λ s t. TellsFreed s.host t.host (told_all s.told) (told_all t.told)) }
     ensures aside { Open c.old.handle.session c.new.handle.session Aside }
 {
     let Some(mut session) = c.take(alloc) else {

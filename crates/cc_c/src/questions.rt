@@ -97,8 +97,8 @@ pub extern "C" fn cc_why(alloc: Global, c: &mut Collector, x: &CObject, led: &mu
     ensures stays { Stays c.old.handle.session c.new.handle.session result }
     ensures stops { Open c.old.handle.session c.new.handle.session (λ s t. IsStatusOrRefused (stop_at s.host (to_object x.now)) result) }
     ensures led { result ≡ 0 → Open c.old.handle.session c.new.handle.session (λ s t. led.new ≡ flag (is_led_to (leads_in s.host.heaps.heap) (to_object x.now).name)) }
-    ensures told { result ≡ 0 → Open c.old.handle.session c.new.handle.session (λ s t. t.steps.items ≡ Some (map item_of_step (path_to (leads_in s.host.heaps.heap) (to_object x.now).name))) }
-    ensures none { result ≢ 0 → Reads c.new.handle.session (λ t. t.steps.items ≡ Some []) }
+    ensures told { result ≡ 0 → Open c.old.handle.session c.new.handle.session (λ s t. t.steps ≡ map item_of_step (path_to (leads_in s.host.heaps.heap) (to_object x.now).name)) }
+    ensures none { result ≢ 0 → Reads c.new.handle.session (λ t. t.steps ≡ []) }
     ensures left { result ≢ 0 → led.new ≡ led.old }
     ensures rest { Open c.old.handle.session c.new.handle.session (λ s t. t ≡ record s { steps = t.steps }) }
 {

@@ -6,6 +6,7 @@ ghost use Rattle.cc_script.specs.Objects.{kind_at};
 ghost use Rattle.cc_host.specs.Calls.{Does, TellsFreed, Tries};
 ghost use Rattle.cc_host.specs.Hosted.{IsRooted, IsThere, IsThereIfAny, named};
 ghost use Rattle.cc_host.specs.Stops.{stop_native, stop_reflector, stop_script};
+ghost use Rattle.cc_host.specs.Queues.{told_all};
 ghost use Rattle.cc_session.specs.Sessions.{Aside, Quiet};
 ghost use Rattle.cc_c.specs.Calls.{Open, Reads, Stays};
 ghost use Rattle.cc_c.specs.Values.{IsStatus, IsStatusOrWants, number_of_kind, to_content, to_object};
@@ -31,7 +32,7 @@ pub extern "C" fn cc_wrap(
     ensures name { result ≡ 0 → Open c.old.handle.session c.new.handle.session (λ s t. Some (to_object reflector.new).name ≡ reflector_of (Some (to_object x.now).name)) }
     ensures tried { result ≢ 0 → Open c.old.handle.session c.new.handle.session (λ s t. Tries (IsRooted s.host (to_object x.now)) s.host t.host) }
     ensures left { result ≢ 0 → reflector.new ≡ reflector.old }
-    ensures tells { Open c.old.handle.session c.new.handle.session (λ s t. TellsFreed s.host t.host s.told t.told) }
+    ensures tells { Open c.old.handle.session c.new.handle.session (λ s t. TellsFreed s.host t.host (told_all s.told) (told_all t.told)) }
     ensures aside { Open c.old.handle.session c.new.handle.session Aside }
 {
     let Some(mut session) = c.take(alloc) else {

@@ -1,13 +1,15 @@
 //! Roots, numbered ones and as many others as wanted.
-ghost use Rattle.std.specs.Prelude.{◌≡◌, ◌≢◌, ◌⊎◌, ◌+◌, ℕ, None, Some, slice_index_or};
+ghost use Rattle.std.specs.Prelude.{◌≡◌, ◌≢◌, ◌+◌, ℕ, None, Some, slice_index_or};
 ghost use Rattle.cc_names.specs.declared.register.Reg.TheVariants.{N as n_register, S as s_register};
 ghost use Rattle.cc_model.specs.Graph as graph;
 ghost use Rattle.cc_model.specs.Heap.{register};
 ghost use Rattle.cc_heaps.specs.Standing.{IsReachedOrReflects};
 ghost use Rattle.cc_host.specs.Calls.{Always, Does, TellsFreed};
 ghost use Rattle.cc_host.specs.Hosted.{IsRooted, IsRootedIfAny, IsThereIfAny, named};
-ghost use Rattle.cc_host.specs.Stops.{slots_at_root, stop_at, stop_native, stop_script};
-ghost use Rattle.cc_session.specs.Sessions.{Aside, Enters, Quiet, register_for, serial_at, slot_for, table, tabled};
+ghost use Rattle.cc_host.specs.Queues.{told_all};
+ghost use Rattle.cc_host.specs.Stops.{stop_at, stop_native, stop_script};
+ghost use Rattle.cc_session.specs.Roots.{leaf, leaf_in, leaf_slots, slot_for, some_tables, with_tables};
+ghost use Rattle.cc_session.specs.Sessions.{Aside, Enters, Quiet, serial_at};
 ghost use Rattle.cc_session.specs.Refusals.{stop_held, stop_number, stop_numbered, stop_released};
 ghost use Rattle.cc_c.specs.Calls.{Open, Reads, Stays};
 ghost use Rattle.cc_c.specs.Values.{IsRootStatus, IsStatus, to_content, to_object, to_root};
@@ -27,7 +29,7 @@ pub extern "C" fn cc_set_native_root(alloc: Global, c: &mut Collector, r: RegNo,
     ensures stops { Open c.old.handle.session c.new.handle.session (λ s t. IsStatus (stop_numbered stop_native s.host r (to_content x.now)) result) }
     ensures does { result ≡ 0 → Open c.old.handle.session c.new.handle.session (λ s t. Does (IsRootedIfAny s.host (to_content x.now)) (λ g. graph.set_register g (n_register r) (named (to_content x.now))) s.host t.host) }
     ensures same { result ≢ 0 → c.new.handle.session ≡ c.old.handle.session }
-    ensures tells { Open c.old.handle.session c.new.handle.session (λ s t. TellsFreed s.host t.host s.told t.told) }
+    ensures tells { Open c.old.handle.session c.new.handle.session (λ s t. TellsFreed s.host t.host (told_all s.told) (told_all t.told)) }
     ensures aside { Open c.old.handle.session c.new.handle.session Aside }
 {
     let Some(mut session) = c.take(alloc) else {
@@ -124,15 +126,15 @@ pub extern "C" fn cc_script_root(
 pub extern "C" fn cc_hold(alloc: Global, c: &mut Collector, x: &CObject, root: &mut CRoot) -> u32
     ensures stays { Stays c.old.handle.session c.new.handle.session result }
     ensures stops { Open c.old.handle.session c.new.handle.session (λ s t. IsRootStatus (stop_at s.host (to_object x.now)) result) }
-    ensures does { result ≡ 0 → Open c.old.handle.session c.new.handle.session (λ s t. Does (IsRooted s.host (to_object x.now)) (λ g. graph.set_slot (tabled s.host (register_for root.new.index) g) (table t.host (register_for root.new.index)) (slot_for root.new.index) (Some (to_object x.now).name)) s.host t.host) }
+    ensures does { result ≡ 0 → Open c.old.handle.session c.new.handle.session (λ s t. Does (IsRooted s.host (to_object x.now)) (λ g. graph.set_slot (with_tables root.new.index g) (leaf_in (with_tables root.new.index g) root.new.index) (slot_for root.new.index) (Some (to_object x.now).name)) s.host t.host) }
     ensures entered { result ≡ 0 → Open c.old.handle.session c.new.handle.session (λ s t. Enters s.books t.books root.new.index (Some root.new.serial)) }
     ensures serial { result ≡ 0 → Open c.old.handle.session c.new.handle.session (λ s t. (root.new.serial ≡ s.books.last + 1) × (t.books.last ≡ root.new.serial)) }
     ensures mark { result ≡ 0 → Open c.old.handle.session c.new.handle.session (λ s t. root.new.mark ≡ s.host.mark) }
-    ensures tried { result ≢ 0 → Open c.old.handle.session c.new.handle.session (λ s t. Does Always (λ g. g) s.host t.host ⊎ ((r : ℕ) × Does Always (tabled s.host r) s.host t.host)) }
+    ensures tried { result ≢ 0 → Open c.old.handle.session c.new.handle.session (λ s t. (n index : ℕ) × Does Always (some_tables n index) s.host t.host) }
     ensures none { result ≢ 0 → Open c.old.handle.session c.new.handle.session (λ s t. (index : ℕ) → serial_at t.books index ≡ serial_at s.books index) }
     ensures given { Open c.old.handle.session c.new.handle.session (λ s t. t.books.given ≡ s.books.given) }
     ensures left { result ≢ 0 → root.new ≡ root.old }
-    ensures tells { Open c.old.handle.session c.new.handle.session (λ s t. TellsFreed s.host t.host s.told t.told) }
+    ensures tells { Open c.old.handle.session c.new.handle.session (λ s t. TellsFreed s.host t.host (told_all s.told) (told_all t.told)) }
 {
     let Some(mut session) = c.take(alloc) else {
         return CLOSED;
@@ -154,11 +156,11 @@ pub extern "C" fn cc_hold(alloc: Global, c: &mut Collector, x: &CObject, root: &
 pub extern "C" fn cc_release(alloc: Global, c: &mut Collector, root: &CRoot) -> u32
     ensures stays { Stays c.old.handle.session c.new.handle.session result }
     ensures stops { Open c.old.handle.session c.new.handle.session (λ s t. IsStatus (stop_released s (to_root root.now)) result) }
-    ensures does { result ≡ 0 → Open c.old.handle.session c.new.handle.session (λ s t. Does Always (λ g. graph.set_slot g (table s.host (register_for root.now.index)) (slot_for root.now.index) None) s.host t.host) }
+    ensures does { result ≡ 0 → Open c.old.handle.session c.new.handle.session (λ s t. Does Always (λ g. graph.set_slot g (leaf s.host root.now.index) (slot_for root.now.index) None) s.host t.host) }
     ensures given_up { result ≡ 0 → Open c.old.handle.session c.new.handle.session (λ s t. Enters s.books t.books root.now.index None) }
     ensures last { Open c.old.handle.session c.new.handle.session (λ s t. t.books.last ≡ s.books.last) }
     ensures same { result ≢ 0 → c.new.handle.session ≡ c.old.handle.session }
-    ensures tells { Open c.old.handle.session c.new.handle.session (λ s t. TellsFreed s.host t.host s.told t.told) }
+    ensures tells { Open c.old.handle.session c.new.handle.session (λ s t. TellsFreed s.host t.host (told_all s.told) (told_all t.told)) }
 {
     let Some(mut session) = c.take(alloc) else {
         return CLOSED;
@@ -177,7 +179,7 @@ pub extern "C" fn cc_release(alloc: Global, c: &mut Collector, root: &CRoot) -> 
 pub extern "C" fn cc_held(alloc: Global, c: &mut Collector, root: &CRoot, held: &mut CObject) -> u32
     ensures closed { c.old.handle.session ≡ None → result ≡ 1 }
     ensures stops { Reads c.old.handle.session (λ s. IsStatus (stop_held s (to_root root.now)) result) }
-    ensures name { result ≡ 0 → Reads c.old.handle.session (λ s. named (to_content held.new) ≡ slice_index_or (slots_at_root s.host (register_for root.now.index)) (slot_for root.now.index) None) }
+    ensures name { result ≡ 0 → Reads c.old.handle.session (λ s. named (to_content held.new) ≡ slice_index_or (leaf_slots s.host root.now.index) (slot_for root.now.index) None) }
     ensures there { result ≡ 0 → Reads c.old.handle.session (λ s. IsThereIfAny s.host (to_content held.new)) }
     ensures left { result ≢ 0 → held.new ≡ held.old }
     ensures same { c.new.handle.session ≡ c.old.handle.session }

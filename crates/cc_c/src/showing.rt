@@ -137,7 +137,7 @@ fn shown_step(item: Item) -> CStep
 /// The first item that was told and not fetched yet, which is fetched then.
 pub fn next_told(session: &mut Session) -> Option<CTold>
     ensures next { (x : CTold) → result ≡ Some x → FetchesTold session.old session.new x }
-    ensures none { result ≡ None → (session.new ≡ session.old) × (session.old.told.items ≡ Some []) }
+    ensures none { result ≡ None → (session.new ≡ session.old) × (session.old.told ≡ []) }
 {
     match session.next_told() {
         Some(item) => Some(shown(session, item)),
@@ -148,7 +148,7 @@ pub fn next_told(session: &mut Session) -> Option<CTold>
 /// The next step of the last answer why an object is there, which is fetched then.
 pub fn next_step(session: &mut Session) -> Option<CStep>
     ensures next { (x : CStep) → result ≡ Some x → FetchesStep session.old session.new x }
-    ensures none { result ≡ None → (session.new ≡ session.old) × (session.old.steps.items ≡ Some []) }
+    ensures none { result ≡ None → (session.new ≡ session.old) × (session.old.steps ≡ []) }
 {
     match session.next_step() {
         Some(item) => Some(shown_step(item)),

@@ -1,8 +1,9 @@
 //! The numbers by which calls answer.
 ghost use Rattle.std.specs.Prelude.{◌≡◌, ◌≢◌};
-ghost use Rattle.cc_c.specs.Values.{status_of};
+ghost use Rattle.cc_c.specs.Values.{status_of, status_of_hindrance};
 
 use cc_host::Stop;
+use cc_session::Hindrance;
 
 pub const OK: u32 = 0;
 
@@ -26,6 +27,8 @@ pub const LIMIT: u32 = 9;
 
 pub const NONE: u32 = 10;
 
+pub const UNFETCHED: u32 = 11;
+
 /// The number of a stop.
 pub fn of_stop(stop: Stop) -> u32
     ensures number { result ≡ status_of stop }
@@ -38,5 +41,15 @@ pub fn of_stop(stop: Stop) -> u32
         Stop::Index => INDEX,
         Stop::Full => FULL,
         Stop::NoMemory => NO_MEMORY,
+    }
+}
+
+/// The number of what hindered a collection.
+pub fn of_hindrance(hindrance: Hindrance) -> u32
+    ensures { result ≡ status_of_hindrance hindrance }
+{
+    match hindrance {
+        Hindrance::NoMemory => NO_MEMORY,
+        Hindrance::Unfetched => UNFETCHED,
     }
 }

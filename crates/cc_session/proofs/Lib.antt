@@ -1,5 +1,10 @@
 pub mod Values
-pub mod Reaching
-pub mod Rows
 pub mod Stopping
+pub mod Ways
+pub mod Grown
 pub mod Tables
+pub mod Room
+pub mod WholeTellings
+pub mod HasRoom
+pub mod Collecting
+pub mod Holding

@@ -1,83 +1,138 @@
--- A TABLE OF ROOTS IS MADE, and a slot of it is written: what both come to.
-use Rattle.std.proofs.Common.{◌≡◌, ◌≤◌, ◌+◌, ℕ, Bool, true, false, get_or, Option, Some, None, is_none, is_some, Result, Ok, Err, OnOk, if◌then◌else◌, sym, ◌∙◌, ap, subst, arith, refl, ⊎_elim}
-use Rattle.std.proofs.lemmas.Bool.{cases_lt, false≢true}
-use Rattle.std.proofs.lemmas.List.{get_or_past}
+-- A TABLE OF ROOTS IS MADE, or it was there: what it comes to.
+use Rattle.std.proofs.Common.{add-one, ◌≡◌, ◌⊎◌, ◌+◌, ℕ, List, true, false, length, get_or, Option, Some, None, is_none, is_some, is_err, Result, Ok, Err, OnOk, OnErr, if◌then◌else◌, refl, sym, ◌∙◌, ap, subst}
+use Rattle.std.proofs.lemmas.Bool.{false≢true}
+use Rattle.cc_lists.specs.Members.{Among}
 use Rattle.cc_names.specs.declared.name.Name.{Name}
-use Rattle.cc_names.specs.Sizes.{most_slots, bank_length}
+use Rattle.cc_names.specs.declared.register.Reg.TheVariants.{N}
+use Rattle.cc_names.specs.Names.{native}
+use Rattle.cc_names.specs.Sizes.{most_slots}
 use Rattle.cc_model.specs.declared.command.Command.TheVariants as command
 use Rattle.cc_model.specs.Graph as graph
 use Rattle.cc_model.specs.Graph.{Graph}
-use Rattle.cc_model.specs.Telling.{Telling}
-use Rattle.cc_heaps.specs.Leaving.{NoneCame, TellsWhatIsFreed}
-use Rattle.cc_heaps.specs.Standing.{IsReached, StandsAfter}
-use Rattle.cc_host.specs.Calls.{Always, Does}
-use Rattle.cc_host.specs.Missing.{KeepsDoomed}
-use Rattle.cc_host.specs.Hosted.{Hosted, IsKept, named, roots, spare}
+use Rattle.cc_model.specs.Heap.{register}
+use Rattle.cc_model.specs.Slots.{Slots}
+use Rattle.cc_model.specs.StandsFor.{StandsFor}
+use Rattle.cc_model.specs.WellFormed.{names_there}
+use Rattle.cc_model.specs.WellMade.{IsWellMade}
+use Rattle.cc_heaps.specs.Leaving.{NoneCame}
+use Rattle.cc_heaps.specs.Standing.{IsReached}
 use Rattle.cc_host.specs.declared.object.Object.{Object}
-use Rattle.cc_session.specs.Sessions.{Comes, table, tabled}
-use Rattle.cc_host.proofs.Composing.{KeepsKeys-then}
-use Rattle.cc_session.proofs.Rows.{stands-both, tells-then, was-before}
+use Rattle.cc_host.specs.Calls.{Always, Does, TellsFreed}
+use Rattle.cc_host.specs.Hosted.{IsKept, IsRootedIfAny, named}
+use Rattle.cc_host.specs.Queues.{told_all}
+use Rattle.cc_host.specs.Paths.{hung, native_below, slots_below}
+use Rattle.cc_session.specs.Roots.{Grows, below, content_of, places, table_step, tables_made, tied, topped, widened}
+use Rattle.cc_session.specs.Sessions.{Aside, State}
+use Rattle.cc_session.proofs.Grown.{grows-as, grows-made, grows-same, grows-stored, grows-then}
+use Rattle.cc_session.proofs.Ways.{below-alike, content-below}
 
--- where a call went well, what it did is what both did
+-- what is there has a name
+pub some-named : (x : Option Object) → is_some x ≡ true → (y : Name) × (named x ≡ Some y)
+some-named None e = absurd (false≢true e)
+some-named (Some x) e = (x.name, refl)
+
+pub none-named : (x : Option Object) → is_some x ≡ false → named x ≡ None
+none-named None e = refl
+none-named (Some x) e = absurd (false≢true (sym e))
+
+-- what is so where a call goes well, where it went well
+pub went_well : {T E P : Type 0} (r : Result T E) → is_err r ≡ false → OnOk r P → P
+went_well (Ok x) e p = p
+went_well (Err x) e p = absurd (false≢true (sym e))
+
 pub on_ok : {T E P Q : Type 0} (r : Result T E) → (P → Q) → OnOk r P → OnOk r Q
 on_ok (Ok x) f p = f p
 on_ok (Err e) f p = p
 
--- a root that holds nothing
-pub unheld : (x : Option Object) (o : Option Name) → is_some x ≡ false → named x ≡ o → o ≡ None
-unheld None o e n = sym n
-unheld (Some x) o e n = absurd (false≢true (sym e))
+-- and where it does not
+pub on_err : {T E P Q : Type 0} (r : Result T E) → (P → Q) → OnErr r P → OnErr r Q
+on_err (Ok x) f p = p
+on_err (Err e) f p = f p
 
-module _ (a b c : Hosted) (kept : IsKept a) (between : IsKept b) (late : IsKept c) (r : ℕ) (none : table a r ≡ None)
-    (registers : c.heaps.heap.native_registers ≡ b.heaps.heap.native_registers) (came : NoneCame b.heaps.heap c.heaps.heap) where
-  -- the register held nothing, so it gets the table
-  abbrev made : Bool → Graph → Graph
-  made empty g = if empty then graph.step g (command.Native r most_slots) else g
+pub on_err_of : {T E P : Type 0} (r : Result T E) → P → OnErr r P
+on_err_of (Ok x) p = tt
+on_err_of (Err e) p = p
 
-  abbrev put : (Graph → Graph) → ℕ → ℕ → Name → Graph → Graph
-  put change s i x g = graph.set_slot (change g) (table c s) i (Some x)
+-- in either case
+pub either_way : {T E P : Type 0} (r : Result T E) → OnOk r P → OnErr r P → P
+either_way (Ok x) p q = p
+either_way (Err e) p q = q
 
-  -- what is reached stays so where the table is made
-  abbrev pub Reaches : Type 0
-  Reaches = (x : Option Name) → IsReached a.heaps.heap x → IsReached b.heaps.heap x
+-- In a register
 
-  empty : is_none (table a r) ≡ true
-  empty = ap is_none none
+module _ (a : State) (kept : IsKept a.host) (r : ℕ) where
+  register-in : (g : Graph) → StandsFor a.host.heaps.heap g → graph.register g (N r) ≡ register a.host.heaps.heap (N r)
+  register-in g s = ap (λ (b : Slots). get_or b r None) (sym s.native_registers)
 
-  -- THE CHANGE OF BOTH
-  both : (i : ℕ) (x : Name) → Reaches → Does Always (tabled a r) a b → Does (IsReached b.heaps.heap (Some x)) (λ g. graph.set_slot g (table b r) i (Some x)) b c →
-      Does (IsReached a.heaps.heap (Some x)) (put (tabled a r) r i x) a c
-  unfolding KeepsDoomed
-  both i x reaches d e = record {
-    stands = λ reached. subst (λ t. StandsAfter a.heaps.heap c.heaps.heap (put (made t) r i x)) (sym empty)
-        (stands-both a.heaps.heap b.heaps.heap c.heaps.heap kept.runs.order.sound.well_formed between.runs.order.sound.well_formed r i most_slots x none registers
-        (subst (λ t. StandsAfter a.heaps.heap b.heaps.heap (made t)) empty (d.stands tt)) e.stands reached);
-    doomed = λ reached s ds keeps k. e.doomed (reaches (Some x) reached) s ds keeps (d.doomed tt s ds keeps k);
-    keys = KeepsKeys-then a.heaps b.heaps c.heaps between.runs.order.sound.well_formed late.runs.order.sound.well_formed came d.keys e.keys;
-    running = e.running ∙ d.running;
-    mark = e.mark ∙ d.mark;
-  }
+  -- there is one
+  pub top-there : (x : Option Object) → is_some x ≡ true → named x ≡ register a.host.heaps.heap (N r) → Grows (topped r) a a
+  top-there x some is = grows-as (λ g. g) (topped r) a a
+      (λ g m s. let y = some-named x some in sym (ap (λ o. if is_none o then graph.step g (command.Native r most_slots) else g) (register-in g s ∙ (sym is ∙ y.1))))
+      (grows-same a kept)
 
-  -- by the place of the root
-  pub does-both : (s i j : ℕ) (x : Name) → r ≡ s → i ≡ j → Reaches → Does Always (tabled a r) a b →
-      Does (IsReached b.heaps.heap (Some x)) (λ g. graph.set_slot g (table b r) i (Some x)) b c → Does (IsReached a.heaps.heap (Some x)) (put (tabled a s) s j x) a c
-  does-both s i j x at slot reaches d e =
-      subst (λ t. Does (IsReached a.heaps.heap (Some x)) (put (tabled a t) t j x) a c) at
-      (subst (λ k. Does (IsReached a.heaps.heap (Some x)) (put (tabled a r) r k x) a c) slot (both i x reaches d e))
+  -- there is none
+  pub top-made : (b : State) → IsKept b.host → register a.host.heaps.heap (N r) ≡ None → Does Always (λ g. graph.step g (command.Native r most_slots)) a.host b.host →
+      TellsFreed a.host b.host (told_all a.told) (told_all b.told) → ((x : Option Name) → IsReached a.host.heaps.heap x → IsReached b.host.heaps.heap x) →
+      ((y : Name) → Among y (names_there b.host.heaps.heap) → Among y (names_there a.host.heaps.heap) ⊎ (y ≡ native (a.host.heaps.heap.natives_made + 1))) →
+      IsReached b.host.heaps.heap (Some (native (a.host.heaps.heap.natives_made + 1))) → Aside a b → Grows (topped r) a b
+  top-made b kb none does tells reaches came reached aside = grows-as (λ g. graph.step g (command.Native r most_slots)) (topped r) a b
+      (λ g m s. sym (ap (λ o. if is_none o then graph.step g (command.Native r most_slots) else g) (register-in g s ∙ none)))
+      (grows-made (λ g. graph.step g (command.Native r most_slots)) a b kept kb does tells reaches came reached aside)
 
-  -- WHAT BOTH TELL
-  pub tells-both : (name : Name) → table b r ≡ Some name → Comes name a b → (before told after : Telling) →
-      TellsWhatIsFreed a.heaps.heap b.heaps.heap before told → TellsWhatIsFreed b.heaps.heap c.heaps.heap told after → TellsWhatIsFreed a.heaps.heap c.heaps.heap before after
-  tells-both name held comes before told after o p =
-      tells-then a.heaps.heap b.heaps.heap c.heaps.heap late.runs.order.sound.well_formed came
-      (was-before a.heaps.heap b.heaps.heap c.heaps.heap r name held registers comes) before told after o p
+-- In a slot
 
--- NO TABLE IS BEHIND THE HOST'S ROOTS: its own register holds nothing, and there is none behind it
-pub beyond-none : (h : Hosted) → IsKept h → (r : ℕ) → roots ≤ r → table h r ≡ None
-beyond-none h kept r behind = ⊎_elim
-    (λ more. get_or_past h.heaps.heap.native_registers r None (omega (arith, kept.runs.order.sound.well_formed.registers.0, more, last)))
-    (λ no_more. let same : r ≡ spare = omega (arith, behind, no_more) in ap (λ s. get_or h.heaps.heap.native_registers s None) same ∙ kept.spared)
-    (cases_lt spare r)
-  where
-    last : roots + 1 ≡ bank_length
-    last = refl
+module _ (a : State) (kept : IsKept a.host) (r : ℕ) (path : List ℕ) where
+  content-in : (i : ℕ) (g : Graph) → IsWellMade g → StandsFor a.host.heaps.heap g → content_of g (below g r path) i ≡ get_or (slots_below a.host r path) i None
+  content-in i g m s = sym (content-below a.host.heaps.heap g kept.runs.order.sound.well_formed m s r path i)
+
+  below-in : (g : Graph) → IsWellMade g → StandsFor a.host.heaps.heap g → native_below a.host r path ≡ below g r path
+  below-in g m s = below-alike a.host.heaps.heap g kept.runs.order.sound.well_formed m s r path
+
+  -- there is something
+  pub wide-there : (i : ℕ) (x : Object) → Some x.name ≡ get_or (slots_below a.host r path) i None → Grows (widened r path i) a a
+  wide-there i x is = grows-as (λ g. g) (widened r path i) a a
+      (λ g m s. sym (ap (λ o. if is_none o then hung (below g r path) i most_slots (Some (native (length g.natives + 1))) g else g) (content-in i g m s ∙ sym is)))
+      (grows-same a kept)
+
+  pub tie-there : (x : Object) → Some x.name ≡ get_or (slots_below a.host r path) places None → Grows (tied r path) a a
+  tie-there x is = grows-as (λ g. g) (tied r path) a a
+      (λ g m s. sym (ap (λ o. if is_none o then graph.set_slot g (below g r path) places (below g r path) else g) (content-in places g m s ∙ sym is)))
+      (grows-same a kept)
+
+  -- there is nothing
+  module _ (b : State) (kb : IsKept b.host) (tells : TellsFreed a.host b.host (told_all a.told) (told_all b.told))
+      (reaches : (x : Option Name) → IsReached a.host.heaps.heap x → IsReached b.host.heaps.heap x) (aside : Aside a b) where
+    pub wide-made : (i : ℕ) → None ≡ get_or (slots_below a.host r path) i None →
+        Does Always (hung (native_below a.host r path) i most_slots (Some (native (a.host.heaps.heap.natives_made + 1)))) a.host b.host →
+        ((y : Name) → Among y (names_there b.host.heaps.heap) → Among y (names_there a.host.heaps.heap) ⊎ (y ≡ native (a.host.heaps.heap.natives_made + 1))) →
+        IsReached b.host.heaps.heap (Some (native (a.host.heaps.heap.natives_made + 1))) → Grows (widened r path i) a b
+    wide-made i none does came reached =
+        let change : Graph → Graph = hung (native_below a.host r path) i most_slots (Some (native (a.host.heaps.heap.natives_made + 1))) in
+        grows-as change (widened r path i) a b
+        (λ g m s.
+        ap (λ x. hung x i most_slots (Some (native (a.host.heaps.heap.natives_made + 1))) g) (below-in g m s)
+        ∙ (ap (λ j. hung (below g r path) i most_slots (Some (native (j + 1))) g) s.natives_made
+        ∙ sym (ap (λ o. if is_none o then hung (below g r path) i most_slots (Some (native (length g.natives + 1))) g else g) (content-in i g m s ∙ sym none))))
+        (grows-made change a b kept kb does tells reaches came reached aside)
+
+    pub tie-made : None ≡ get_or (slots_below a.host r path) places None → (x : Option Object) → named x ≡ native_below a.host r path → IsRootedIfAny a.host x →
+        Does (IsRootedIfAny a.host x) (λ g. graph.set_slot g (native_below a.host r path) places (named x)) a.host b.host →
+        NoneCame a.host.heaps.heap b.host.heaps.heap → b.host.heaps.heap.natives_made ≡ a.host.heaps.heap.natives_made → Grows (tied r path) a b
+    tie-made none x is rooted does came made =
+        let change : Graph → Graph = λ g. graph.set_slot g (native_below a.host r path) places (named x) in
+        let always : Does Always change a.host b.host =
+        record { stands = λ p. does.stands rooted; doomed = λ p. does.doomed rooted; keys = does.keys; running = does.running; mark = does.mark } in
+        grows-as change (tied r path) a b
+        (λ g m s.
+        ap (λ y. graph.set_slot g (native_below a.host r path) places y) is
+        ∙ (ap (λ y. graph.set_slot g y places y) (below-in g m s)
+        ∙ sym (ap (λ o. if is_none o then graph.set_slot g (below g r path) places (below g r path) else g) (content-in places g m s ∙ sym none))))
+        (grows-stored change a b kept kb always tells reaches came made aside)
+
+-- ALL IN A ROW, which a step that did nothing may follow
+module _ (r i j : ℕ) (n : ℕ) (a b c : State) (first : Grows (tables_made n r i j) a b) where
+  pub one-more : Grows (table_step n r i j) b c → Grows (tables_made (n + 1) r i j) a c
+  one-more t = subst (λ k. Grows (tables_made k r i j) a c) (sym (add-one n)) (grows-then (tables_made n r i j) (table_step n r i j) a b c first t)
+
+  pub no-more : Grows (λ g. g) b c → (k : ℕ) × Grows (tables_made k r i j) a c
+  no-more t = (n, grows-then (tables_made n r i j) (λ g. g) a b c first t)

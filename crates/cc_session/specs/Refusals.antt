@@ -1,14 +1,16 @@
 -- WHEN A CALL OF A SESSION IS REFUSED: for the host's causes, and for a few of the session's own before them.
-use Rattle.std.specs.Prelude.{◌≡◌, ◌⊎◌, ◌==◌, ◌&&◌, ℕ, Bool, false, not, nat_le, length, Option, Some, None, is_none, Result, Err}
+use Rattle.std.specs.Prelude.{◌≡◌, ◌⊎◌, ◌==◌, ◌&&◌, ℕ, List, Bool, false, not, nat_le, length, Option, Some, None, is_none, Result, Err}
 use Rattle.cc_names.specs.Names.{is_native}
 use Rattle.cc_names.specs.Sizes.{most_slots}
 use Rattle.cc_host.specs.Hosted.{Hosted, slots_of}
-use Rattle.cc_host.specs.Stops.{first, where_so, stop_at, stop_making, stop_proxy, stop_rooting, stop_storing, stop_moving, stop_storing_at_root, slots_at_root}
+use Rattle.cc_host.specs.Stops.{first, where_so, stop_at, stop_making, stop_proxy, stop_rooting, stop_storing, stop_moving, stop_storing_below_root}
 use Rattle.cc_host.specs.declared.object.Object.{Object}
 use Rattle.cc_host.specs.declared.stop.Stop.{Stop}
 use Rattle.cc_host.specs.declared.stop.Stop.TheVariants.{Foreign, Gone, Index, Full, NoMemory}
 use Rattle.cc_session.specs.declared.root.Root.{Root}
-use Rattle.cc_session.specs.Sessions.{State, numbered, serial_at, table, register_for, slot_for}
+use Rattle.cc_host.specs.Paths.{native_below, slots_below}
+use Rattle.cc_session.specs.Sessions.{State, numbered, serial_at}
+use Rattle.cc_session.specs.Roots.{path_for, register_for, slot_for}
 
 -- there is no such numbered root
 abbrev pub stop_number : ℕ → Option Stop
@@ -52,14 +54,15 @@ stop_root s root = first (where_so (not (root.mark == s.host.mark)) Foreign) (wh
 
 -- it is released: its slot of its table is written
 abbrev pub stop_released : State → Root → Option Stop
-stop_released s root = first (stop_root s root) (stop_storing_at_root s.host (register_for root.index) (slot_for root.index) None)
+stop_released s root = first (stop_root s root) (stop_storing_below_root s.host (register_for root.index) (path_for root.index) (slot_for root.index) None)
+
+-- a slot of the native to which a path leads from a register is read
+abbrev pub stop_content : Hosted → ℕ → List ℕ → ℕ → Option Stop
+stop_content h r path i = first (where_so (is_none (native_below h r path)) Gone) (where_so (nat_le (length (slots_below h r path)) i) Index)
 
 -- what it holds is read
 abbrev pub stop_held : State → Root → Option Stop
-stop_held s root =
-    first (stop_root s root)
-    (first (where_so (is_none (table s.host (register_for root.index))) Gone)
-    (where_so (nat_le (length (slots_at_root s.host (register_for root.index))) (slot_for root.index)) Index))
+stop_held s root = first (stop_root s root) (stop_content s.host (register_for root.index) (path_for root.index) (slot_for root.index))
 
 -- REFUSED FOR THIS CAUSE, where there is one, or for want of memory
 abbrev pub IsStoppedOrWants : {T : Type 0} → Option Stop → Result T Stop → Type 0

@@ -1,16 +1,15 @@
 -- WHAT A SESSION IS: a host, what was told and not fetched yet, and the session's own books.
-use Rattle.std.specs.Prelude.{◌≡◌, ◌≢◌, ◌⊎◌, ℕ, ◌+◌, ◌/◌, ◌%◌, List, Option, None, is_none, if◌then◌else◌, slice_index_or}
-use Rattle.cc_lists.specs.Members.{Among}
-use Rattle.cc_names.specs.declared.name.Name.{Name}
-use Rattle.cc_names.specs.declared.register.Reg.TheVariants.{N}
-use Rattle.cc_names.specs.Sizes.{most_slots}
-use Rattle.cc_model.specs.declared.command.Command.TheVariants as command
-use Rattle.cc_model.specs.Graph as graph
-use Rattle.cc_model.specs.Graph.{Graph}
-use Rattle.cc_model.specs.Heap.{register}
-use Rattle.cc_model.specs.Telling.{Telling}
-use Rattle.cc_model.specs.WellFormed.{names_there}
-use Rattle.cc_host.specs.Hosted.{Hosted}
+use Rattle.std.specs.Prelude.{◌≡◌, ◌≢◌, ℕ, ◌+◌, ◌≤◌, false, List, [], length, Option, None, Result, Ok, Err, slice_index_or}
+use Rattle.cc_model.specs.declared.item.Item.{Item}
+use Rattle.cc_model.specs.End.{Progress, went_on, at_end, refused}
+use Rattle.cc_host.specs.Hosted.{Hosted, IsKept}
+use Rattle.cc_host.specs.Queues.{Queued}
+use Rattle.cc_laws_told.specs.Told.{objects}
+use Rattle.cc_collector.specs.declared.collector.Ended.{Ended}
+use Rattle.cc_collector.specs.declared.collector.Ended.TheVariants.{Yes, No}
+use Rattle.cc_names.specs.declared.no_memory.NoMemory.{NoMemory}
+use Rattle.cc_session.specs.declared.hindrance.Hindrance.{Hindrance}
+use Rattle.cc_session.specs.declared.hindrance.Hindrance.TheVariants.{NoMemory as Wants}
 use Rattle.cc_session.specs.declared.session.TheConstants.{NUMBERED_ROOTS}
 
 -- the session's own books: a number of the program's for each native, by the native's own number; for each root its serial
@@ -22,9 +21,10 @@ pub record Books : Type 0 where
 
 pub record State : Type 0 where
   pub host : Hosted
-  pub told : Telling
+  -- what was told and not fetched yet, in its order
+  pub told : List Item
   -- the steps of the last answer why an object is there
-  pub steps : Telling
+  pub steps : List Item
   pub books : Books
 
 -- so many roots of each kind have a number; the native registers behind them are the tables of the other roots
@@ -45,25 +45,6 @@ pub record Enters (old new : Books) (index : ℕ) (serial : Option ℕ) : Type 0
   pub others : (other : ℕ) → other ≢ index → serial_at new other ≡ serial_at old other
   pub given : new.given ≡ old.given
 
--- what native register r holds
-abbrev pub table : Hosted → ℕ → Option Name
-table h r = register h.heaps.heap (N r)
-
--- a register that held nothing gets a table of roots
-abbrev pub tabled : Hosted → ℕ → Graph → Graph
-tabled h r g = if is_none (table h r) then graph.step g (command.Native r most_slots) else g
-
--- NO OBJECT COMES but this one
-abbrev pub Comes : Name → Hosted → Hosted → Type 0
-Comes made old new = (x : Name) → Among x (names_there new.heaps.heap) → Among x (names_there old.heaps.heap) ⊎ (x ≡ made)
-
--- the root at a place stands in this register's table, and in this slot of it
-abbrev pub register_for : ℕ → ℕ
-register_for index = numbered + index / most_slots
-
-abbrev pub slot_for : ℕ → ℕ
-slot_for index = index % most_slots
-
 -- WHAT A CALL LEAVES ALONE: the session's own books, and the steps that were told
 pub record Aside (old new : State) : Type 0 where
   pub books : new.books ≡ old.books
@@ -74,3 +55,34 @@ pub record Quiet (old new : State) : Type 0 where
   pub told : new.told ≡ old.told
   pub books : new.books ≡ old.books
   pub steps : new.steps ≡ old.steps
+
+-- Room for what is told
+
+-- one more than a call can tell at most: each native is freed, and unlinked by two collections; each script object is freed;
+-- two collections are given up
+abbrev pub most_told : Hosted → ℕ
+most_told h = length h.heaps.heap.natives + length h.heaps.heap.natives + objects h.heaps.heap + 3
+
+-- WHAT A SESSION KEEPS between its calls: what its host keeps; no item was left out; there is room for the end of each object
+-- besides what waits, and for all that a collection can tell where nothing waits
+pub record HasRoom (h : Hosted) (q : Queued) : Type 0 where
+  pub kept : IsKept h
+  pub whole : q.broken ≡ false
+  pub each : length q.items + objects h.heaps.heap + 1 ≤ q.room
+  pub all : most_told h ≤ q.room
+
+-- A COLLECTION IS HINDERED by what was told and not fetched: nothing was done
+pub record IsUnfetched (old new : State) : Type 0 where
+  pub same : new ≡ old
+  pub waits : old.told ≢ []
+
+-- want of memory hinders a collection
+abbrev pub hindered : {T : Type 0} → Result T NoMemory → Result T Hindrance
+hindered (Ok x) = Ok x
+hindered (Err e) = Err Wants
+
+-- what a slice answers, as progress
+abbrev pub progress_of : Result Ended Hindrance → Progress
+progress_of (Ok Yes) = at_end
+progress_of (Ok No) = went_on
+progress_of (Err e) = refused

@@ -3,19 +3,23 @@
 //! A `Host` tells what goes to a receiver of the caller's, and has a few roots by number. A `Session` has both heaps, the
 //! collector and a queue of what was told in one value, and
 //!
-//! - *roots without number*, 229,120 of them at a time: `root` holds any object until `release`, and what it answers can't be used
-//!   twice. They stand in tables, which are natives of the session's own, one for each native register behind the numbered roots;
+//! - *roots without number*, as many at a time as 32 bits count: `root` holds any object until `release`, and what it answers
+//!   can't be used twice. They stand in tables, which are natives of the session's own: a tree of them, three deep, below a native
+//!   register behind the numbered roots. A table is made when the first root wants it, so the only other bound is the limit of
+//!   natives;
 //! - *a number of the program's for each native*, a pointer say, which is handed back with what is told of it;
-//! - *room for what can be told*, taken when an object is made: fetch what was told between two collections, and nothing is
-//!   lost.
+//! - *a queue that loses nothing*: the room for what can be told of an object is taken when it is made. A collection that finds
+//!   no room beside what was told before, and not fetched, does nothing and says so.
 //!
 //! No call has a `requires`. The contracts are the host's (`Does`, `Collects`), and say of the session's own books what changes.
 #![tactic(auto)]
 
 mod book;
+mod hindrance;
 pub mod loose;
 mod root;
 mod session;
 
+pub use hindrance::Hindrance;
 pub use root::Root;
 pub use session::{NUMBERED_ROOTS, Session};

@@ -1,15 +1,16 @@
 //! The session: its fields, what it has been told, and what it counts.
-ghost use Rattle.std.specs.Prelude.{◌≡◌, ◌∷◌, [], Some, None, IfOk, OnOk, OnErr, false, is_none, option_map};
+ghost use Rattle.std.specs.Prelude.{◌≡◌, ◌+◌, ◌∷◌, [], Some, None, IfOk, is_none};
 ghost use Rattle.cc_model.specs.declared.item.Item.{Item};
 ghost use Rattle.cc_model.specs.Heap.{empty_heap};
 ghost use Rattle.cc_host.specs.Stops.{stop_at};
-ghost use Rattle.cc_session.specs.Sessions.{State};
+ghost use Rattle.cc_session.specs.Sessions.{State, most_told};
 
 mod collecting;
 mod entries;
 mod making;
 mod reading;
 mod rooting;
+mod tables;
 mod writing;
 
 use crate::book::Book;
@@ -22,6 +23,22 @@ use std::marker::Model;
 /// How many roots of each kind have a number. They are counted from 0.
 pub const NUMBERED_ROOTS: RegNo = 128;
 
+// The room for what can be told where no object is there: that two collections were given up, and one more.
+const LEAST_ROOM: usize = 3;
+
+// What an object adds to that: it is freed, and a native is unlinked by two collections; one more.
+const ROOM_FOR_ONE: usize = 4;
+
+/// The room where one object more is there.
+fn with_one_more(room: usize) -> Result<usize, NoMemory>
+    ensures { IfOk result (λ more. more ≡ room + 4) }
+{
+    match room.checked_add(ROOM_FOR_ONE) {
+        Some(more) => Ok(more),
+        None => Err(NoMemory),
+    }
+}
+
 /// Both heaps, the collector that runs in them, and what was told.
 #[derive(Drop)]
 pub struct Session {
@@ -33,11 +50,14 @@ pub struct Session {
 }
 
 impl Model for Session {
-    ghost use Rattle.cc_session.specs.Sessions.{State};
+    ghost use Rattle.std.specs.Prelude.{◌≡◌, false};
+    ghost use Rattle.cc_session.specs.Sessions.{HasRoom, State};
 
     ghost Value = { State };
 
-    ghost view = { λ s. record { host = s.host; told = s.told; steps = s.steps; books = s.book } };
+    ghost view = { λ s. record { host = s.host; told = s.told.items; steps = s.steps.items; books = s.book } };
+
+    ghost invariant = { λ s. HasRoom s.host s.told × (s.steps.broken ≡ false) };
 }
 
 impl Session {
@@ -47,13 +67,15 @@ impl Session {
         ensures heap { IfOk result (λ s. s.host.heaps.heap ≡ empty_heap limits) }
         ensures idle { IfOk result (λ s. s.host.running ≡ None) }
         ensures mark { IfOk result (λ s. s.host.mark ≡ mark) }
-        ensures told { IfOk result (λ s. s.told.items ≡ Some []) }
-        ensures whole { IfOk result (λ s. s.told.broken ≡ false) }
+        ensures told { IfOk result (λ s. s.told ≡ []) }
         ensures books { IfOk result (λ s. s.books ≡ record { given = []; roots = []; last = 0 }) }
     {
+        let host = Host::new(alloc, limits, mark)?;
+        let mut told = Queue::new(alloc);
+        told.reserve(LEAST_ROOM)?;
         Ok(Session {
-            host: Host::new(alloc, limits, mark)?,
-            told: Queue::new(alloc),
+            host,
+            told,
             steps: Queue::new(alloc),
             book: Book::new(alloc),
             alloc,
@@ -78,46 +100,28 @@ impl Session {
 
     /// The first item that was told and not fetched yet, which is fetched then; none where there is none.
     pub fn next_told(&mut self) -> Option<Item>
-        ensures next { (x : Item) → result ≡ Some x → self.old ≡ record self.new { told = record self.new.told { items = option_map (λ later. x ∷ later) self.new.told.items } } }
-        ensures none { result ≡ None → (self.new ≡ self.old) × (self.old.told.items ≡ Some []) }
+        ensures next { (x : Item) → result ≡ Some x → self.old ≡ record self.new { told = x ∷ self.new.told } }
+        ensures none { result ≡ None → (self.new ≡ self.old) × (self.old.told ≡ []) }
     {
         self.told.next()
     }
 
-    /// Whether an item found no memory since `mend_told` was called last: that one, and each later one, was left out.
-    pub fn is_told_broken(&self) -> bool
-        ensures { result ≡ self.now.told.broken }
-    {
-        self.told.is_broken()
-    }
-
-    /// Items are kept again.
-    pub fn mend_told(&mut self)
-        ensures { self.new ≡ record self.old { told = record self.old.told { broken = false } } }
-    {
-        self.told.mend();
-    }
-
     /// The next step of the last answer to `why`, which is fetched then; none where all were fetched.
     pub fn next_step(&mut self) -> Option<Item>
-        ensures next { (x : Item) → result ≡ Some x → self.old ≡ record self.new { steps = record self.new.steps { items = option_map (λ later. x ∷ later) self.new.steps.items } } }
-        ensures none { result ≡ None → (self.new ≡ self.old) × (self.old.steps.items ≡ Some []) }
+        ensures next { (x : Item) → result ≡ Some x → self.old ≡ record self.new { steps = x ∷ self.new.steps } }
+        ensures none { result ≡ None → (self.new ≡ self.old) × (self.old.steps ≡ []) }
     {
         self.steps.next()
     }
 
-    // Room in the queue for all that one collection can tell once an object more is there: each native unlinked and freed,
-    // each script object freed, and a collection given up.
-    fn take_room(&mut self) -> Result<(), NoMemory>
-        ensures { self.new ≡ self.old }
+    // One more than a call can tell at most.
+    fn most_told(&self) -> usize
+        ensures { result ≡ most_told self.now.host }
     {
-        let natives = self.host.natives().saturating_add(1);
-        let scripts = self.host.scripts().saturating_add(1);
-        self.told.reserve(
-            natives
-                .saturating_mul(2)
-                .saturating_add(scripts)
-                .saturating_add(1),
-        )
+        let natives = self.host.natives();
+        let scripts = self.host.scripts();
+        // there is room for so many, so the sum fits
+        let _room = self.told.room();
+        natives + natives + (natives + scripts) + 3
     }
 }

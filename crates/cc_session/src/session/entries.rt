@@ -13,6 +13,7 @@ impl Session {
     /// A key has a value in a weak map from then on: see `Host::set_entry`.
     ///
     /// `NoMemory` leaves the graph as it is (`tried`), and comes only where there was no entry.
+    #[tactic(auto, using(crate::proofs::HasRoom::after_nothing))]
     pub fn set_entry(&mut self, the_map: Object, key: Object, value: Object) -> Result<(), Stop>
         ensures stops { IsStoppedOrRefused (stop_setting self.old.host the_map key value) result }
         ensures does { OnOk result (Does (IsRooted self.old.host the_map × IsRooted self.old.host key × IsRooted self.old.host value)
@@ -20,10 +21,13 @@ impl Session {
         ensures tried { OnErr result (Tries (IsRooted self.old.host key × IsRooted self.old.host value) self.old.host self.new.host) }
         ensures quiet { Quiet self.old self.new }
     {
-        self.host.set_entry(the_map, key, value)
+        let done = self.host.set_entry(the_map, key, value);
+        self.host.keeps();
+        done
     }
 
     /// A key has no value in a weak map from then on. Takes no memory.
+    #[tactic(auto, using(crate::proofs::HasRoom::after_nothing))]
     pub fn unset_entry(&mut self, the_map: Object, key: Object) -> Result<(), Stop>
         ensures stops { IsStoppedBy (stop_entry self.old.host the_map key) result }
         ensures does { OnOk result (Does (IsRooted self.old.host the_map × IsRooted self.old.host key)
@@ -31,6 +35,8 @@ impl Session {
         ensures same { OnErr result (self.new ≡ self.old) }
         ensures quiet { Quiet self.old self.new }
     {
-        self.host.unset_entry(the_map, key)
+        let done = self.host.unset_entry(the_map, key);
+        self.host.keeps();
+        done
     }
 }

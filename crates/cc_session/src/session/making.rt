@@ -7,11 +7,12 @@ ghost use Rattle.cc_model.specs.Graph as graph;
 ghost use Rattle.cc_model.specs.Heap.{register};
 ghost use Rattle.cc_host.specs.Calls.{Always, Does, TellsFreed, Tries};
 ghost use Rattle.cc_host.specs.Hosted.{IsRooted, IsThere};
+ghost use Rattle.cc_host.specs.Queues.{told_all};
 ghost use Rattle.cc_host.specs.Stops.{are_natives_made, are_scripts_made};
 ghost use Rattle.cc_session.specs.Sessions.{Aside, Quiet};
 ghost use Rattle.cc_session.specs.Refusals.{IsStoppedOrWants, stop_native_made, stop_proxy_made, stop_script_made};
 
-use crate::session::{NUMBERED_ROOTS, Session};
+use crate::session::{NUMBERED_ROOTS, Session, with_one_more};
 use cc_host::{Object, Stop};
 use cc_names::{MOST_SLOTS, RegNo, SlotNo};
 
@@ -26,14 +27,18 @@ impl Session {
         ensures name { IfOk result (λ x. x.name ≡ native (self.old.host.heaps.heap.natives_made + 1)) }
         ensures held { IfOk result (λ x. register self.new.host.heaps.heap (n_register r) ≡ Some x.name) }
         ensures same { OnErr result (self.new ≡ self.old) }
-        ensures tells { TellsFreed self.old.host self.new.host self.old.told self.new.told }
+        ensures tells { TellsFreed self.old.host self.new.host (told_all self.old.told) (told_all self.new.told) }
         ensures aside { Aside self.old self.new }
     {
         if r >= NUMBERED_ROOTS || slots >= MOST_SLOTS {
             return Err(Stop::Index);
         }
-        self.take_room()?;
-        self.host.new_native(r, slots, &mut self.told)
+        let room = with_one_more(self.most_told())?;
+        self.told.reserve(room)?;
+        let made = self.host.new_native(r, slots, &mut self.told);
+        self.told.keeps();
+        self.host.keeps();
+        made
     }
 
     /// Makes a plain script object with `slots` empty slots (0 to 256), which numbered script root `r` holds from then on.
@@ -49,8 +54,11 @@ impl Session {
         if r >= NUMBERED_ROOTS || slots > MOST_SLOTS {
             return Err(Stop::Index);
         }
-        self.take_room()?;
-        self.host.new_plain(r, slots)
+        let room = with_one_more(self.most_told())?;
+        self.told.reserve(room)?;
+        let made = self.host.new_plain(r, slots);
+        self.host.keeps();
+        made
     }
 
     /// Makes a weak map without entries, which numbered script root `r` holds from then on.
@@ -66,8 +74,11 @@ impl Session {
         if r >= NUMBERED_ROOTS {
             return Err(Stop::Index);
         }
-        self.take_room()?;
-        self.host.new_map(r)
+        let room = with_one_more(self.most_told())?;
+        self.told.reserve(room)?;
+        let made = self.host.new_map(r);
+        self.host.keeps();
+        made
     }
 
     /// Makes a proxy of a script object, its delegate for good, which numbered script root `r` holds from then on. A delegate
@@ -87,7 +98,10 @@ impl Session {
         if r >= NUMBERED_ROOTS {
             return Err(Stop::Index);
         }
-        self.take_room()?;
-        self.host.new_proxy(r, delegate)
+        let room = with_one_more(self.most_told())?;
+        self.told.reserve(room)?;
+        let made = self.host.new_proxy(r, delegate);
+        self.host.keeps();
+        made
     }
 }

@@ -112,8 +112,8 @@ impl Session {
     pub fn why(&mut self, x: Object) -> Result<bool, Stop>
         ensures stops { IsStoppedOrRefused (stop_at self.old.host x) result }
         ensures led { IfOk result (λ b. b ≡ is_led_to (leads_in self.old.host.heaps.heap) x.name) }
-        ensures steps { OnOk result (self.new.steps.items ≡ Some (map item_of_step (path_to (leads_in self.old.host.heaps.heap) x.name))) }
-        ensures none { OnErr result (self.new.steps.items ≡ Some []) }
+        ensures steps { OnOk result (self.new.steps ≡ map item_of_step (path_to (leads_in self.old.host.heaps.heap) x.name)) }
+        ensures none { OnErr result (self.new.steps ≡ []) }
         ensures rest { self.new ≡ record self.old { steps = self.new.steps } }
     {
         self.steps = Queue::new(self.alloc);

@@ -1,113 +1,227 @@
 //! Roots, as many as wanted.
-ghost use Rattle.std.specs.Prelude.{◌≡◌, ◌≢◌, ◌⊎◌, ◌+◌, ◌<◌, ◌≤◌, ℕ, Option, Some, None, IfOk, IfSome, IfNone, OnErr, OnOk, slice_index_or};
+//!
+//! They stand in tables: natives with 256 slots, of which no program makes one. Each native register behind the numbered roots
+//! holds a table, whose slots hold tables, whose slots hold tables, whose slots hold what roots hold. A place has 32 bits, so
+//! 260 of these registers have a place for each; a table is made on the way where it was not there.
+//!
+//! The last slot of a table holds the table itself. A register of the host's holds a table while it is made, and when it gave it
+//! up again the table was a suspect, from which the next collection would walk over all that the program's roots reach. A
+//! reference taken up anew makes it one no more. That is why a table has 255 places, and not 256.
+ghost use Rattle.std.specs.Prelude.{◌≡◌, ◌⊎◌, ◌+◌, ◌*◌, ◌/◌, ◌%◌, ◌<◌, ℕ, Option, Some, None, Err, IfOk, OnErr, OnOk, slice_index_or};
 ghost use Rattle.cc_model.specs.Graph as graph;
-ghost use Rattle.cc_names.specs.Sizes.{most_slots};
 ghost use Rattle.cc_names.specs.declared.name.Name.{Name};
-ghost use Rattle.cc_heaps.specs.Leaving.{NoneCame};
 ghost use Rattle.cc_heaps.specs.Standing.{IsReached};
-ghost use Rattle.cc_host.specs.Calls.{Always, Does, TellsFreed};
+ghost use Rattle.cc_host.specs.Calls.{Always, Does, NoneComes, TellsFreed};
 ghost use Rattle.cc_host.specs.Hosted.{IsKept, IsRooted, IsThereIfAny, named, roots};
-ghost use Rattle.cc_host.specs.Stops.{IsStoppedBy, slots_at_root, stop_at};
-ghost use Rattle.cc_session.specs.Sessions.{Aside, Comes, Enters, register_for, serial_at, slot_for, table, tabled};
-ghost use Rattle.cc_session.specs.Refusals.{IsRootRefused, stop_held, stop_released, stop_root};
+ghost use Rattle.cc_host.specs.Queues.{told_all};
+ghost use Rattle.cc_host.specs.Paths.{native_below, slots_below};
+ghost use Rattle.cc_host.specs.Stops.{IsStoppedBy, stop_at};
+ghost use Rattle.cc_session.specs.Sessions.{Aside, Enters, serial_at};
+ghost use Rattle.cc_session.specs.Roots.{Grows, leaf, leaf_in, leaf_slots, places, register_for, slot_for, some_tables, tables_made, tied, topped, widened, with_tables};
+ghost use Rattle.cc_session.specs.Refusals.{IsRootRefused, stop_content, stop_held, stop_released, stop_root};
 
 use crate::root::Root;
 use crate::session::{NUMBERED_ROOTS, Session};
-use cc_host::{Object, ROOTS, Stop};
-use cc_names::{MOST_SLOTS, RegNo, SlotNo};
+use cc_host::{Object, Stop};
+use cc_names::{RegNo, SlotNo};
 
-/// The register of a root's table and its slot there, by its place; none where no register is left for the table.
-fn place(index: u32) -> Option<(RegNo, SlotNo)>
-    ensures place { IfSome result (λ p. (p.0 ≡ register_for index) × (p.1 ≡ slot_for index)) }
-    ensures within { IfSome result (λ p. (p.0 < roots) × (p.1 < most_slots)) }
-    ensures none { IfNone result (roots ≤ register_for index) }
+/// How many slots of a table hold what roots hold, or tables. The one behind them holds the table itself.
+pub(crate) const PLACES: SlotNo = 255;
+
+/// Where a root stands: the register in which its tree begins, two slots that lead to its table, and its slot there.
+#[derive(Clone, Copy, Debug, PartialEq, Eq, Drop)]
+struct Place {
+    register: RegNo,
+    first: SlotNo,
+    second: SlotNo,
+    slot: SlotNo,
+}
+
+/// The place of a root, by its number.
+fn place_of(index: u32) -> Place
+    ensures register { result.register ≡ register_for index }
+    ensures first { result.first ≡ index / (places * places) % places }
+    ensures second { result.second ≡ index / places % places }
+    ensures slot { result.slot ≡ slot_for index }
+    ensures within { result.register < roots }
 {
-    let each = u32::from(MOST_SLOTS);
-    let table = index / each;
-    if table >= u32::from(ROOTS - NUMBERED_ROOTS) {
-        return None;
+    let each = u32::from(PLACES);
+    Place {
+        register: NUMBERED_ROOTS + (index / (each * each * each)) as RegNo,
+        first: (index / (each * each) % each) as SlotNo,
+        second: (index / each % each) as SlotNo,
+        slot: (index % each) as SlotNo,
     }
-    Some((NUMBERED_ROOTS + table as RegNo, (index % each) as SlotNo))
+}
+
+/// Why a root has no table, where one could not be made.
+fn without_table(stop: Stop) -> Stop
+    ensures { (result ≡ Stop.NoMemory) ⊎ (result ≡ Stop.Full) }
+{
+    match stop {
+        Stop::NoMemory => Stop::NoMemory,
+        Stop::Foreign | Stop::Gone | Stop::Kind | Stop::Index | Stop::Full => Stop::Full,
+    }
 }
 
 impl Session {
-    // The slot of a root, by its place, holds an object from then on. Where its table was not there it is made.
-    #[tactic(auto, using(cc_host::proofs::KeptDoomed::still_doomed))]
-    fn hold(&mut self, index: u32, x: Object) -> Result<(), Stop>
-        requires { stop_at self.old.host x ≡ None }
-        ensures refused { (s : Stop) → result ≡ Err s → (s ≡ Stop.NoMemory) ⊎ (s ≡ Stop.Full) }
-        ensures does { OnOk result (Does (IsRooted self.old.host x)
-            (λ g. graph.set_slot (tabled self.old.host (register_for index) g) (table self.new.host (register_for index)) (slot_for index) (Some x.name)) self.old.host self.new.host) }
-        ensures tried { OnErr result (Does Always (λ g. g) self.old.host self.new.host ⊎ Does Always (tabled self.old.host (register_for index)) self.old.host self.new.host) }
-        ensures tells { TellsFreed self.old.host self.new.host self.old.told self.new.told }
-        ensures aside { Aside self.old self.new }
+    // What a slot of the table to which a path leads holds.
+    fn content(&self, r: RegNo, path: &[SlotNo], i: SlotNo) -> Result<Option<Object>, Stop>
+        requires { r < roots }
+        ensures stops { IsStoppedBy (stop_content self.now.host r path.now i) result }
+        ensures name { IfOk result (λ held. named held ≡ slice_index_or (slots_below self.now.host r path.now) i None) }
+        ensures there { IfOk result (λ held. IsThereIfAny self.now.host held) }
     {
-        let Some((r, i)) = place(index) else {
-            return Err(Stop::Full);
-        };
-        if self.host.native_root(r).is_some() {
-            return self.put(r, i, x);
+        match self.host.native_below_root(r, path) {
+            Some(table) => self.host.slot(table, i),
+            None => Err(Stop::Gone),
         }
-        self.make_table(r)?;
-        self.put(r, i, x)
     }
 
-    // A table of roots, which a native register holds from then on.
-    fn make_table(&mut self, r: RegNo) -> Result<(), Stop>
-        requires within { r < roots }
-        requires none { table self.old.host r ≡ None }
+    // A register that holds nothing gets a table.
+    fn make_top(&mut self, r: RegNo) -> Result<(), Stop>
+        requires { r < roots }
         ensures refused { (s : Stop) → result ≡ Err s → (s ≡ Stop.NoMemory) ⊎ (s ≡ Stop.Full) }
-        ensures does { OnOk result (Does Always (tabled self.old.host r) self.old.host self.new.host) }
-        ensures came { OnOk result ((made : Name) × (table self.new.host r ≡ Some made) × Comes made self.old.host self.new.host) }
-        ensures reaches { OnOk result ((x : Option Name) → IsReached self.old.host.heaps.heap x → IsReached self.new.host.heaps.heap x) }
-        ensures same { OnErr result (self.new.host ≡ self.old.host) }
-        ensures tells { TellsFreed self.old.host self.new.host self.old.told self.new.told }
-        ensures aside { Aside self.old self.new }
-        ensures kept { IsKept self.old.host × IsKept self.new.host }
+        ensures grows { OnOk result (Grows (topped r) self.old self.new) }
+        ensures same { OnErr result (Grows (λ g. g) self.old self.new) }
     {
         self.host.keeps();
-        let made = self.host.new_native(r, MOST_SLOTS, &mut self.told);
-        self.host.keeps();
-        made?;
+        if self.host.native_root(r).is_some() {
+            return Ok(());
+        }
+        if let Err(stop) = self.make_table(r) {
+            return Err(without_table(stop));
+        }
         Ok(())
     }
 
-    // A slot of the table in a native register holds an object from then on.
-    fn put(&mut self, r: RegNo, i: SlotNo, x: Object) -> Result<(), Stop>
-        ensures refused { (s : Stop) → result ≡ Err s → s ≡ Stop.Full }
-        ensures does { OnOk result (Does (IsRooted self.old.host x) (λ g. graph.set_slot g (table self.old.host r) i (Some x.name)) self.old.host self.new.host) }
-        ensures same { OnErr result (self.new ≡ self.old) }
-        ensures none_came { NoneCame self.old.host.heaps.heap self.new.host.heaps.heap }
-        ensures registers { self.new.host.heaps.heap.native_registers ≡ self.old.host.heaps.heap.native_registers }
-        ensures tells { TellsFreed self.old.host self.new.host self.old.told self.new.told }
-        ensures aside { Aside self.old self.new }
-        ensures kept { IsKept self.new.host }
+    // A slot of the table to which a path leads gets a table, where it holds nothing.
+    fn widen(&mut self, r: RegNo, path: &[SlotNo], i: SlotNo) -> Result<(), Stop>
+        requires { r < roots }
+        ensures refused { (s : Stop) → result ≡ Err s → (s ≡ Stop.NoMemory) ⊎ (s ≡ Stop.Full) }
+        ensures grows { OnOk result (Grows (widened r path.now i) self.old self.new) }
+        ensures same { OnErr result (Grows (λ g. g) self.old self.new) }
     {
-        let stored = self.host.store_at_root(r, i, Some(x), &mut self.told);
         self.host.keeps();
+        match self.content(r, path, i) {
+            Ok(None) => {}
+            Ok(Some(_)) => return Ok(()),
+            Err(_) => return Err(Stop::Full),
+        }
+        if let Err(stop) = self.hang_table(r, path, i) {
+            return Err(without_table(stop));
+        }
+        Ok(())
+    }
+
+    // The last slot of the table to which a path leads holds the table itself, where it holds nothing.
+    fn tie(&mut self, r: RegNo, path: &[SlotNo]) -> Result<(), Stop>
+        requires { r < roots }
+        ensures refused { (s : Stop) → result ≡ Err s → s ≡ Stop.Full }
+        ensures grows { OnOk result (Grows (tied r path.now) self.old self.new) }
+        ensures same { OnErr result (Grows (λ g. g) self.old self.new) }
+    {
+        self.host.keeps();
+        match self.content(r, path, PLACES) {
+            Ok(None) => {}
+            Ok(Some(_)) => return Ok(()),
+            Err(_) => return Err(Stop::Full),
+        }
+        let table = self.host.native_below_root(r, path);
+        let stored = self.write_table(r, path, PLACES, table);
         if stored.is_err() {
             return Err(Stop::Full);
         }
         Ok(())
     }
 
+    // The tables on the way to one of the third level, and that one, where they are not there.
+    fn make_tables(&mut self, r: RegNo, first: SlotNo, second: SlotNo) -> Result<(), Stop>
+        requires { r < roots }
+        ensures refused { (s : Stop) → result ≡ Err s → (s ≡ Stop.NoMemory) ⊎ (s ≡ Stop.Full) }
+        ensures grows { OnOk result (Grows (tables_made 5 r first second) self.old self.new) }
+        ensures tried { OnErr result ((n : ℕ) × Grows (tables_made n r first second) self.old self.new) }
+    {
+        self.make_top(r)?;
+        self.widen(r, &[], first)?;
+        self.tie(r, &[first])?;
+        self.widen(r, &[first], second)?;
+        self.tie(r, &[first, second])
+    }
+
+    // A slot of the table to which a path leads, which holds nothing, holds an object from then on.
+    fn put(&mut self, r: RegNo, path: &[SlotNo], i: SlotNo, x: Object) -> Result<(), Stop>
+        requires { r < roots }
+        ensures refused { (s : Stop) → result ≡ Err s → s ≡ Stop.Full }
+        ensures does { OnOk result (Does (IsRooted self.old.host x) (λ g. graph.set_slot g (native_below self.old.host r path.now) i (Some x.name)) self.old.host self.new.host) }
+        ensures same { OnErr result (self.new ≡ self.old) }
+        ensures none_came { NoneComes self.old.host self.new.host }
+        ensures reaches { (y : Option Name) → IsReached self.old.host.heaps.heap y → IsReached self.new.host.heaps.heap y }
+        ensures tells { TellsFreed self.old.host self.new.host (told_all self.old.told) (told_all self.new.told) }
+        ensures aside { Aside self.old self.new }
+        ensures kept { IsKept self.old.host × IsKept self.new.host }
+    {
+        self.host.keeps();
+        match self.content(r, path, i) {
+            Ok(None) => {}
+            Ok(Some(_)) | Err(_) => return Err(Stop::Full),
+        }
+        let stored = self.write_table(r, path, i, Some(x));
+        if stored.is_err() {
+            return Err(Stop::Full);
+        }
+        Ok(())
+    }
+
+    // The table of a root, by the number of its place, where it is not there.
+    fn make_way(&mut self, index: u32) -> Result<(), Stop>
+        ensures refused { (s : Stop) → result ≡ Err s → (s ≡ Stop.NoMemory) ⊎ (s ≡ Stop.Full) }
+        ensures grows { OnOk result (Grows (with_tables index) self.old self.new) }
+        ensures some { (n : ℕ) × Grows (some_tables n index) self.old self.new }
+    {
+        self.host.keeps();
+        let at = place_of(index);
+        if self
+            .host
+            .native_below_root(at.register, &[at.first, at.second])
+            .is_some()
+        {
+            return Ok(());
+        }
+        self.make_tables(at.register, at.first, at.second)
+    }
+
+    // The slot of a root, by the number of its place, holds an object from then on.
+    fn hold(&mut self, index: u32, x: Object) -> Result<(), Stop>
+        ensures refused { (s : Stop) → result ≡ Err s → (s ≡ Stop.NoMemory) ⊎ (s ≡ Stop.Full) }
+        ensures does { OnOk result (Does (IsRooted self.old.host x)
+            (λ g. graph.set_slot (with_tables index g) (leaf_in (with_tables index g) index) (slot_for index) (Some x.name)) self.old.host self.new.host) }
+        ensures tried { OnErr result ((n : ℕ) × Does Always (some_tables n index) self.old.host self.new.host) }
+        ensures tells { TellsFreed self.old.host self.new.host (told_all self.old.told) (told_all self.new.told) }
+        ensures aside { Aside self.old self.new }
+    {
+        self.make_way(index)?;
+        let at = place_of(index);
+        self.put(at.register, &[at.first, at.second], at.slot, x)
+    }
+
     /// Holds an object until the root that it answers is released. Any number of roots may hold one object.
     ///
-    /// It takes a place in a table: a native of 256 slots, which is made where all others are full. `Full` where no table can
-    /// be made for it: behind some 200,000 roots, or where as many natives as the limit were ever made. `Full` and `NoMemory`
-    /// leave the graph as it is, but for such a table (`tried`), and no root is in use that was not.
-    #[tactic(auto, using(cc_host::proofs::KeptDoomed::still_doomed))]
+    /// Each 32-bit number is the place of a root, so there are as many roots at a time as 32 bits count. The tables in which they
+    /// stand are natives too, and are made as they are wanted, one for 255 roots and the few above it. `Full` where each place
+    /// is taken, or where as many natives as the limit were ever made. `Full` and `NoMemory` leave the graph as it is, but for
+    /// such tables (`tried`), and no root is in use that was not.
     pub fn root(&mut self, x: Object) -> Result<Root, Stop>
         ensures stops { IsRootRefused (stop_at self.old.host x) result }
         ensures does { IfOk result (λ root. Does (IsRooted self.old.host x)
-            (λ g. graph.set_slot (tabled self.old.host (register_for root.index) g) (table self.new.host (register_for root.index)) (slot_for root.index) (Some x.name)) self.old.host self.new.host) }
+            (λ g. graph.set_slot (with_tables root.index g) (leaf_in (with_tables root.index g) root.index) (slot_for root.index) (Some x.name)) self.old.host self.new.host) }
         ensures entered { IfOk result (λ root. Enters self.old.books self.new.books root.index (Some root.serial)) }
         ensures serial { IfOk result (λ root. (root.serial ≡ self.old.books.last + 1) × (self.new.books.last ≡ root.serial)) }
         ensures mark { IfOk result (λ root. root.mark ≡ self.old.host.mark) }
-        ensures tried { OnErr result (Does Always (λ g. g) self.old.host self.new.host ⊎ ((r : ℕ) × Does Always (tabled self.old.host r) self.old.host self.new.host)) }
+        ensures tried { OnErr result ((n index : ℕ) × Does Always (some_tables n index) self.old.host self.new.host) }
         ensures none { OnErr result ((index : ℕ) → serial_at self.new.books index ≡ serial_at self.old.books index) }
         ensures given { self.new.books.given ≡ self.old.books.given }
-        ensures tells { TellsFreed self.old.host self.new.host self.old.told self.new.told }
+        ensures tells { TellsFreed self.old.host self.new.host (told_all self.old.told) (told_all self.new.told) }
     {
         self.host.slots(x)?;
         let (index, serial) = self.book.enter()?;
@@ -127,17 +241,15 @@ impl Session {
     /// What it held is given up, and what then has no reference is deleted and told. Takes no memory.
     pub fn release(&mut self, root: Root) -> Result<(), Stop>
         ensures stops { IsStoppedBy (stop_released self.old root) result }
-        ensures does { OnOk result (Does Always (λ g. graph.set_slot g (table self.old.host (register_for root.index)) (slot_for root.index) None) self.old.host self.new.host) }
+        ensures does { OnOk result (Does Always (λ g. graph.set_slot g (leaf self.old.host root.index) (slot_for root.index) None) self.old.host self.new.host) }
         ensures left { OnOk result (Enters self.old.books self.new.books root.index None) }
         ensures last { self.new.books.last ≡ self.old.books.last }
         ensures same { OnErr result (self.new ≡ self.old) }
-        ensures tells { TellsFreed self.old.host self.new.host self.old.told self.new.told }
+        ensures tells { TellsFreed self.old.host self.new.host (told_all self.old.told) (told_all self.new.told) }
     {
         self.find(root)?;
-        let Some((r, i)) = place(root.index) else {
-            return Err(Stop::Index);
-        };
-        self.host.store_at_root(r, i, None, &mut self.told)?;
+        let at = place_of(root.index);
+        self.write_table(at.register, &[at.first, at.second], at.slot, None)?;
         self.book.leave(root.index);
         Ok(())
     }
@@ -158,17 +270,11 @@ impl Session {
     /// What a root holds.
     pub fn held(&self, root: Root) -> Result<Option<Object>, Stop>
         ensures stops { IsStoppedBy (stop_held self.now root) result }
-        ensures name { IfOk result (λ held. named held ≡ slice_index_or (slots_at_root self.now.host (register_for root.index)) (slot_for root.index) None) }
+        ensures name { IfOk result (λ held. named held ≡ slice_index_or (leaf_slots self.now.host root.index) (slot_for root.index) None) }
         ensures there { IfOk result (λ held. IsThereIfAny self.now.host held) }
     {
         self.find(root)?;
-        self.host.keeps();
-        let Some((r, i)) = place(root.index) else {
-            return Err(Stop::Gone);
-        };
-        match self.host.native_root(r) {
-            Some(table) => self.host.slot(table, i),
-            None => Err(Stop::Gone),
-        }
+        let at = place_of(root.index);
+        self.content(at.register, &[at.first, at.second], at.slot)
     }
 }

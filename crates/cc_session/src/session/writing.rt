@@ -8,11 +8,12 @@ ghost use Rattle.cc_heaps.specs.Changes.{slot_held};
 ghost use Rattle.cc_heaps.specs.Standing.{IsReachedOrReflects};
 ghost use Rattle.cc_host.specs.Calls.{Does, TellsFreed, Tries, stored};
 ghost use Rattle.cc_host.specs.Hosted.{IsRooted, IsRootedIfAny, IsThere, named};
+ghost use Rattle.cc_host.specs.Queues.{told_all};
 ghost use Rattle.cc_host.specs.Stops.{IsStoppedBy, IsStoppedOrRefused, stop_native, stop_reflector, stop_script};
 ghost use Rattle.cc_session.specs.Sessions.{Aside, Quiet, data_at};
 ghost use Rattle.cc_session.specs.Refusals.{IsStoppedOrWants, stop_moved, stop_numbered, stop_stored, stop_table};
 
-use crate::session::{NUMBERED_ROOTS, Session};
+use crate::session::{NUMBERED_ROOTS, Session, with_one_more};
 use cc_host::{Object, Stop};
 use cc_names::{MOST_SLOTS, Name, RegNo, SlotNo};
 
@@ -20,20 +21,25 @@ impl Session {
     /// Numbered native root `r` holds a native from then on, or nothing.
     ///
     /// What it held is given up, and what then has no reference is deleted and told. Takes no memory.
+    #[tactic(auto, using(crate::proofs::HasRoom::after_freeing, crate::proofs::HasRoom::told_freed))]
     pub fn set_native_root(&mut self, r: RegNo, x: Option<Object>) -> Result<(), Stop>
         ensures stops { IsStoppedBy (stop_numbered stop_native self.old.host r x) result }
         ensures does { OnOk result (Does (IsRootedIfAny self.old.host x) (λ g. graph.set_register g (n_register r) (named x)) self.old.host self.new.host) }
         ensures same { OnErr result (self.new ≡ self.old) }
-        ensures tells { TellsFreed self.old.host self.new.host self.old.told self.new.told }
+        ensures tells { TellsFreed self.old.host self.new.host (told_all self.old.told) (told_all self.new.told) }
         ensures aside { Aside self.old self.new }
     {
         if r >= NUMBERED_ROOTS {
             return Err(Stop::Index);
         }
-        self.host.set_native_root(r, x, &mut self.told)
+        let done = self.host.set_native_root(r, x, &mut self.told);
+        self.told.keeps();
+        self.host.keeps();
+        done
     }
 
     /// Numbered script root `r` holds a script object from then on, or nothing. Takes no memory.
+    #[tactic(auto, using(crate::proofs::HasRoom::after_nothing))]
     pub fn set_script_root(&mut self, r: RegNo, x: Option<Object>) -> Result<(), Stop>
         ensures stops { IsStoppedBy (stop_numbered stop_script self.old.host r x) result }
         ensures does { OnOk result (Does (IsReachedOrReflects self.old.host.heaps.heap (named x)) (λ g. graph.set_register g (s_register r) (named x)) self.old.host self.new.host) }
@@ -43,7 +49,9 @@ impl Session {
         if r >= NUMBERED_ROOTS {
             return Err(Stop::Index);
         }
-        self.host.set_script_root(r, x)
+        let done = self.host.set_script_root(r, x);
+        self.host.keeps();
+        done
     }
 
     // An object that is there, and no table of roots.
@@ -58,30 +66,38 @@ impl Session {
     }
 
     /// Slot `i` of an object, counted from 0, holds another object from then on, or nothing: see `Host::store`. Takes no memory.
+    #[tactic(auto, using(crate::proofs::HasRoom::after_freeing, crate::proofs::HasRoom::told_freed))]
     pub fn store(&mut self, x: Object, i: SlotNo, y: Option<Object>) -> Result<(), Stop>
         ensures stops { IsStoppedBy (stop_stored self.old.host x i y) result }
         ensures does { OnOk result (Does (IsRooted self.old.host x × IsRootedIfAny self.old.host y) (stored x i (named y)) self.old.host self.new.host) }
         ensures same { OnErr result (self.new ≡ self.old) }
-        ensures tells { TellsFreed self.old.host self.new.host self.old.told self.new.told }
+        ensures tells { TellsFreed self.old.host self.new.host (told_all self.old.told) (told_all self.new.told) }
         ensures aside { Aside self.old self.new }
     {
         self.look(x)?;
-        self.host.store(x, i, y, &mut self.told)
+        let done = self.host.store(x, i, y, &mut self.told);
+        self.told.keeps();
+        self.host.keeps();
+        done
     }
 
     /// Slot `i` of the native `to`, counted from 0, holds from then on what slot `j` of the native `from` held, which is empty
     /// then: see `Host::move_slot`. Takes no memory.
+    #[tactic(auto, using(crate::proofs::HasRoom::after_freeing, crate::proofs::HasRoom::told_freed))]
     pub fn move_slot(&mut self, to: Object, i: SlotNo, from: Object, j: SlotNo) -> Result<(), Stop>
         ensures stops { IsStoppedBy (stop_moved self.old.host to i from j) result }
         ensures does { OnOk result (Does (IsRooted self.old.host to × IsRooted self.old.host from)
             (λ g. graph.move_slot g (Some to.name) i (Some from.name) j (slot_held self.old.host.heaps.heap (number_of from.name) j)) self.old.host self.new.host) }
         ensures same { OnErr result (self.new ≡ self.old) }
-        ensures tells { TellsFreed self.old.host self.new.host self.old.told self.new.told }
+        ensures tells { TellsFreed self.old.host self.new.host (told_all self.old.told) (told_all self.new.told) }
         ensures aside { Aside self.old self.new }
     {
         self.look(to)?;
         self.look(from)?;
-        self.host.move_slot(to, i, from, j, &mut self.told)
+        let done = self.host.move_slot(to, i, from, j, &mut self.told);
+        self.told.keeps();
+        self.host.keeps();
+        done
     }
 
     /// The reflector of a native, for script: see `Host::wrap`. Put it into a root, or into a slot, for by itself it is held by
@@ -95,21 +111,28 @@ impl Session {
         ensures there { IfOk result (λ y. IsThere self.new.host y) }
         ensures name { IfOk result (λ y. Some y.name ≡ reflector_of (Some x.name)) }
         ensures tried { OnErr result (Tries (IsRooted self.old.host x) self.old.host self.new.host) }
-        ensures tells { TellsFreed self.old.host self.new.host self.old.told self.new.told }
+        ensures tells { TellsFreed self.old.host self.new.host (told_all self.old.told) (told_all self.new.told) }
         ensures aside { Aside self.old self.new }
     {
-        self.take_room()?;
-        self.host.wrap(x, &mut self.told)
+        let room = with_one_more(self.most_told())?;
+        self.told.reserve(room)?;
+        let made = self.host.wrap(x, &mut self.told);
+        self.told.keeps();
+        self.host.keeps();
+        made
     }
 
     /// A reflector is preserved from then on: its native holds it. Takes no memory.
+    #[tactic(auto, using(crate::proofs::HasRoom::after_nothing))]
     pub fn preserve(&mut self, x: Object) -> Result<(), Stop>
         ensures stops { IsStoppedBy (stop_reflector self.old.host x) result }
         ensures does { OnOk result (Does (IsRooted self.old.host x) (λ g. graph.preserve g (Some x.name)) self.old.host self.new.host) }
         ensures same { OnErr result (self.new ≡ self.old) }
         ensures quiet { Quiet self.old self.new }
     {
-        self.host.preserve(x)
+        let done = self.host.preserve(x);
+        self.host.keeps();
+        done
     }
 
     // The program's numbers

@@ -1,0 +1,14 @@
+use Rattle.std.proofs.Common.{arith, ap}
+use Rattle.cc_session.specs.Sessions.{State, most_told}
+use Rattle.cc_session.proofs.HasRoom.{after_making, none-where_refused, HasRoom-reserved}
+use Rattle.cc_session.proofs.session.Session.new_plain.Goals as goal
+
+pub invariant_of-self-2 : goal.invariant_of-self-2
+invariant_of-self-2 c =
+    let h = c.self.inside.host in
+    let d = c.new_plain-made in
+    let q = c.in_ok-reserve.ensures in
+    let most = ap (λ (s : State). most_told s.host) c.self.view_is in
+    let room = HasRoom-reserved h c.self.inside.told c.reserve.new.self c.self.invariant.0 q.items q.broken
+    (omega (arith, q.ok c.self.invariant.0.whole, c.in_ok-room.ensures, c.most_told.ensures, most)) in
+    (after_making d.result h d.new.self c.reserve.new.self c.keeps.ensures room d.ensures.came (none-where_refused d.result h d.new.self d.ensures.same), c.self.invariant.1)
