@@ -71,7 +71,7 @@ fn tells_what_went(rt: HostRuntime) -> Result<(), Fail> {
     assert_eq!(rt; cc_settle(alloc, &mut c), OK);
     assert_eq!(rt; cc_is_there(alloc, &mut c, &x), GONE);
     assert_eq!(rt; cc_natives(alloc, &mut c, &mut count), OK);
-    assert_eq!(rt; count, 1);
+    assert_eq!(rt; count, 3);
     assert_eq!(rt; cc_next_told(alloc, &mut c, &mut told), OK);
     assert_eq!(rt; told.what, 1);
     assert_eq!(rt; told.value, 77);
