@@ -1,6 +1,8 @@
 -- THE QUEUE DRAINED: what is left to drain leads where all of it does, and each step takes a native out.
-use Rattle.std.proofs.Common.{◌≡◌, ℕ, suc, ◌-◌, ◌<◌, ◌≤◌, List, [], ◌∷◌, ◌++◌, length, refl, sym, ◌∙◌, ap, subst, inr, arith}
+use Rattle.std.proofs.Common.{◌≡◌, ℕ, suc, ◌-◌, ◌<◌, ◌≤◌, List, [], ◌∷◌, ◌++◌, map, drop, length, Option, Some, None, option_map, refl, sym, ◌∙◌, ap, subst, inr, arith}
+use Rattle.cc_lists.specs.Walks.{first_of}
 use Rattle.cc_names.specs.Names.{native}
+use Rattle.cc_names.specs.declared.number.NKey.{NKey}
 use Rattle.cc_model.specs.declared.item.Event.{Event}
 use Rattle.cc_model.specs.declared.item.Event.TheVariants.{Freed}
 use Rattle.cc_model.specs.Telling.{Telling, TellsEvents}
@@ -9,13 +11,19 @@ use Rattle.cc_model.proofs.Tellings.{Tells-nil, TellsEvents-trans}
 use Rattle.cc_model.proofs.Draining.{drain-done}
 use Rattle.cc_laws_heap.specs.Balance.{IsBalanced}
 use Rattle.cc_laws_heap.proofs.Face.{IsBalanced-free_front, free_front-fewer}
-use Rattle.cc_counted.specs.Counts.{heap_of, left_with}
-use Rattle.cc_counted.specs.Lists.{Lists, counts_of, draining_of, IsPlaced, LeavesCells}
+use Rattle.cc_counted.specs.Counts.{the_number, heap_of, left_with}
+use Rattle.cc_counted.specs.Lists.{Lists, keyed, counts_of, draining_of, IsPlaced, with_front, LeavesCells}
+use Rattle.cc_counted.specs.Stored.{Stored, with_queue}
 use Rattle.cc_counted.specs.Steps.{GivesUp, FreesFront, Drains, ComesTo}
 use Rattle.cc_counted.proofs.Balanced.{resting}
 use Rattle.cc_counted.proofs.Places.{length-natives}
 use Rattle.cc_counted.proofs.Freeing.{IsBalanced-events}
 use Rattle.cc_counted.proofs.Leaving.{LeavesCells-same, LeavesCells-then, LeavesKeys-cells, counts-left}
+
+-- a front that was taken out, back in its place
+abbrev pub put_back : Option NKey → Lists → Lists
+put_back None l = l
+put_back (Some key) l = with_front key.0 l
 
 -- some steps of a drain are done
 pub record DrainsSoFar (start now : Lists) (before after : Telling) : Type 0 where
@@ -82,6 +90,25 @@ module _ (start now next : Lists) (before middle after : Telling) (s : DrainsSoF
     where
       whole : suc (s.steps - 1) ≡ s.steps
       whole = omega (arith, fewer, s.enough)
+
+-- nothing waits, so there is nothing to drain
+pub Drains-none : (l : Lists) (before : Telling) → IsPlaced l → l.queue ≡ [] → Drains l l before before
+Drains-none l before p e = record {
+  events = [];
+  draining = sym (drain-done (length l.order) (draining_of l []) (ap (map (the_number (keyed l.cells))) e));
+  emptied = e;
+  placed = p;
+  leaves = LeavesCells-same l.cells;
+  told = Tells-nil before;
+}
+
+-- the front taken out after a step, or none where none is left, is back in its place
+pub put_back-taken : (s new : Stored) (front : Option NKey) → option_map (λ k. k.0) front ≡ first_of s.lists.queue → new ≡ with_queue (drop 1) s → put_back front new.lists ≡ s.lists
+put_back-taken s new front e f = grind arith
+
+-- and where none is left, nothing waits
+pub none-left : (s new : Stored) (front : Option NKey) → option_map (λ k. k.0) front ≡ first_of s.lists.queue → new ≡ with_queue (drop 1) s → front ≡ None → new.lists.queue ≡ []
+none-left s new front e f none = grind arith
 
 -- ONE REFERENCE GIVEN UP AND THE QUEUE DRAINED is the cascade.
 pub ComesTo-cascade : (old mid new : Lists) (before after : Telling) (k : ℕ) → IsPlaced old → old.queue ≡ [] → GivesUp old mid (k ∷ []) → Drains mid new before after →

@@ -121,6 +121,10 @@ suspected l key c = record l { cells = slice_set l.cells key (Some (with_one_les
 abbrev pub waiting : Lists → ℕ → Placed → Lists
 waiting l key c = record l { cells = slice_set l.cells key (Some (with_one_less c)); queue = l.queue ++ key ∷ []; marks = without_key key l.marks }
 
+-- the native at a key stands in front of those that wait
+abbrev pub with_front : ℕ → Lists → Lists
+with_front key l = record l { queue = key ∷ l.queue }
+
 -- the native at a key, which waited in front of the keys ks, taken out
 abbrev pub taken_out : Lists → ℕ → List ℕ → Lists
 taken_out l key ks = record l { cells = slice_set l.cells key None; order = without ◌==◌ key l.order; queue = ks }

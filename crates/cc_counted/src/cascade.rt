@@ -11,7 +11,7 @@ ghost use Rattle.cc_laws_heap.specs.Balance.{IsBalanced};
 ghost use Rattle.cc_counted.specs.declared.held.Held.{Held};
 ghost use Rattle.cc_counted.specs.Counts.{is_live, numbers_held, name_of, number_at, the_number, heap_of, with_heap, with_reflector, left_with, count_of, slots_of, references_of};
 ghost use Rattle.cc_counted.specs.Owning.{CallersOwn, Transfers, Makes};
-ghost use Rattle.cc_counted.specs.Lists.{Placed, cell_at, slots_placed, keyed, numbers_in, draining_of, IsPlaced};
+ghost use Rattle.cc_counted.specs.Lists.{Placed, cell_at, slots_placed, keyed, numbers_in, draining_of, IsPlaced, with_front};
 ghost use Rattle.cc_counted.specs.Stored.{TakesNoMemory};
 ghost use Rattle.cc_counted.specs.Resting.{shows, IsAtRest};
 ghost use Rattle.cc_counted.specs.Steps.{GivesUp, FreesFront, Drains, ComesTo, EmptiesSlot, EmptiesEach};
@@ -57,30 +57,30 @@ impl Population {
         }
     }
 
-    /// Frees the native in front of the queue: tells it, takes it out, and gives up what its slots held.
-    fn free_front<N: Notices>(&mut self, out: &mut N)
-        requires placed { IsPlaced self.old.lists }
-        requires waits { 0 < length self.old.lists.queue }
-        requires balanced { (owned : List ℕ) × IsBalanced owned (draining_of self.old.lists []) }
-        ensures frees { FreesFront self.old.lists self.new.lists (N.telling out.old) (N.telling out.new) }
+    /// Frees a native that stands in front of those that wait: tells it, takes it out, and gives up what its slots held.
+    fn free<N: Notices>(&mut self, key: NKey, out: &mut N)
+        requires placed { IsPlaced (with_front key.0 self.old.lists) }
+        requires balanced { (owned : List ℕ) × IsBalanced owned (draining_of (with_front key.0 self.old.lists) []) }
+        ensures frees { FreesFront (with_front key.0 self.old.lists) self.new.lists (N.telling out.old) (N.telling out.new) }
         ensures memory { TakesNoMemory self.old self.new }
     {
-        if let Some(key) = self.next_waiting() {
-            let cell = self.remove(key);
-            out.tell(Item::Event(Event::Freed(Name::Native(cell.number))));
-            self.give_up_each(cell.slots.as_slice());
-        }
+        let cell = self.remove(key);
+        out.tell(Item::Event(Event::Freed(Name::Native(cell.number))));
+        self.give_up_each(cell.slots.as_slice());
     }
 
-    /// Frees the natives that wait until none does.
-    fn drain<N: Notices>(&mut self, out: &mut N)
-        requires placed { IsPlaced self.old.lists }
-        requires balanced { (owned : List ℕ) × IsBalanced owned (draining_of self.old.lists []) }
-        ensures drains { Drains self.old.lists self.new.lists (N.telling out.old) (N.telling out.new) }
+    /// Frees a native that stands in front of those that wait, and then those that wait, until none does.
+    // it needs no place in the queue, in which most natives would be alone
+    fn free_from<N: Notices>(&mut self, key: NKey, out: &mut N)
+        requires placed { IsPlaced (with_front key.0 self.old.lists) }
+        requires balanced { (owned : List ℕ) × IsBalanced owned (draining_of (with_front key.0 self.old.lists) []) }
+        ensures drains { Drains (with_front key.0 self.old.lists) self.new.lists (N.telling out.old) (N.telling out.new) }
         ensures memory { TakesNoMemory self.old self.new }
     {
-        while self.some_wait() {
-            self.free_front(out);
+        let mut front = Some(key);
+        while let Some(key) = front {
+            self.free(key, out);
+            front = self.next_waiting();
         }
     }
 
@@ -93,8 +93,11 @@ impl Population {
             (cascade (heap_of (shows self.old)) (the_number (keyed self.old.lists.cells) key.0)) }
         ensures memory { TakesNoMemory self.old self.new }
     {
-        self.give_up(key);
-        self.drain(out);
+        if self.lower(key) > 0 {
+            return self.suspect(key);
+        }
+        self.forget(key);
+        self.free_from(key, out);
     }
 
     /// One more reference to the native at a key, which then stands in the buffer without the mark.

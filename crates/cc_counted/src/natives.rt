@@ -215,14 +215,6 @@ impl Natives {
         self.queue.push_back(&mut self.nodes, key.0);
     }
 
-    /// Whether a native waits.
-    pub(crate) fn some_wait(&self) -> bool
-        ensures some { result ≡ true → 0 < length self.now.lists.queue }
-        ensures none { result ≡ false → self.now.lists.queue ≡ [] }
-    {
-        self.queue.first(&self.nodes).is_some()
-    }
-
     /// The native that has waited longest waits no longer.
     pub(crate) fn next_waiting(&mut self) -> Option<NKey>
         ensures first { option_map (λ k. k.0) result ≡ first_of self.old.lists.queue }

@@ -126,6 +126,9 @@ impl Population {
         requires { IsSome (cell_at self.old.lists.cells key.0) }
         ensures { self.new ≡ with_cell key.0 (with_flag on) self.old }
     {
+        if self.natives.at(key).preserved == on {
+            return;
+        }
         let before = has_preserved_reflector(&self.natives, key);
         self.natives.preserve(key, on);
         let after = has_preserved_reflector(&self.natives, key);
@@ -212,14 +215,6 @@ impl Population {
         ensures { self.new ≡ with_queue (λ keys. keys ++ key.0 ∷ []) self.old }
     {
         self.natives.wait(key);
-    }
-
-    /// Whether a native waits.
-    pub(crate) fn some_wait(&self) -> bool
-        ensures some { result ≡ true → 0 < length self.now.lists.queue }
-        ensures none { result ≡ false → self.now.lists.queue ≡ [] }
-    {
-        self.natives.some_wait()
     }
 
     /// The native that has waited longest waits no longer.
