@@ -68,6 +68,7 @@ impl<R> Chain<R> {
     }
 
     /// Takes out a key, which must be in the list. It looks at the key's neighbours alone.
+    #[inline(always)]
     pub fn unlink_at<T: LinkStore<R>>(&mut self, store: &mut T, key: u32)
         requires chain { IsSomeChain (T.links store.old) self.old }
         requires linked { IsTrue (is_linked (T.links store.old) key) }

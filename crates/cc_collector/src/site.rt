@@ -104,7 +104,8 @@ impl Site {
     }
 
     /// Abandons the collection that runs, which is told.
-    // a unit has no place for a build, so that the many that only step pay for none
+    // a unit has no place for a build, and what ends or begins one stands apart: the many units that only step pay for none
+    #[inline(never)]
     fn abandon_running<N: Notices>(&mut self, heaps: &mut Heaps, out: &mut N)
         requires running { is_some self.old.running ≡ true }
         requires built { IfSome self.old.running (λ b. IsBuilt b heaps.old) }
@@ -124,6 +125,7 @@ impl Site {
     }
 
     /// Ends the collection that runs, all of whose nodes are traversed or gone. Its room stays.
+    #[inline(never)]
     fn end_running<N: Notices>(&mut self, heaps: &mut Heaps, out: &mut N)
         requires running { is_some self.old.running ≡ true }
         requires runs { RunsIn heaps.old self.old.running }
@@ -139,6 +141,7 @@ impl Site {
     }
 
     /// Begins a collection in the room that waits, or in a new one where none does.
+    #[inline(never)]
     fn begin<N: Notices>(&mut self, heaps: &mut Heaps, out: &mut N) -> Result<Ended, NoMemory>
         requires runs { RunsIn heaps.old None }
         requires idle { self.old.running ≡ None }

@@ -43,6 +43,7 @@ impl Population {
     }
 
     /// Gives up the references in these slots, in rising order. A script object has none to give up.
+    #[inline(always)]
     fn give_up_each(&mut self, slots: &[Slot])
         requires placed { IsPlaced self.old.lists }
         requires live { (x : Option Held) → Among x slots.now → is_live (keyed self.old.lists.cells) x ≡ true }
@@ -70,7 +71,9 @@ impl Population {
     }
 
     /// Frees a native that stands in front of those that wait, and then those that wait, until none does.
-    // it needs no place in the queue, in which most natives would be alone
+    // it needs no place in the queue, in which most natives would be alone; this stands apart, so that a release that deletes
+    // nothing pays for none of it
+    #[inline(never)]
     fn free_from<N: Notices>(&mut self, key: NKey, out: &mut N)
         requires placed { IsPlaced (with_front key.0 self.old.lists) }
         requires balanced { (owned : List ℕ) × IsBalanced owned (draining_of (with_front key.0 self.old.lists) []) }

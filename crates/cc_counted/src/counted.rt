@@ -83,6 +83,7 @@ impl Counted {
     }
 
     /// Takes one more reference, which the caller owns. The native stands in the buffer without the purple mark.
+    #[inline(always)]
     pub fn add_ref(&mut self, key: NKey)
         requires live { IsSome (number_at self.old key.0) }
         requires below { count_of self.old key.0 < 4294967295 }

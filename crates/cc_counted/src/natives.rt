@@ -170,6 +170,7 @@ impl Natives {
     }
 
     /// Takes out a native that neither waits nor is in the buffer.
+    #[inline(always)]
     pub(crate) fn remove(&mut self, key: NKey) -> Cell
         requires live { IsSome (cell_at self.old.lists.cells key.0) }
         requires order { Among key.0 self.old.lists.order }
@@ -216,6 +217,7 @@ impl Natives {
     }
 
     /// The native that has waited longest waits no longer.
+    #[inline(always)]
     pub(crate) fn next_waiting(&mut self) -> Option<NKey>
         ensures first { option_map (λ k. k.0) result ≡ first_of self.old.lists.queue }
         ensures lists { self.new ≡ with_queue (drop 1) self.old }
@@ -245,6 +247,7 @@ impl Natives {
     }
 
     /// The native at a key is not in the buffer.
+    #[inline(always)]
     pub(crate) fn forget(&mut self, key: NKey)
         requires { IsSome (cell_at self.old.lists.cells key.0) }
         ensures { self.new ≡ with_marks (without_key key.0) self.old }

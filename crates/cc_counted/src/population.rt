@@ -245,6 +245,7 @@ impl Population {
     }
 
     /// The native at a key is not in the buffer.
+    #[inline(always)]
     pub(crate) fn forget(&mut self, key: NKey)
         requires { IsSome (cell_at self.old.lists.cells key.0) }
         ensures { self.new ≡ with_marks (without_key key.0) self.old }
@@ -312,6 +313,7 @@ fn has_preserved_reflector(natives: &Natives, key: NKey) -> bool
 }
 
 /// Counts the script objects that the native at a key refers to, where one place of it referred to one before, or does after.
+#[inline(always)]
 fn recount(natives: &Natives, holders: &mut Holders, key: NKey, before: bool, after: bool)
     requires live { IsSome (cell_at natives.now.lists.cells key.0) }
     requires room { (c : Placed) → cell_at natives.now.lists.cells key.0 ≡ Some c → count_of (entry_at holders.old c.number) < 65535 }

@@ -49,6 +49,7 @@ impl Holders {
 
     /// Nothing is known of the number from now on. Its page is given back where nothing is known of any number of it then.
     /// Takes no memory.
+    #[inline(always)]
     pub fn remove(&mut self, number: u32)
         ensures entries { (n : ℕ) → entry_at self.new n ≡ (if number == n then Unknown else entry_at self.old n) }
         ensures given_back { IsTrue (is_known (entry_at self.old number)) → IsGivenBack (page_in self.new.groups.items number) }

@@ -64,6 +64,7 @@ impl Buffer {
     }
 
     /// The key is not in the buffer; the others stay in order.
+    #[inline(always)]
     pub fn forget<T: MarkStore>(&mut self, store: &mut T, key: NKey)
         requires buffer { IsSomeBuffer (T.links store.old) (T.marks store.old) self.old }
         requires live { IsTrue (is_live (T.links store.old) key.0) }

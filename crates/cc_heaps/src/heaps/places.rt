@@ -37,6 +37,7 @@ impl Heaps {
     /// What an object refers to at place `i`, counted from 0: what each slot holds, in their order, and behind the last
     /// slot the reflector of a native, where it is preserved, or the delegate of a proxy, and behind that the native of a
     /// reflector.
+    #[inline(always)]
     pub fn place(&self, object: Held, i: SlotNo) -> Option<Held>
         requires order { (owned : List ℕ) × IsInOrder owned self.now }
         requires there { IsThere self.now (Some object) }
