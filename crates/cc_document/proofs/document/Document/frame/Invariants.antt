@@ -1,4 +1,0 @@
-use Rattle.cc_document.proofs.document.Document.frame.Given as goal
-
-abbrev pub ghosts-slice : goal.ghosts-slice
-ghosts-slice g a = record { name = a.blank.name; parts = a.blank.parts }

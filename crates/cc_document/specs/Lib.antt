@@ -1,5 +1,0 @@
-pub mod Words
-pub mod Changes
-pub mod Told
-pub mod Shown
-pub mod Stops
