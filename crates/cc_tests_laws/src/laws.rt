@@ -28,6 +28,7 @@ use cc_made::{
 };
 use cc_model::{bounds_suffice, reached_is_least, telling_composes};
 use cc_names::{names_are_in_order, names_are_told_apart};
+use cc_script::raised_is_least;
 use cc_verdict::{
     answers_are_heard, answers_are_heard_line_by_line, answers_are_recited_line_by_line,
     exact_answers_are_recited, lines_tell_items_apart, lines_that_ask_nothing_have_no_answer,
@@ -74,6 +75,7 @@ fn laws_of_the_heap_can_be_called() {
     commands_stand();
     paths_are_right();
     paths_agree();
+    raised_is_least();
 }
 
 #[test]

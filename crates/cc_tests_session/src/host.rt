@@ -1,7 +1,9 @@
 //! A host in use: what no session and no program tries.
+use cc_collector::running_collections_go_on;
+use cc_counted::Held;
 use cc_host::{Host, Object, Queue, Stop, calls_make_it_miss_nothing};
 use cc_model::{Event, Item, Notebook, Notices};
-use cc_names::{Limits, Name, NativeNo};
+use cc_names::{Limits, Name, NativeNo, SKey};
 use std::alloc::Global;
 use std::test::Fail;
 
@@ -37,6 +39,7 @@ fn stores_at_a_root(alloc: Global) -> bool {
 
 #[test]
 fn store_at_a_root_makes_no_suspect(rt: HostRuntime) {
+    running_collections_go_on();
     calls_make_it_miss_nothing();
     assert!(rt; stores_at_a_root(rt.alloc()));
 }
@@ -63,9 +66,12 @@ fn what_is_told_is_fetched_once(rt: HostRuntime) {
 }
 
 #[test]
-fn stop_is_printed(rt: HostRuntime) -> Result<(), Fail> {
-    let stop = Stop::Foreign;
-    let text = format!(in rt.alloc(); "{stop}; {stop:?}")?;
-    assert_eq!(rt; text.as_str(), "an object is of another host; Foreign");
+fn stop_and_what_is_held_are_printed(rt: HostRuntime) -> Result<(), Fail> {
+    let (stop, held) = (Stop::Foreign, Held::Script(SKey(4)));
+    let text = format!(in rt.alloc(); "{stop}; {stop:?} {held:?}")?;
+    assert_eq!(rt;
+        text.as_str(),
+        "an object is of another host; Foreign Script(SKey(4))"
+    );
     Ok(())
 }

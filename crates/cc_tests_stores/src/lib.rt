@@ -22,3 +22,5 @@ mod pool;
 mod purple;
 #[cfg(test)]
 mod steps;
+#[cfg(test)]
+mod weakmaps;

@@ -47,16 +47,15 @@ fn natives_come_before_scripts_before_reflectors(rt: HostRuntime) {
     }
 }
 
+/// What limits were made of.
+fn parts(limits: Limits) -> (u32, u32, u32) {
+    (limits.natives(), limits.scripts(), limits.bytes())
+}
+
 #[test]
 fn limits_give_back_what_they_were_made_of(rt: HostRuntime) {
-    let limits = Limits::new(Limits::MOST, 0, 12);
-    assert_eq!(rt; limits.natives(), 1000000);
-    assert_eq!(rt; limits.scripts(), 0);
-    assert_eq!(rt; limits.bytes(), 12);
-    let widest = Limits::widest();
-    assert_eq!(rt; widest.natives(), 1000000);
-    assert_eq!(rt; widest.scripts(), 1000000);
-    assert_eq!(rt; widest.bytes(), 4294967295);
+    assert_eq!(rt; parts(Limits::new(Limits::MOST, 0, 12)), (1000000, 0, 12));
+    assert_eq!(rt; parts(Limits::widest()), (1000000, 1000000, 4294967295));
 }
 
 #[test]
