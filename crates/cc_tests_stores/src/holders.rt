@@ -54,44 +54,40 @@ fn raise_each(holders: &mut Holders, numbers: &[u32]) {
     }
 }
 
-#[test]
-fn numbers_are_known(rt: HostRuntime) {
-    let mut holders = Holders::new(rt.alloc());
-    assert_eq!(rt; fill(&mut holders), Ok(()));
-    let wanted = [
-        (0, Some(1)),
-        (31, Some(2)),
-        (32, Some(3)),
-        (u32::MAX, Some(7)),
-        (33, None),
-    ];
-    assert!(rt; are_known(&holders, &wanted) & are_marked(&holders, &[]));
+/// Whether numbers are known once they were added, and none is marked.
+fn knows(holders: &mut Holders) -> bool {
+    let filled = fill(holders).is_ok();
+    let known = are_known(
+        holders,
+        &[(0, Some(1)), (32, Some(3)), (u32::MAX, Some(7)), (33, None)],
+    );
+    filled & known & are_marked(holders, &[])
 }
 
-#[test]
-fn marked_numbers_come_in_order(rt: HostRuntime) {
-    let mut holders = Holders::new(rt.alloc());
-    assert_eq!(rt; fill(&mut holders), Ok(()));
-    raise_each(&mut holders, &[u32::MAX, 32, 31, 4096, 4095, 33]);
-    let wanted = [(31, 2), (32, 3), (4095, 4), (4096, 5), (u32::MAX, 7)];
-    assert!(rt; are_marked(&holders, &wanted));
+/// Whether marked numbers come in order.
+fn marks(holders: &mut Holders) -> bool {
+    raise_each(holders, &[u32::MAX, 32, 31, 4096, 4095, 33]);
+    are_marked(
+        holders,
+        &[(31, 2), (32, 3), (4095, 4), (4096, 5), (u32::MAX, 7)],
+    )
 }
 
-/// The mark of one number goes, and then another number, which is added again.
+/// Whether the mark of one number goes, and another number, which is added again.
 fn changes(holders: &mut Holders) -> bool {
     holders.lower(31);
     holders.remove(32);
     let gone = are_known(holders, &[(31, Some(2)), (32, None)]);
     let added = holders.add(32, 8).is_ok();
     holders.set_key(32, 9);
-    gone & added
+    gone & added & are_known(holders, &[(32, Some(9))])
 }
 
 #[test]
-fn marks_and_numbers_go(rt: HostRuntime) {
+fn numbers_are_known_and_marked_ones_come_in_order(rt: HostRuntime) {
     let mut holders = Holders::new(rt.alloc());
-    assert_eq!(rt; fill(&mut holders), Ok(()));
-    raise_each(&mut holders, &[31, 32, 4096]);
+    assert!(rt; knows(&mut holders));
+    assert!(rt; marks(&mut holders));
     assert!(rt; changes(&mut holders));
-    assert!(rt; are_known(&holders, &[(32, Some(9))]) & are_marked(&holders, &[(4096, 5)]));
+    assert!(rt; are_marked(&holders, &[(4095, 4), (4096, 5), (u32::MAX, 7)]));
 }

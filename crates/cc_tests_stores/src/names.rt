@@ -1,34 +1,17 @@
-//! Tests of the texts, the order and the limits.
+//! The order of names, limits, and want of memory.
 
-use cc_names::{Limits, LineBuf, Name, NativeNo, NoMemory, ScriptNo, write_name};
+use cc_names::{Limits, Name, NativeNo, NoMemory, ScriptNo};
 use std::alloc::AllocError;
-use std::cmp::Ordering;
 
-fn text_of(name: Name) -> LineBuf {
-    let mut line = LineBuf::new();
-    line.push(b"= ");
-    write_name(&name, &mut line);
-    line
-}
-
-#[test]
-fn names_have_their_texts(rt: HostRuntime) {
-    assert_eq!(rt;
-        text_of(Name::Native(NativeNo(1))).bytes(),
-        b"= #1".as_slice()
-    );
-    assert_eq!(rt;
-        text_of(Name::Script(ScriptNo(120))).bytes(),
-        b"= @120".as_slice()
-    );
-    assert_eq!(rt;
-        text_of(Name::Reflector(NativeNo(1000000))).bytes(),
-        b"= ~1000000".as_slice()
-    );
-    assert_eq!(rt;
-        text_of(Name::Native(NativeNo(4294967295))).bytes(),
-        b"= #4294967295".as_slice()
-    );
+/// Whether names are compared as their places are.
+fn are_in_order(names: &[Name]) -> bool {
+    let mut same = true;
+    for (i, x) in names.iter().enumerate() {
+        for (j, y) in names.iter().enumerate() {
+            same &= x.cmp(y) == i.cmp(&j);
+        }
+    }
+    same
 }
 
 #[test]
@@ -40,25 +23,22 @@ fn natives_come_before_scripts_before_reflectors(rt: HostRuntime) {
         Name::Script(ScriptNo(3)),
         Name::Reflector(NativeNo(1)),
     ];
-    for (i, x) in in_order.iter().enumerate() {
-        for (j, y) in in_order.iter().enumerate() {
-            assert_eq!(rt; x.cmp(y), i.cmp(&j), "at {i} and {j}");
-        }
-    }
+    assert!(rt; are_in_order(&in_order));
 }
 
-/// What limits were made of.
-fn parts(limits: Limits) -> (u32, u32, u32) {
-    (limits.natives(), limits.scripts(), limits.bytes())
+/// Whether these are what limits were made of.
+fn are(limits: Limits, natives: u32, scripts: u32, bytes: u32) -> bool {
+    (limits.natives() == natives) & (limits.scripts() == scripts) & (limits.bytes() == bytes)
 }
 
 #[test]
 fn limits_give_back_what_they_were_made_of(rt: HostRuntime) {
-    assert_eq!(rt; parts(Limits::new(Limits::MOST, 0, 12)), (1000000, 0, 12));
-    assert_eq!(rt; parts(Limits::widest()), (1000000, 1000000, 4294967295));
+    let narrow = Limits::new(Limits::MOST, 0, 12);
+    assert!(rt; are(narrow, 1000000, 0, 12));
+    assert!(rt; are(Limits::widest(), 1000000, 1000000, 4294967295));
 }
 
 #[test]
 fn want_of_memory_is_passed_on(rt: HostRuntime) {
-    assert_eq!(rt; NoMemory::from(AllocError), NoMemory);
+    assert!(rt; NoMemory::from(AllocError) == NoMemory);
 }

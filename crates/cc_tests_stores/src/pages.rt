@@ -23,20 +23,18 @@ fn are_all(pages: &Pages, wanted: &[(u32, u32)]) -> bool {
     same & pages.next_after(last).is_none()
 }
 
-#[test]
-fn values_are_known_by_number_and_come_in_order(rt: HostRuntime) {
-    let mut pages = Pages::new(rt.alloc());
-    assert_eq!(rt; fill(&mut pages), Ok(()));
-    assert!(rt; are_all(&pages, &[(0, 1), (127, 2), (128, 3), (u32::MAX, 4)]));
-    assert_eq!(rt; pages.get(129), None);
+/// Whether the numbers are known and come in order, and go.
+fn values_come_and_go(pages: &mut Pages) -> bool {
+    let filled = fill(pages).is_ok();
+    let all = are_all(pages, &[(0, 1), (127, 2), (128, 3), (u32::MAX, 4)]);
+    pages.remove(127);
+    let rest = are_all(pages, &[(0, 1), (128, 3), (u32::MAX, 4)]);
+    pages.clear();
+    filled & all & rest & are_all(pages, &[])
 }
 
 #[test]
-fn values_go(rt: HostRuntime) {
+fn values_are_known_by_number_and_come_in_order(rt: HostRuntime) {
     let mut pages = Pages::new(rt.alloc());
-    assert_eq!(rt; fill(&mut pages), Ok(()));
-    pages.remove(127);
-    assert!(rt; are_all(&pages, &[(0, 1), (128, 3), (u32::MAX, 4)]));
-    pages.clear();
-    assert!(rt; are_all(&pages, &[]));
+    assert!(rt; values_come_and_go(&mut pages));
 }
