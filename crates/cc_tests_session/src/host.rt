@@ -1,32 +1,16 @@
 //! A host in use: what no session and no program tries.
 use cc_collector::running_collections_go_on;
 use cc_counted::Held;
-use cc_host::{Host, Object, Queue, Stop, calls_make_it_miss_nothing};
+use cc_host::{Host, Queue, Stop, calls_make_it_miss_nothing};
 use cc_model::{Event, Item, Notebook, Notices};
 use cc_names::{Limits, Name, NativeNo, SKey};
 use std::alloc::Global;
 use std::test::Fail;
 
-// A slot of what root 0 holds is written through the root, which makes it no suspect; as another object it is one.
-fn writes_at_a_root(host: &mut Host, x: Object, y: Object, out: &mut Notebook) -> bool {
-    let written = host.store_at_root(0, 0, Some(y), out).is_ok() & !host.has_suspects();
-    written & host.store(x, 0, Some(y), out).is_ok() & host.has_suspects()
-}
-
-// Nothing is written at a root that holds nothing, nor beyond the slots.
-fn stops_at_a_root(host: &mut Host, out: &mut Notebook) -> bool {
-    (host.store_at_root(1, 0, None, out) == Err(Stop::Gone))
-        & (host.store_at_root(0, 2, None, out) == Err(Stop::Index))
-}
-
+// A slot of what root 0 holds is written through the root, which makes it no suspect.
 fn uses_a_root(host: &mut Host, out: &mut Notebook) -> bool {
-    match (host.new_native(0, 1, out), host.new_plain(0, 0)) {
-        (Ok(x), Ok(y)) => {
-            let idle = host.collect(out).is_ok();
-            idle & writes_at_a_root(host, x, y, out) & stops_at_a_root(host, out)
-        }
-        _ => false,
-    }
+    let made = host.new_native(0, 1, out).is_ok() & host.collect(out).is_ok();
+    made & host.store_at_root(0, 0, None, out).is_ok() & !host.has_suspects()
 }
 
 fn stores_at_a_root(alloc: Global) -> bool {
