@@ -17,7 +17,5 @@ mod roots;
 mod showing;
 mod slots;
 mod status;
-#[cfg(test)]
-mod tests;
 mod told;
 mod values;

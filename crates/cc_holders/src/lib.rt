@@ -14,6 +14,3 @@ mod table;
 
 pub use entry::Entry;
 pub use holders::Holders;
-
-#[cfg(test)]
-mod tests;

@@ -21,6 +21,3 @@ pub use ends::{ends_keep_counts, ends_stand, unlinking_keeps_counts};
 pub use paths::{paths_agree, paths_are_right};
 pub use rounds::{marking_is_least, rounds_keep_counts, rounds_stand};
 pub use stands::{commands_stand, graphs_are_well_made, reached_alike, replies_agree};
-
-#[cfg(test)]
-mod tests;

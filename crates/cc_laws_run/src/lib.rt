@@ -41,6 +41,3 @@ pub use runs::{runs_after_gc_miss_nothing, runs_forget_nothing, runs_go_on};
 pub use spent::unlinked_are_gone_after_gc;
 pub use turns::commands_are_lawful;
 pub use units::collections_take_a_unit_a_node;
-
-#[cfg(test)]
-mod tests;

@@ -22,6 +22,3 @@ pub use suspected::{
 };
 pub use units::{begin_is_fresh, units_keep_fresh};
 pub use white::{black_is_least, white_is_unreached};
-
-#[cfg(test)]
-mod tests;

@@ -14,6 +14,3 @@ mod closing;
 mod listed;
 
 pub use listed::Listed;
-
-#[cfg(test)]
-mod tests;

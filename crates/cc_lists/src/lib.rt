@@ -29,15 +29,3 @@ pub fn rarer_is_shorter<A, B, Y>()
     ensures less { (c : Counting A B Y) (xs : List A) (ys : List B) (w : Y) → IsNowhereMoreOften c xs ys →
         first_has c xs w < second_has c ys w → first_count c xs < second_count c ys }
 {}
-
-#[cfg(test)]
-mod tests {
-    use super::*;
-
-    #[test]
-    fn laws_can_be_called() {
-        membership_is_decided::<u8>();
-        closure_is_least::<u8>();
-        rarer_is_shorter::<u8, u16, u32>();
-    }
-}

@@ -17,6 +17,3 @@ pub use laws::{
     made_scripts_leave_nothing,
 };
 pub use made_source::MadeSource;
-
-#[cfg(test)]
-mod tests;

@@ -37,6 +37,3 @@ pub fn names_are_told_apart()
 pub fn names_are_in_order()
     ensures { (x y : Name) → ⟦<Name as Ord>⟧.cmp x y ≡ order_of_names x y }
 {}
-
-#[cfg(test)]
-mod tests;

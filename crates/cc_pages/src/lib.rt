@@ -12,6 +12,3 @@ mod page;
 mod pages;
 
 pub use pages::Pages;
-
-#[cfg(test)]
-mod tests;

@@ -4,6 +4,3 @@
 mod steps;
 
 pub use steps::Steps;
-
-#[cfg(test)]
-mod tests;

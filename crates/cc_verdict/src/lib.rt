@@ -18,6 +18,3 @@ pub use answers::{
 };
 pub use hearing::{answers_are_heard_line_by_line, answers_are_recited_line_by_line};
 pub use lines::{lines_tell_items_apart, transcripts_are_lines};
-
-#[cfg(test)]
-mod tests;

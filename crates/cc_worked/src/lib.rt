@@ -35,6 +35,3 @@ pub use wrong::{
     wrong_abandonments_are_refused, wrong_censuses_are_refused, wrong_events_are_refused,
     wrong_paths_are_refused, wrong_replies_are_refused,
 };
-
-#[cfg(test)]
-mod tests;

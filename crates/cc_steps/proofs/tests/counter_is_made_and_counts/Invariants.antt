@@ -1,4 +1,0 @@
-use Rattle.cc_steps.proofs.tests.counter_is_made_and_counts.Given as goal
-
-abbrev pub ghosts-count : goal.ghosts-count
-ghosts-count a = record { name = a.blank.name; parts = a.blank.parts }

@@ -1,9 +1,0 @@
-use Rattle.cc_heaps.proofs.FewCounts.{none-owned}
-use Rattle.cc_collector.proofs.GoingOn.{RunsIn-kept}
-use Rattle.cc_tests_collection.proofs.collector.empty.Goals as goal
-
-pub set_native_reg-requires-clause-order : goal.set_native_reg-requires-clause-order
-set_native_reg-requires-clause-order c = none-owned c.args.heaps.now c.requires.order
-
-pub returns : goal.returns
-returns c = RunsIn-kept c.args.heaps.now c.set_native_reg.new.self c.args.collector.now c.requires c.set_native_reg.ensures.kept

@@ -1,5 +1,0 @@
-use Rattle.std.proofs.Common.{[]}
-use Rattle.cc_tests_heaps.proofs.heaps.enter.Goals as goal
-
-pub returns-in-Some-Some : goal.returns-in-Some-Some
-returns-in-Some-Some c = record { order = c.set_entry.ensures.kept.order [] c.requires.order }

@@ -1,8 +1,0 @@
-//! Tests of a host's calls: what no clause says of them, and that a caller has nothing to prove.
-//!
-//! Each public call of `cc_host` is made where it can go well: no clause says that memory is there. A crate with tests is
-//! proved twice, so they stand here and not in that crate.
-#![tactic(auto)]
-
-#[cfg(test)]
-mod host;
