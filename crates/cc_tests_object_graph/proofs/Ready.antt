@@ -7,17 +7,16 @@ use Rattle.cc_names.specs.declared.name.Name.{Name}
 use Rattle.cc_names.specs.declared.name.Name.TheVariants as name
 use Rattle.cc_names.specs.declared.register.Reg.{Reg}
 use Rattle.cc_names.specs.declared.register.Reg.TheVariants.{N, S}
-use Rattle.cc_names.specs.Allowance.{Allowance}
 use Rattle.cc_names.specs.Names.{is_script}
 use Rattle.cc_model.specs.declared.command.Command.{Command}
 use Rattle.cc_model.specs.declared.command.Command.TheVariants.{Nothing, Version2, Native, Script, WeakMap, Proxy, CopyNative, CopyScript, Drop, Set, Get, Move, Put, Take, Wrap, Unwrap, Preserve, SetEntry, GetEntry, Expose, Why, Slice, Collect, Gc, Census}
 use Rattle.cc_model.specs.declared.item.Refusal.{Refusal}
 use Rattle.cc_model.specs.Checks.{refusal_of, slot_at}
 use Rattle.cc_model.specs.Slots.{Slots, contents}
-use Rattle.cc_model.specs.Graph.{Graph, GraphNative, GraphScript, changed, empty_graph, objects_of, preserve, register, set_entry, set_native, set_register, set_script, set_slot, source, step, unless_refused, with_proxy, wrapped}
+use Rattle.cc_model.specs.Graph.{Graph, GraphNative, GraphScript, changed, objects_of, preserve, register, set_entry, set_native, set_register, set_script, set_slot, source, step, unless_refused, with_proxy, wrapped}
 use Rattle.cc_model.specs.Ranges.{in_range}
 use Rattle.cc_model.specs.WellMade.{was_made}
-use Rattle.cc_laws_heap.proofs.GraphCommands.{empty-well, step-well}
+use Rattle.cc_laws_heap.proofs.GraphCommands.{step-well}
 use Rattle.cc_object_graph.specs.Ready.{IsReady}
 
 -- THE LIMITS STAY
@@ -100,9 +99,6 @@ limits-step g c = go (refusal_of (objects_of g) c)
     go (Some r) = refl
 
 -- A GRAPH STAYS READY
-
-pub ready-empty : (limits : Allowance) → limits.natives ≤ 1000000 → limits.scripts ≤ 1000000 → IsReady (empty_graph limits)
-ready-empty limits n s = record { well_made = empty-well limits; natives = n; scripts = s }
 
 ready-step : (g : Graph) (c : Command) → IsTrue (in_range c) → IsReady g → IsReady (step g c)
 ready-step g c r h = record {
