@@ -1,6 +1,5 @@
 -- HOW A CHECK ENDS: from lines that were given and tried to what is told of the bytes taken.
-use Rattle.std.proofs.Common.{◌≡◌, ℕ, ◌+◌, ◌-◌, ◌<◌, ◌≤◌, Bool, true, false, List, [], ◌++◌, length, length-append, append-nil, Option, Some, None, Result, Err, refl, sym, ap, ◌∙◌, subst, arith}
-use Rattle.std.specs.Io.KnownBytes.{Consumes, IsAtEnd}
+use Rattle.std.proofs.Common.{◌≡◌, ℕ, ◌+◌, ◌-◌, ◌≤◌, Bool, true, false, List, [], length, Option, Result, Err, refl, sym, ap, ◌∙◌, subst, arith}
 use Rattle.cc_names.specs.Allowance.{Allowance}
 use Rattle.cc_model.specs.Lines.{lines_of}
 use Rattle.cc_outside.specs.Reads.{Reads}
@@ -106,35 +105,3 @@ module _ (limits : Allowance) (script : List ℕ) (left now : Option (List ℕ))
       by_end : (b : Bool) → q.ended ≡ b → r₁.answered + length script ≤ r₀.answered + limits.bytes + 1
       by_end false going = omega (arith, (read.going going).answered, (within limits script left first).most, bytes)
       by_end true ended = omega (arith, (read.at_end ended).answered, (within limits script left first).at_end ended, bytes)
-
--- WHERE THE BYTES OF THE SOURCE ARE KNOWN
-taken-length : (bytes : List ℕ) (left now : Option (List ℕ)) (given : List ℕ) → left ≡ Some bytes → Consumes left now given → length given ≤ length bytes
-taken-length bytes None now given e c = let bad : None ≡ Some bytes = e in cc
-taken-length bytes (Some xs) None given e c = absurd c
-taken-length bytes (Some xs) (Some ys) given e c =
-    let same : xs ≡ bytes = cc in
-    omega (arith, ap (λ (zs : List ℕ). length zs) same, ap (λ (zs : List ℕ). length zs) c, length-append given ys)
-
-whole-bytes : (bytes : List ℕ) (left now : Option (List ℕ)) (given : List ℕ) → left ≡ Some bytes → Consumes left now given → IsAtEnd now → given ≡ bytes
-whole-bytes bytes None now given e c end = let bad : None ≡ Some bytes = e in cc
-whole-bytes bytes (Some xs) None given e c end = absurd c
-whole-bytes bytes (Some xs) (Some ys) given e c end =
-    let same : xs ≡ bytes = cc in
-    sym (append-nil given) ∙ (sym (ap (λ (zs : List ℕ). given ++ zs) end) ∙ (sym c ∙ same))
-
-pub known-lawful : (limits : Allowance) (script : List ℕ) (e : Ends) (bytes : List ℕ) → e.left ≡ Some bytes → IsFoundLawful limits script e → IsLawfulTranscript limits script bytes
-known-lawful limits script e bytes known f =
-    subst (IsLawfulTranscript limits script) (whole-bytes bytes e.left e.left_now f.given known f.whole.consumed f.whole.at_end) f.lawful
-
-pub known-unlawful : (limits : Allowance) (script : List ℕ) (e : Ends) (bytes : List ℕ) → e.left ≡ Some bytes → IsFoundUnlawful limits script e → ¬ (IsLawfulTranscript limits script bytes)
-known-unlawful limits script e bytes known f =
-    subst (λ (bs : List ℕ). ¬ (IsLawfulTranscript limits script bs)) (whole-bytes bytes e.left e.left_now f.given known f.whole.consumed f.whole.at_end) f.unlawful
-
--- bytes within the limit are not over it, and bytes over it are not read to their end
-pub known-within : (limits : Allowance) (script : List ℕ) (e : Ends) (bytes : List ℕ) → e.left ≡ Some bytes → IsOverLimit limits script e → limits.bytes < length script + length bytes
-known-within limits script e bytes known o = omega (arith, o.above, taken-length bytes e.left e.left_now o.given known o.consumed)
-
-pub known-over : (limits : Allowance) (script : List ℕ) (e : Ends) (bytes given : List ℕ) → e.left ≡ Some bytes → ReadsWhole limits.bytes script e given →
-    length script + length bytes ≤ limits.bytes
-known-over limits script e bytes given known w =
-    omega (arith, w.within, ap (λ (zs : List ℕ). length zs) (whole-bytes bytes e.left e.left_now given known w.consumed w.at_end))

@@ -88,11 +88,3 @@ tries-judged t u heard was bytes goes stops = λ limits script lines line is tri
       (λ l. goes e l rest) is bytes (tried.counted was (line ∷ rest) b) ((tried.lawful was (line ∷ rest)).0 b);
   unlawful = λ e rest a. stops e line rest is ((tried.lawful was (line ∷ rest)).0 (joined limits script lines line rest a));
 }
-
--- a line behind one that may not come
-pub tries-over : (t : Trial) (heard : Heard) → t.is_lawful ≡ false → Tries t t heard
-tries-over t heard was = λ limits script lines line is tried. record {
-  lawful = λ e. absurd (let both : true ≡ false = sym e ∙ was in cc);
-  counted = λ e. absurd (let both : true ≡ false = sym e ∙ was in cc);
-  unlawful = λ e rest a. tried.unlawful was (line ∷ rest) (joined limits script lines line rest a);
-}

@@ -15,42 +15,42 @@ pub use Rattle.cc_laws_heap.proofs.Drain.{drained-balanced, free_front-fewer}
 pub use Rattle.cc_laws_heap.proofs.Emptying.{let_go-frees}
 pub use Rattle.cc_laws_heap.proofs.EndsStand.{take_away-stands}
 pub use Rattle.cc_laws_heap.proofs.EntriesKept.{with_entry-sound, without_entry-sound}
-pub use Rattle.cc_laws_heap.proofs.EntryLists.{entries_of-set, found-among, is_entry_of-alike, is_entry_of-own, is_entry_of-parts, with_entry-cases}
+pub use Rattle.cc_laws_heap.proofs.EntryLists.{entries_of-set, is_entry_of-parts, with_entry-cases}
 pub use Rattle.cc_laws_heap.proofs.Following.{Follows, shape_in-reflector, stands-follows}
 pub use Rattle.cc_laws_heap.proofs.FreeFront.{IsBalanced-free_front, IsBalanced-removed, without_native-give_up_each}
 pub use Rattle.cc_laws_heap.proofs.Freed.{TakesOut}
 pub use Rattle.cc_laws_heap.proofs.FreedNames.{FreesNames-left}
 pub use Rattle.cc_laws_heap.proofs.GiveUp.{IsBalanced-give_up_each, living-one, lower_native}
-pub use Rattle.cc_laws_heap.proofs.GraphCommands.{KeepsReflector-slot, empty-well, proxy-well, step-well}
+pub use Rattle.cc_laws_heap.proofs.GraphCommands.{KeepsReflector-slot, proxy-well, step-well}
 pub use Rattle.cc_laws_heap.proofs.GraphLeads.{graph-within}
-pub use Rattle.cc_laws_heap.proofs.GraphParts.{Grows, IsMadeEntry-grows, IsWellMade-entries, is_some-found, with_natives, with_scripts}
+pub use Rattle.cc_laws_heap.proofs.GraphParts.{Grows, IsMadeEntry-grows, IsWellMade-entries, is_some-found, with_natives}
 pub use Rattle.cc_laws_heap.proofs.GraphReads.{Made, MadeNative, MadeScript, native_register-made}
 pub use Rattle.cc_laws_heap.proofs.GraphWrites.{Grows-change_native, IsWellMade-change_native, IsWellMade-native_register, IsWellMade-script_register, IsWellMade-script_slot, KeepsNative-preserved, KeepsNative-reflector_slot, KeepsNative-slot, KeepsNative-wrapped, set_native-is, set_script-is}
 pub use Rattle.cc_laws_heap.proofs.HeapShapes.{shape_at-native, shape_at-script}
 pub use Rattle.cc_laws_heap.proofs.Holding.{IsIn-natives, IsIn-no_native, has_reflector-none, has_reflector-there, native_register-there, slot_at-there}
-pub use Rattle.cc_laws_heap.proofs.Holds.{OfSome, OfSome-then, contents-at, contents-get}
+pub use Rattle.cc_laws_heap.proofs.Holds.{OfSome, OfSome-then, contents-get}
 pub use Rattle.cc_laws_heap.proofs.HoldsTheSame.{HoldsTheSame-add_ref, HoldsTheSame-take_up, names_there-alike, native_names-alike, raise_native, slots_in-alike}
 pub use Rattle.cc_laws_heap.proofs.Kept.{IsBuffer, IsWellFormed-buffer, with_buffer, with_entries}
 pub use Rattle.cc_laws_heap.proofs.Leaving.{IsOf, Leave, Leave-add_ref, Leave-before, Leave-frees, Leave-not_freed, done-leaves, is_left, numbers_there, numbers_there-named}
-pub use Rattle.cc_laws_heap.proofs.LedReached.{led-reached_in, reached-led, reached_in-led}
+pub use Rattle.cc_laws_heap.proofs.LedReached.{reached-led}
 pub use Rattle.cc_laws_heap.proofs.MadeAlike.{Follows-made, IsMade}
 pub use Rattle.cc_laws_heap.proofs.MadeSound.{with_native-sound, with_script-sound}
 pub use Rattle.cc_laws_heap.proofs.Making.{IsRising-push, contents-empty, contents-empty_none, places-with_mark, with_mark-cases}
-pub use Rattle.cc_laws_heap.proofs.MarkedKept.{black-place, black-register, marked-black, marked-delegate, marked-native_slot, marked-not_unmarked, marked-other, marked-place, marked-slot, marked-value}
+pub use Rattle.cc_laws_heap.proofs.MarkedKept.{black-place, black-register, marked-black, marked-delegate, marked-native_slot, marked-not_unmarked, marked-other, marked-place, marked-value}
 pub use Rattle.cc_laws_heap.proofs.MarkedWellFormed.{is_spared, is_spared_entry}
 pub use Rattle.cc_laws_heap.proofs.Marking.{HasColours-marked, as_marked, colour_of}
 pub use Rattle.cc_laws_heap.proofs.MarkingKeeps.{IsSound-marked, round-frees, round-sound, script_names-marked}
-pub use Rattle.cc_laws_heap.proofs.Moving.{slot-there, taken_out-length, taken_out-names, taken_out-sound, taken_out-there, touched-names, touched-natives, touched-registers, touched-sound}
+pub use Rattle.cc_laws_heap.proofs.Moving.{slot-there, taken_out-length, taken_out-names, taken_out-sound, taken_out-there, touched-natives, touched-registers}
 pub use Rattle.cc_laws_heap.proofs.NameLists.{is_not_among-apart, is_not_among-from, natives_in-natives, same_name-sym}
 pub use Rattle.cc_laws_heap.proofs.NativeCommands.{IsIn-made, IsIn-take_up, hold_native-sound, make_native-sound, names_there-take_up}
 pub use Rattle.cc_laws_heap.proofs.Natives.{HasDistinctNumbers-change, IsRising-distinct, IsWellFormed-distinct, KeepsNumber, changed_at, changed_at-number, named-found, named-member, native_at-change_other, native_at-change_same, native_at-member, native_at-named, native_at-number, native_at-there, native_names-change}
 pub use Rattle.cc_laws_heap.proofs.NativesKeepScripts.{SameScripts, SameScripts-coloured, SameScripts-take_up, hold_native-scripts, let_go-scripts, make_native-scripts}
-pub use Rattle.cc_laws_heap.proofs.Numbered.{change_numbered, numbered-change, numbered-change_other, numbered-next, numbered-nothing, numbered-push, numbered-push_cases, numbered-push_old, numbered-push_other}
+pub use Rattle.cc_laws_heap.proofs.Numbered.{change_numbered, numbered-change, numbered-change_other, numbered-next, numbered-push, numbered-push_old}
 pub use Rattle.cc_laws_heap.proofs.Owning.{IsCounted-add_ref, IsIn, add_ref-sound, let_go-sound, take_up-sound, times-numbers_of}
-pub use Rattle.cc_laws_heap.proofs.ReachedAlike.{ArePart-among, in-reached, reached-in, reached-there}
-pub use Rattle.cc_laws_heap.proofs.ReachedReads.{native_of-reached, register-reached, script-behind, slot_at-reached}
+pub use Rattle.cc_laws_heap.proofs.ReachedAlike.{in-reached, reached-in, reached-there}
+pub use Rattle.cc_laws_heap.proofs.ReachedReads.{native_of-reached, script-behind}
 pub use Rattle.cc_laws_heap.proofs.References.{native-there, refs_to-removed, refs_to-slot, refs_to-there, times-among, times-append, times-cons, times-cons_other, times-cons_same, times-natives_in, times-some}
-pub use Rattle.cc_laws_heap.proofs.RepliesAlike.{AreAlike, delegate-stands, objects-stand, refusal_of-alike, reply_if_taken-alike, slot_at-alike}
+pub use Rattle.cc_laws_heap.proofs.RepliesAlike.{delegate-stands, objects-stand, refusal_of-alike, reply_if_taken-alike}
 pub use Rattle.cc_laws_heap.proofs.Rising.{IsRising-filter, IsRising-once}
 pub use Rattle.cc_laws_heap.proofs.RoundParts.{round-entries, round-natives, round-scripts, value_in-filter}
 pub use Rattle.cc_laws_heap.proofs.RoundsStand.{collect_scripts-stands, round-stands, spared-from}
@@ -67,6 +67,5 @@ pub use Rattle.cc_laws_heap.proofs.Taken.{IsTaken, IsTaken-from}
 pub use Rattle.cc_laws_heap.proofs.TakingAway.{IsSound-permuted, IsTaking, others-kept, take_away-leaves, take_away-sound, take_away-takes, taken-emptied, unroot_each-taking}
 pub use Rattle.cc_laws_heap.proofs.Unlinking.{Unlinks, unlink-keeps}
 pub use Rattle.cc_laws_heap.proofs.Unseen.{Leaves-exposed, Leaves-let_go, Leaves-take_up, Leaves-touched}
-pub use Rattle.cc_laws_heap.proofs.WalksAlike.{derivation-alike, why-alike}
 pub use Rattle.cc_laws_heap.proofs.Wrapping.{Follows-wrapped}
 pub use Rattle.cc_laws_heap.proofs.Writes.{contents-at as contents-at-of_writes, native_register-sound, native_slot-sound, script_register-sound, set_preserved-sound}

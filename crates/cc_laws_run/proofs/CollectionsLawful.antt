@@ -1,6 +1,6 @@
 -- `slice`, `collect` and `gc` are answered lawfully and leave a machine that runs.
 use Rattle.std.specs.Prelude.{IsTrue}
-use Rattle.std.proofs.Common.{arith, ◌≡◌, ℕ, Bool, true, false, not, ◌&&◌, List, Some, None, refl, sym, subst, inl}
+use Rattle.std.proofs.Common.{arith, ◌≡◌, ℕ, true, false, not, ◌&&◌, List, Some, None, refl, sym, subst, inl}
 use Rattle.std.proofs.lemmas.Bool.{false≢true, le-leb}
 use Rattle.cc_names.specs.declared.name.Name.{Name}
 use Rattle.cc_model.specs.declared.command.Command.{Command}
@@ -16,7 +16,7 @@ use Rattle.cc_model.specs.End.{Progress}
 use Rattle.cc_model.specs.Collecting.{Machine, UnitsDone, slice, collect, gc, reply_to_units}
 use Rattle.cc_model.specs.Listed.{after_events}
 use Rattle.cc_model.specs.Run.{do_ask}
-use Rattle.cc_model.specs.Lawful.{State, AnswersAsk, next, AnswersCommand, RepliesWith, EachMayBe, graph_after, may_want_memory, is_refused, is_abandoning, is_gc, runs_units, runs, runs_allowed, unlinked_numbers, has_none, ends_with_one, has_abandonment_in_place, begins_with_at_most_one}
+use Rattle.cc_model.specs.Lawful.{State, AnswersAsk, next, AnswersCommand, RepliesWith, EachMayBe, graph_after, may_want_memory, is_refused, is_abandoning, is_gc, runs_units, runs, runs_allowed, unlinked_numbers, has_abandonment_in_place}
 use Rattle.cc_laws_run.specs.Running.{IsRunning}
 use Rattle.cc_laws_run.proofs.UnitLawful.{RunsOn}
 use Rattle.cc_laws_run.proofs.UnitsLawful.{IsPlaced, IsLawfulRow, slice-lawful, collect-lawful}
@@ -50,13 +50,6 @@ slice-moves s u = record { units = refl; no_gc = refl; may = refl; taken = refl;
 collect-moves : (s : State) → MovesUnits s Collect
 unfolding refusal_of reply_if_taken changed
 collect-moves s = record { units = refl; no_gc = refl; may = refl; taken = refl; reply = refl; left = refl }
-
--- whether an abandonment is in place, by the tests of the command and the reply
-abbrev in_place : Bool → Bool → Bool → List Event → Bool
-in_place units without gc es = elim (units && without) [
-  | true ↦ ends_with_one es
-  | false ↦ elim gc [ true ↦ begins_with_at_most_one es | false ↦ has_none es ]
-]
 
 module _ (s : State) (c : Command) (t : MovesUnits s c) where
   -- the graph stays as it is

@@ -16,7 +16,7 @@ pub use Rattle.cc_laws_snapshot.proofs.KindsWritten.{flag_written-fresh}
 pub use Rattle.cc_laws_snapshot.proofs.LoyalSuspected.{loyal-suspected}
 pub use Rattle.cc_laws_snapshot.proofs.Marked.{with_mark-keeps}
 pub use Rattle.cc_laws_snapshot.proofs.MovesGentle.{taken_out-gentle, taken_out-taken}
-pub use Rattle.cc_laws_snapshot.proofs.MovesLoyal.{moved-loyal, taken_out-reached}
+pub use Rattle.cc_laws_snapshot.proofs.MovesLoyal.{moved-loyal}
 pub use Rattle.cc_laws_snapshot.proofs.NamePairs.{native-no_script}
 pub use Rattle.cc_laws_snapshot.proofs.NamesAndEdges.{edges-alike}
 pub use Rattle.cc_laws_snapshot.proofs.NativeParts.{AreTaken, native_slot-gentle, take_up-gentle, take_up-taken}

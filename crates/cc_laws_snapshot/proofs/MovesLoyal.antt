@@ -19,7 +19,7 @@ use Rattle.cc_laws_heap.specs.Balance.{HasDistinctNumbers}
 use Rattle.cc_laws_heap.proofs.Natives.{IsWellFormed-distinct, native_names-change}
 use Rattle.cc_laws_heap.proofs.Writes.{contents-at, native_slot-sound}
 use Rattle.cc_laws_heap.proofs.NativeCommands.{HasSlot, HasSlot-from, put_in_slot-written}
-use Rattle.cc_laws_heap.proofs.Moving.{touched-natives, touched-registers, touched-sound, slot-there, taken_out-sound, taken_out-there, HasSlot-taken_out, move_slot-is}
+use Rattle.cc_laws_heap.proofs.Moving.{touched-natives, touched-sound, slot-there, taken_out-sound, taken_out-there, HasSlot-taken_out, move_slot-is}
 use Rattle.cc_laws_snapshot.specs.Losing.{IsLoyal}
 use Rattle.cc_laws_snapshot.proofs.SlotsWritten.{slot_written-kept}
 use Rattle.cc_laws_snapshot.proofs.ReachedStays.{slot_written-reached}
@@ -60,10 +60,6 @@ TakesUp-emptied h g m j a x distinct found is t = record {
   purple = t.purple;
   buffer = t.buffer;
 }
-
--- what a native register holds is reached after something was taken out
-pub taken_out-reached : (h : Heap) (m j : ℕ) (x : Option Name) (y : Name) → Among y (contents h.native_registers) → ReachedIn (view (taken_out h (Some (native m)) j x)) y
-taken_out-reached h m j x y i = register-reached (taken_out h (Some (native m)) j x) y (subst (λ s. Among y (contents s)) (sym (touched-registers h x)) i)
 
 -- what a slot of native m holds comes into a slot of native k, which is reached without it
 pub moved-loyal : {owned : List ℕ} (h : Heap) (m j : ℕ) (a : HeapNative) (x : Option Name) (k i : ℕ) (b : HeapNative) → native_at h m ≡ Some a → j < length a.slots →

@@ -1,5 +1,5 @@
 -- The list of nodes: the first untraversed one gets a state, and new ones go last.
-use Rattle.std.proofs.Common.{arith, ◌≡◌, ◌≤◌, Bool, true, false, List, [], ◌∷◌, ◌++◌, map, Option, Some, refl, sym, ◌∙◌, ap, subst, inl, inr, ◌⊎◌, ⊎_elim, count_by}
+use Rattle.std.proofs.Common.{arith, ◌≡◌, ◌≤◌, Bool, true, false, List, [], ◌∷◌, ◌++◌, map, Some, refl, sym, ◌∙◌, ap, subst, inl, inr, ◌⊎◌, ⊎_elim, count_by}
 use Rattle.std.specs.List.{list_all}
 use Rattle.std.proofs.lemmas.Bool.{and_parts, and_from, true≢false, false≢true}
 use Rattle.std.proofs.lemmas.List.{map_push}
@@ -34,16 +34,6 @@ names-distinct : (ns : List Node) → ((x : Name) → count_by (same_name x) (na
 names-distinct ns d x = subst (λ c. c ≤ 1) (count_by-map (same_name x) (λ (n : Node). n.name) ns) (d x)
 
 -- The first untraversed node gets a state
-
--- the name of the first, by whether it stands in front
-abbrev first_by : Node → List Node → Bool → Option Name
-first_by n ns true = Some n.name
-first_by n ns false = first_untraversed ns
-
--- the nodes once it has the state, by the same
-abbrev nodes_by : NodeState → Node → List Node → Bool → List Node
-nodes_by state n ns true = record n { state = state } ∷ ns
-nodes_by state n ns false = n ∷ with_state state ns
 
 -- its name is that of an untraversed node
 pub first-untraversed : (ns : List Node) (x : Name) → first_untraversed ns ≡ Some x → Among (node x untraversed) ns

@@ -1,7 +1,6 @@
 -- What stands at places: where a name was taken out, where one moved, and where there is none from some place on.
 use Rattle.std.specs.Prelude.{not}
 use Rattle.std.proofs.Common.{◌≡◌, ℕ, zero, suc, ◌+◌, ◌<◌, ◌≤◌, true, false, [], ◌∷◌, ◌++◌, length, set, take, Option, Some, None, refl, sym, ◌∙◌, ap, inl, inr, ⊎_elim, arith, option_to_list}
-use Rattle.std.proofs.lemmas.List.{length_push}
 use Rattle.cc_names.specs.declared.name.Name.{Name}
 use Rattle.cc_names.specs.Names.{same_name}
 use Rattle.cc_names.proofs.NameTests.{same_name-exact, same_name-true}
@@ -9,7 +8,6 @@ use Rattle.cc_lists.specs.Members.{Among, without}
 use Rattle.cc_lists.proofs.CountsOf.{false-left}
 use Rattle.cc_lists.proofs.Filtering.{filter-each}
 use Rattle.cc_model.specs.Slots.{Slots, contents}
-use Rattle.cc_model.proofs.Places.{contents-last}
 use Rattle.cc_listed.specs.Found.{slot_at}
 
 -- What stands at a place is among the contents, and what is among them stands at a place
@@ -100,10 +98,6 @@ slot-front zero (y ∷ xs) none (suc k) = slot-front zero xs (λ j m l. none (su
 slot-front (suc n) [] none k = refl
 slot-front (suc n) (y ∷ xs) none zero = refl
 slot-front (suc n) (y ∷ xs) none (suc k) = slot-front n xs (λ j m l. none (suc j) (omega arith) (omega arith)) k
-
--- what a name adds to the contents of those before it
-pub length-more : (xs : Slots) (x : Name) → length (contents (xs ++ Some x ∷ [])) ≡ length (contents xs) + 1
-length-more xs x = ap length (contents-last xs (Some x)) ∙ length_push (contents xs) x
 
 -- Slots that were written
 

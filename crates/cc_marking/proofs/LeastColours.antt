@@ -53,12 +53,9 @@ module _ (objects : List Object) (entries : List KeyedEntry) (blacks grays : Lis
   marked-colour : (o : Object) → Among o (marked_from blacks grays entries objects) → o.colour ≡ colour_by black marked o.key
   marked-colour = search (each-map)
 
-  -- whether a key is black, and whether it is marked
+  -- whether a key is black
   abbrev is_black : ℕ → Bool
   is_black key = has ◌==◌ black key
-
-  abbrev is_marked : ℕ → Bool
-  is_marked key = has ◌==◌ marked key
 
   -- what no mark from the first roots comes to is not black
   unmarked-not_black : (key : ℕ) → ¬ (IsMarkedFrom objects entries blacks key) → is_black key ≡ false

@@ -4,7 +4,7 @@ use Rattle.std.proofs.Common.{◌≡◌, ℕ, zero, suc, ◌+◌, ◌<◌, ◌�
 use Rattle.cc_names.specs.declared.kind.Colour.{Colour}
 use Rattle.cc_script.specs.Objects.{AreWhole, is_there, places_at}
 use Rattle.cc_script.specs.Marking.{Marking, raise_each, to_do}
-use Rattle.cc_script.specs.Underway.{Underway, marks_of, started, with_first_looked_into}
+use Rattle.cc_script.specs.Underway.{Underway, marks_of, started}
 use Rattle.cc_script.proofs.Raising.{raise_key-spends, raise_each-spends}
 use Rattle.cc_weakmaps.specs.Entries.{KeyedEntry}
 use Rattle.cc_weakmaps.specs.Index.{has_object, IsPlaceOf, place_below}
@@ -84,10 +84,6 @@ module _ (to : Colour) (es : List KeyedEntry) (object : ℕ) (u : Underway) (bef
   pub looking-done : (v : Underway) (now : ℕ) (place : Option ℕ) → place ≡ None → IsLooking to es object u before v now place →
       (marks_of v ≡ with_all_given to es object (length es) (marks_of u)) × (now ≡ before + count_by (has_object object) es)
   looking-done v now place is h = grind (arith, values-none, count-none)
-
--- WHERE NONE WAITS nothing is looked into
-pub none-looked : (to : Colour) (m : Marking) → m.waiting ≡ [] → with_first_looked_into to m ≡ m
-none-looked to m none = ap (λ (ks : List ℕ). elim ks [ [] ↦ m | key ∷ rest ↦ raise_each to (places_at m.objects key) (record { objects = m.objects; waiting = rest }) ]) none
 
 -- WHAT IS LEFT TO BE DONE
 

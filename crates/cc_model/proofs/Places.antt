@@ -1,5 +1,5 @@
 -- THE EDGES OF AN OBJECT, place by place: those of its slots, and behind them those of its further places.
-use Rattle.std.proofs.Common.{arith, ◌≡◌, ℕ, ◌+◌, Bool, true, false, List, [], ◌∷◌, ◌++◌, map, count_by, Option, Some, None, refl, sym, ◌∙◌, ap, subst, inl, inr, ◌⊎◌, ⊎_elim}
+use Rattle.std.proofs.Common.{arith, ◌≡◌, ◌+◌, Bool, true, false, List, [], ◌∷◌, ◌++◌, map, count_by, Option, Some, None, refl, sym, ◌∙◌, ap, subst, inl, inr, ◌⊎◌, ⊎_elim}
 use Rattle.std.specs.Option.{option_to_list}
 use Rattle.std.proofs.lemmas.Grind.{flat_map-append}
 use Rattle.std.proofs.lemmas.List.{map-append}
@@ -13,7 +13,7 @@ use Rattle.cc_names.specs.Places.{where_set}
 use Rattle.cc_model.specs.Slots.{Slots, contents, from_to}
 use Rattle.cc_model.specs.Checks.{native_of}
 use Rattle.cc_model.specs.Heap.{HeapNative, HeapScript}
-use Rattle.cc_model.specs.Places.{places_of_numbered, places_of_native, places_of_script, script_places_of}
+use Rattle.cc_model.specs.Places.{places_of_native, places_of_script, script_places_of}
 use Rattle.cc_model.specs.View.{slot_edges, native_edges, script_slot_edges, script_edges}
 
 -- where edges lead to
@@ -36,15 +36,6 @@ targets-script o = targets-from o.name (contents (places_of_script o))
 -- what slots hold, and what one more place holds
 pub contents-last : (slots : Slots) (last : Option Name) → contents (slots ++ last ∷ []) ≡ contents slots ++ option_to_list last
 contents-last slots last = grind (arith, flat_map-append)
-
--- a preserved reflector is what the places of its native hold
-pub preserved-held : (k : ℕ) (slots : Slots) (preserved : Bool) → preserved ≡ true → Among (reflector k) (contents (places_of_numbered k slots preserved))
-preserved-held k slots preserved e = subst (Among (reflector k)) (sym (contents-last slots (where_set preserved (Some (reflector k)))))
-    (Among-right (reflector k) (contents slots) (option_to_list (where_set preserved (Some (reflector k)))) (by_flag preserved e))
-  where
-    by_flag : (b : Bool) → b ≡ true → Among (reflector k) (option_to_list (where_set b (Some (reflector k))))
-    by_flag true f = inl refl
-    by_flag false f = absurd (cc)
 
 -- the edges of slots, and that of one more place
 slot_edges-last : (x : Name) (slots : Slots) (last : Option Name) → slot_edges x (slots ++ last ∷ []) ≡ slot_edges x slots ++ map (from_to x) (option_to_list last)
@@ -86,14 +77,6 @@ script_edges-split o = slot_edges-last o.name (script_places_of o) (native_of (S
 pub script_edges-count : (p : Name × Name → Bool) (o : HeapScript) →
     count_by p (script_edges o) ≡ count_by p (script_slot_edges o) + count_by p (behind_edges o.name)
 script_edges-count p o = ap (count_by p) (script_edges-split o) ∙ count_by-append p (script_slot_edges o) (behind_edges o.name)
-
--- the edge of a proxy to its delegate
-abbrev pub delegate_edges : HeapScript → List (Name × Name)
-delegate_edges o = map (from_to o.name) (option_to_list o.delegate)
-
--- THE FORMER are those of its slots, and that of a proxy to its delegate.
-pub script_slot_edges-split : (o : HeapScript) → script_slot_edges o ≡ slot_edges o.name o.slots ++ delegate_edges o
-script_slot_edges-split o = slot_edges-last o.name o.slots o.delegate
 
 -- The places over which script and marking go, one by one: what a slot holds stands in one,
 pub slot-place : (o : HeapScript) (x : Name) → Among x (contents o.slots) → Among x (contents (script_places_of o))

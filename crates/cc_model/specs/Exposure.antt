@@ -1,7 +1,7 @@
 -- What script touches becomes black, with all that it reaches over script slots.
 use Rattle.std.specs.Prelude.{List, [], ◌∷◌, map, flat_map, Option, Some, None, if◌then◌else◌}
 use Rattle.cc_lists.specs.Members.{has}
-use Rattle.cc_lists.specs.Least.{Rule, Least, system, closure}
+use Rattle.cc_lists.specs.Least.{Rule, system, closure}
 use Rattle.cc_names.specs.declared.name.Name.{Name}
 use Rattle.cc_names.specs.declared.kind.Colour.TheVariants.{Black}
 use Rattle.cc_names.specs.Names.{same_name}
@@ -15,10 +15,7 @@ slots_of_scripts h = flat_map script_slot_edges h.scripts
 abbrev pub exposure_rules : Heap → Name → List (Rule Name)
 exposure_rules h x = system (x ∷ []) (slots_of_scripts h) []
 
--- what an exposure of x makes black: a set by rules, and the same as a list
-abbrev pub IsExposedBy : Heap → Name → Name → Type 0
-IsExposedBy h x = Least (exposure_rules h x)
-
+-- what an exposure of x makes black
 abbrev pub exposed_names : Heap → Name → List Name
 exposed_names h x = closure same_name (exposure_rules h x)
 

@@ -1,13 +1,11 @@
 -- Keys tell script objects apart.
-use Rattle.std.proofs.Common.{◌≡◌, ℕ, ◌+◌, ◌*◌, ◌/◌, ◌%◌, ◌<◌, ◌==◌, Bool, true, false, not, refl, sym, ap, ◌∙◌, arith}
+use Rattle.std.proofs.Common.{◌≡◌, ℕ, ◌+◌, ◌*◌, ◌/◌, ◌%◌, ◌==◌, Bool, true, false, not, refl, sym, ap, ◌∙◌, arith}
 use Rattle.std.specs.Prelude.{if◌then◌else◌}
-use Rattle.std.proofs.lemmas.Bool.{true≢false, eqb-true, eq-eqb}
+use Rattle.std.proofs.lemmas.Bool.{eqb-true, eq-eqb}
 use Rattle.std.proofs.lemmas.Bool.Decides.{nat_tests, same_from_decides}
-use Rattle.cc_names.specs.declared.name.Name.{Name}
-use Rattle.cc_names.specs.Names.{object, reflector, same_name, is_reflector, is_native, number_of}
+use Rattle.cc_names.specs.Names.{object, reflector, same_name, is_reflector, number_of}
 use Rattle.cc_names.proofs.NameTests.{same_name-exact}
 use Rattle.cc_object_graph.specs.Keys.{object_of}
-use Rattle.cc_object_graph.specs.Keyed.{HasKey}
 
 by_kind : (b : Bool) (i : ℕ) → number_of (if b then object i else reflector i) ≡ i
 by_kind true i = refl
@@ -17,18 +15,11 @@ kind_by : (b : Bool) (i : ℕ) → is_reflector (if b then object i else reflect
 kind_by true i = refl
 kind_by false i = refl
 
-script_by : (b : Bool) (i : ℕ) → is_native (if b then object i else reflector i) ≡ false
-script_by true i = refl
-script_by false i = refl
-
 number_of-object_of : (k : ℕ) → number_of (object_of k) ≡ k / 2
 number_of-object_of k = by_kind (k % 2 == 0) (k / 2)
 
 is_reflector-object_of : (k : ℕ) → is_reflector (object_of k) ≡ not (k % 2 == 0)
 is_reflector-object_of k = kind_by (k % 2 == 0) (k / 2)
-
-is_native-object_of : (k : ℕ) → is_native (object_of k) ≡ false
-is_native-object_of k = script_by (k % 2 == 0) (k / 2)
 
 halves : (i j : ℕ) → i / 2 ≡ j / 2 → not (i % 2 == 0) ≡ not (j % 2 == 0) → i ≡ j
 halves i j h p = grind (arith, nat_tests)
@@ -42,16 +33,6 @@ pub same_name-object_of : (i j : ℕ) → same_name (object_of i) (object_of j) 
 same_name-object_of i j = same_from_decides (same_name (object_of i) (object_of j)) (i == j)
     (λ t. object_of-injective i j ((same_name-exact (object_of i) (object_of j)).0 t), λ e. (same_name-exact (object_of i) (object_of j)).1 (ap object_of e))
     (eqb-true i j, eq-eqb i j)
-
--- a native has no key
-pub native_has_no_key : (x : Name) → is_native x ≡ true → ¬ (HasKey x)
-native_has_no_key x n h = true≢false (sym n ∙ ap is_native (sym h.2) ∙ is_native-object_of h.0)
-
--- a number too great has none
-pub great_has_no_key : (x : Name) → 2147483647 < number_of x → ¬ (HasKey x)
-great_has_no_key x n h =
-    let half : h.0 / 2 ≡ number_of x = sym (number_of-object_of h.0) ∙ ap number_of h.2 in
-    omega (arith, h.1, half, n)
 
 -- the objects of even keys and of odd ones
 pub object_of-even : (k : ℕ) → object_of (2 * k) ≡ object k

@@ -1,8 +1,7 @@
 -- THE KEYS OF SCRIPT OBJECTS by which the entries of weak maps are kept: an even one is that of a plain object, a weak map or a
 -- proxy, an odd one that of a reflector.
-use Rattle.std.specs.Prelude.{ℕ, ◌+◌, ◌*◌, ◌/◌, ◌%◌, ◌==◌, List, map, option_map, if◌then◌else◌}
+use Rattle.std.specs.Prelude.{ℕ, ◌/◌, ◌%◌, ◌==◌, List, map, option_map, if◌then◌else◌}
 use Rattle.cc_names.specs.declared.name.Name.{Name}
-use Rattle.cc_names.specs.declared.name.Name.TheVariants as name
 use Rattle.cc_names.specs.Names.{object, reflector}
 use Rattle.cc_model.specs.Entries.{Entry, entry}
 use Rattle.cc_weakmaps.specs.Entries.{KeyedEntry}
@@ -10,12 +9,6 @@ use Rattle.cc_weakmaps.specs.Entries.{KeyedEntry}
 -- the object of a key
 abbrev pub object_of : ℕ → Name
 object_of k = if k % 2 == 0 then object (k / 2) else reflector (k / 2)
-
--- the key of a script object; of a native, which is none, this does not matter
-abbrev pub key_of : Name → ℕ
-key_of (name.Native k) = 2 * k.0
-key_of (name.Script k) = 2 * k.0
-key_of (name.Reflector k) = 2 * k.0 + 1
 
 -- entries by the names of their objects
 abbrev pub named_entry : KeyedEntry → Entry

@@ -1,50 +1,11 @@
 -- A WALK over the numbers that have a value.
 use Rattle.std.specs.Prelude.{Vec, slice_get}
-use Rattle.std.proofs.Common.{◌≡◌, ℕ, ◌+◌, ◌*◌, ◌/◌, ◌%◌, ◌<◌, ◌≤◌, List, Option, None, option_and_then, ◌∙◌, ap, ⊎_elim, arith}
-use Rattle.std.proofs.lemmas.Bool.{cases_lt}
+use Rattle.std.proofs.Common.{◌≡◌, ℕ, ◌+◌, ◌*◌, ◌/◌, ◌%◌, ◌<◌, ◌≤◌, List, Option, None, option_and_then, ◌∙◌, ap, arith}
 use Rattle.cc_pages.specs.Values.{IsFirst, in_group, in_groups, within_group}
 
 -- no number from one up to another has a value
 abbrev pub AreNone : (ℕ → Option ℕ) → ℕ → ℕ → Type 0
 AreNone value_of start end = (n : ℕ) → start ≤ n → n < end → value_of n ≡ None
-
--- In a group, by its pages and their places
-
-module _ (value_at : ℕ → ℕ → Option ℕ) (start page place : ℕ) (none : AreNone (λ m. value_at (m / 128) (m % 128)) start (page * 128 + place)) where
-  at-place : (m : ℕ) → m / 128 ≡ page → value_at (m / 128) (m % 128) ≡ value_at page (m % 128)
-  at-place m e = ap (λ k. value_at k (m % 128)) e
-
-  -- the first value in a page is the first from the number where the walk began,
-  pub first-at : (i value : ℕ) → start ≤ page * 128 + place → i < 128 → IsFirst (value_at page) place i value →
-      IsFirst (λ m. value_at (m / 128) (m % 128)) start (page * 128 + i) value
-  first-at i value from small h =
-      let quotient : (page * 128 + i) / 128 ≡ page = omega (arith, small) in
-      let rest : (page * 128 + i) % 128 ≡ i = omega (arith, small) in
-      record {
-        from = omega (arith, from, h.from);
-        there = at-place (page * 128 + i) quotient ∙ (ap (value_at page) rest ∙ h.there);
-        before = λ j after until. ⊎_elim
-            (λ early. none j after early)
-            (λ late.
-            let here : j / 128 ≡ page = omega (arith, late, until, small) in
-            let low : place ≤ j % 128 = omega (arith, late, here) in
-            let high : j % 128 < i = omega (arith, until, here) in
-            at-place j here ∙ h.before (j % 128) low high)
-            (cases_lt j (page * 128 + place));
-      }
-
-  -- and where the page has none, there is none up to the next page
-  pub none-at : ((i : ℕ) → place ≤ i → i < 128 → value_at page i ≡ None) → AreNone (λ m. value_at (m / 128) (m % 128)) start ((page + 1) * 128 + 0)
-  none-at absent j after until = ⊎_elim
-      (λ early. none j after early)
-      (λ late.
-      let here : j / 128 ≡ page = omega (arith, late, until) in
-      let low : place ≤ j % 128 = omega (arith, late, here) in
-      let high : j % 128 < 128 = omega arith in
-      at-place j here ∙ absent (j % 128) low high)
-      (cases_lt j (page * 128 + place))
-
--- In the groups, by the group and the number within it
 
 pub in-its-group : {X Y : Type 0} (gs : List (Vec (Vec (Option ℕ) X) Y)) (n : ℕ) → in_groups gs n ≡ within_group gs (n / 8192) (n % 8192)
 in-its-group {X = X} {Y = Y} gs n =

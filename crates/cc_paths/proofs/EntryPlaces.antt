@@ -2,7 +2,7 @@
 use Rattle.std.specs.Prelude.{slice_get, IsTrue, IfSome}
 use Rattle.std.proofs.Common.{◌≡◌, ℕ, zero, suc, ◌+◌, ◌==◌, ◌<◌, ◌≤◌, Bool, true, false, not, ◌||◌, List, [], ◌∷◌, ◌++◌, length, take, Option, Some, None, option_map, refl, sym, ◌∙◌, ap, subst, append_assoc, inl, inr, ⊎_elim, arith}
 use Rattle.std.proofs.lemmas.Bool.{eqb-true, eq-eqb, false≢true}
-use Rattle.std.proofs.lemmas.List.{append-nil, take_more, length-map}
+use Rattle.std.proofs.lemmas.List.{take_more, length-map}
 use Rattle.std.proofs.lemmas.Option.{get_or_from_slice_get, slice_get-map, slice_get_cases}
 use Rattle.cc_lists.specs.Members.{Among}
 use Rattle.cc_lists.proofs.Members.{Among-left, Among-right, Among-map_cases}
@@ -217,12 +217,6 @@ collecting-turn es key places more before next i is pushed e there h = record {
       ∙ (append_assoc places (i ∷ []) (falling es key i) ∙ (ap (λ o. places ++ falling_from es key o) (sym is) ∙ h.whole));
   there = there;
 }
-
-pub collecting-place : (es : List KeyedEntry) (key : ℕ) (places : List ℕ) (before : Option ℕ) (i : ℕ) → before ≡ Some i → IsCollecting es key places before → IsPlaceOf es key i
-collecting-place es key places before i is h = subst (λ o. IfSome o (IsPlaceOf es key)) is h.there
-
-pub collecting-done : (es : List KeyedEntry) (key : ℕ) (places : List ℕ) (before : Option ℕ) → before ≡ None → IsCollecting es key places before → places ≡ falling es key (length es)
-collecting-done es key places before is h = sym (append-nil places) ∙ (ap (λ o. places ++ falling_from es key o) (sym is) ∙ h.whole)
 
 -- the entries that are left
 pub record IsGiving (v : Keyed) (places : List ℕ) (now target : Walk) : Type 0 where

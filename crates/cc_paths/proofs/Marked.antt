@@ -2,7 +2,7 @@
 use Rattle.std.specs.Prelude.{slice_index_or, slice_get}
 use Rattle.std.proofs.Common.{◌≡◌, ℕ, zero, suc, ◌+◌, ◌==◌, ◌<◌, ◌≤◌, Bool, true, false, cond, ◌||◌, List, [], ◌∷◌, ◌++◌, map, length, take, Option, Some, None, option_map, refl, sym, ◌∙◌, ap, subst, inl, inr, ⊎_elim, arith, count_by, append_assoc}
 use Rattle.std.specs.Option.{option_to_list}
-use Rattle.std.proofs.lemmas.List.{append-nil, map_push, take_more}
+use Rattle.std.proofs.lemmas.List.{map_push, take_more}
 use Rattle.std.proofs.lemmas.Option.{get_or_from_slice_get}
 use Rattle.std.proofs.lemmas.Bool.{true≢false, eqb-true, eq-eqb, or_cases, or_left, or_right}
 use Rattle.cc_lists.specs.Members.{Among, has}
@@ -218,10 +218,6 @@ needing-black ss vs rs blacks x path i s ws qs more at l black kept marked h = r
   within = λ j m. ⊎_elim (λ a. h.within j a) (λ b. ⊎_elim (λ is. subst (λ k. k < length ss) is l) (λ never. absurd never) b) (Among-append j path (i ∷ []) m);
 }
 
-pub needing-done : (ss : List Step) (vs : List Vertex) (rs : List Reason) (blacks : List ℕ) (x : Name) (path : List ℕ) (i : ℕ) → i ≡ 0 → IsNeeding ss vs rs blacks x path i →
-    told_of ss path ≡ (needed_for ss (x ∷ [])).steps
-needing-done ss vs rs blacks x path i e h = sym h.told ∙ ap (λ n. n.steps) (sym (ap (λ k. needed_onto (take k ss) h.state) e) ∙ h.left)
-
 -- WHAT IS LEFT TO TELL
 pub record IsTelling (ss : List Step) (path left : List ℕ) (old new : Telling) : Type 0 where
   pub done : List Step
@@ -246,10 +242,6 @@ telling-turn ss path before left old mid new i s popped at told h = record {
       ∙ (ap (λ ts. h.done ++ ts) (sym (told-last ss left i)) ∙ (ap (λ is. h.done ++ told_of ss is) (sym popped) ∙ h.whole)));
   within = λ j m. h.within j (subst (Among j) (sym popped) (Among-left j left (i ∷ []) m));
 }
-
-pub telling-done : (ss : List Step) (path left : List ℕ) (old new : Telling) → left ≡ [] → IsTelling ss path left old new → Tells old new (map item_of_step (told_of ss path))
-telling-done ss path left old new none h =
-    subst (λ ts. Tells old new (map item_of_step ts)) (sym (append-nil h.done) ∙ (ap (λ is. h.done ++ told_of ss is) (sym none) ∙ h.whole)) h.tells
 
 -- the same steps have the same objects
 pub distinct-same : (f g : Found) → g.nodes.nodes ≡ f.nodes.nodes → g.reasons.items ≡ f.reasons.items → HaveDistinctNames f → HaveDistinctNames g

@@ -1,5 +1,5 @@
 -- Each object has a reason and stands at its key, also after one more is found.
-use Rattle.std.proofs.Common.{◌≡◌, ℕ, ◌+◌, true, false, List, [], ◌∷◌, ◌++◌, length, Option, Some, None, is_some, refl, sym, ◌∙◌, ap, subst, ⊎_elim, arith, length-append}
+use Rattle.std.proofs.Common.{◌≡◌, ℕ, ◌+◌, false, List, [], ◌∷◌, ◌++◌, length, Option, Some, None, is_some, refl, sym, ◌∙◌, ap, subst, ⊎_elim, arith, length-append}
 use Rattle.cc_lists.specs.Members.{Among}
 use Rattle.cc_lists.proofs.Members.{Among-append}
 use Rattle.cc_names.specs.declared.name.Name.{Name}
@@ -11,7 +11,7 @@ use Rattle.cc_heaps.specs.Keyed.{Keyed}
 use Rattle.cc_heaps.specs.Changes.{held_name}
 use Rattle.cc_paths.specs.declared.found.Found.{Found}
 use Rattle.cc_paths.specs.Found.{IsPaired, steps_by, walk_by, walk_of, with_content}
-use Rattle.cc_paths.proofs.Steps.{number-found, step-found, walk-pushed}
+use Rattle.cc_paths.proofs.Steps.{number-found, walk-pushed}
 
 -- one more goes last
 pub vertex-last : (vs : List Vertex) (x : Name) (held : Held) → is_some (number_of vs x) ≡ false → with_vertex vs x held ≡ vs ++ vertex x held ∷ []
@@ -49,8 +49,3 @@ added-paired v f g x held r paired new named added =
       held = λ n m. ⊎_elim (λ a. paired.held n a) (λ b. ⊎_elim (λ is. subst (λ (k : Vertex). held_name v (Some k.held) ≡ Some k.name) is named) (λ never. absurd never) b)
           (Among-append n f.nodes.nodes (vertex x held ∷ []) (subst (Among n) last m));
     }
-
--- what is found already
-pub found-walk : (v : Keyed) (f : Found) (x : Name) (held : Held) (r : Reason) → is_found (walk_of f) x ≡ true → held_name v (Some held) ≡ Some x →
-    walk_of f ≡ with_content (walk_of f) (held_name v (Some held)) r
-found-walk v f x held r found named = step-found (walk_of f) x r found ∙ ap (λ o. with_content (walk_of f) o r) (sym named)

@@ -46,10 +46,7 @@ number-found n vs rs x e = number_from-has 0 vs x
     ∙ ap (λ xs. has same_name xs x) (sym (named-by vs rs e))
     ∙ ap (λ ss. has same_name (named ss) x) (sym (walk_by-steps n (steps_by vs rs)))
 
--- what is found is not found again
-pub step-found : (w : Walk) (x : Name) (r : Reason) → is_found w x ≡ true → w ≡ with_step w x r
-step-found w x r e = ap (λ b. elim b [ true ↦ w | false ↦ record w { waiting = w.waiting ++ (x, r) ∷ [] } ]) (sym e)
-
+-- what is new is found, and waits
 pub step-new : (w : Walk) (x : Name) (r : Reason) → is_found w x ≡ false → record w { waiting = w.waiting ++ (x, r) ∷ [] } ≡ with_step w x r
 step-new w x r e = ap (λ b. elim b [ true ↦ w | false ↦ record w { waiting = w.waiting ++ (x, r) ∷ [] } ]) (sym e)
 

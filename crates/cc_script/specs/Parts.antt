@@ -39,15 +39,7 @@ pub record IsUnderWay (to : Colour) (p : ScriptParts) : Type 0 where
   pub chained : IsChained p
   pub raised : AreRaised to (marking_of p)
 
--- no memory is taken for objects
-abbrev pub HasNoMemory : ScriptParts → Type 0
-HasNoMemory p = p.cells.capacity ≡ 0
-
--- the objects, which alone grow, have as much room as they had; each has room for its own slots alone
-abbrev pub TakesNoMemory : ScriptParts → ScriptParts → Type 0
-TakesNoMemory old new = new.cells.capacity ≡ old.cells.capacity
-
--- and the objects are marked in this colour
+-- a walk is under way, and the objects are marked in its colour
 pub record IsBegun (to : Colour) (p : ScriptParts) : Type 0 where
   pub under_way : IsUnderWay to p
   pub marked : IsMarked to (marking_of p)

@@ -32,13 +32,12 @@ pub(crate) struct ScriptParts {
 }
 
 impl ScriptParts {
-    ghost use Rattle.cc_script.specs.Parts.{lists_of, shows, marking_of, IsAtRest, IsBegun, IsUnderWay, HasNoMemory, TakesNoMemory};
+    ghost use Rattle.cc_script.specs.Parts.{lists_of, shows, marking_of, IsAtRest, IsBegun, IsUnderWay};
 
     /// No objects, and no memory taken.
     pub(crate) fn new(alloc: Global) -> ScriptParts
         ensures shows { shows result ≡ [] }
         ensures at_rest { IsAtRest result }
-        ensures memory { HasNoMemory result }
     {
         ScriptParts {
             cells: Cells::new(alloc),
@@ -168,7 +167,6 @@ impl ScriptParts {
         requires colours { IfSome item (λ k. IsNotBelow (colour_at (shows self.old) k.0) (colour_at (shows self.old) key.0)) }
         ensures shows { shows self.new ≡ change_object (shows self.old) key.0 (with_slot i (option_map (λ k. k.0) item)) }
         ensures at_rest { IsAtRest self.new }
-        ensures memory { TakesNoMemory self.old self.new }
     {
         self.cells.write(key, i as usize, item);
     }
@@ -178,7 +176,6 @@ impl ScriptParts {
         requires at_rest { IsAtRest self.old }
         ensures shows { shows self.new ≡ whitened (shows self.old) }
         ensures at_rest { IsAtRest self.new }
-        ensures memory { TakesNoMemory self.old self.new }
     {
         self.cells.whiten();
     }
@@ -189,7 +186,6 @@ impl ScriptParts {
         requires white { colour_at (shows self.old) key.0 ≡ Some White }
         ensures shows { shows self.new ≡ without_object (shows self.old) key.0 }
         ensures at_rest { IsAtRest self.new }
-        ensures memory { TakesNoMemory self.old self.new }
     {
         self.order.unlink_at(&mut self.cells, key.0);
         self.cells.remove(key.0);
@@ -201,7 +197,6 @@ impl ScriptParts {
         requires live { IsTrue (is_there (shows self.old) key.0) }
         ensures raises { marking_of self.new ≡ raise_key to key.0 (marking_of self.old) }
         ensures under_way { IsUnderWay to self.new }
-        ensures memory { TakesNoMemory self.old self.new }
     {
         if is_below(self.colour(key), to) {
             self.cells.paint(key, to);
@@ -217,7 +212,6 @@ impl ScriptParts {
         requires held { (q : ℕ) → Among (Some q) (slots_at (shows self.old) key.0) → IsTrue (is_there (shows self.old) q) }
         ensures raises { marking_of self.new ≡ raise_slot to (slice_index_or (slots_at (shows self.old) key.0) i None) (marking_of self.old) }
         ensures under_way { IsUnderWay to self.new }
-        ensures memory { TakesNoMemory self.old self.new }
     {
         if let Some(item) = self.body(key).slots[i] {
             self.raise(item, to);
@@ -231,7 +225,6 @@ impl ScriptParts {
         requires held { (q : ℕ) → Among (Some q) (slots_at (shows self.old) key.0) → IsTrue (is_there (shows self.old) q) }
         ensures raises { marking_of self.new ≡ raise_each to (slots_at (shows self.old) key.0) (marking_of self.old) }
         ensures under_way { IsUnderWay to self.new }
-        ensures memory { TakesNoMemory self.old self.new }
     {
         let slots = self.body(key).slots.len();
         for i in 0..slots {
@@ -246,7 +239,6 @@ impl ScriptParts {
         requires held { (q : ℕ) → Among (Some q) (places_at (shows self.old) key.0) → IsTrue (is_there (shows self.old) q) }
         ensures raises { marking_of self.new ≡ raise_each to (places_at (shows self.old) key.0) (marking_of self.old) }
         ensures under_way { IsUnderWay to self.new }
-        ensures memory { TakesNoMemory self.old self.new }
     {
         self.raise_each(key, to);
         if let Some(delegate) = self.delegate(key) {
@@ -261,7 +253,6 @@ impl ScriptParts {
         ensures first { option_map (λ k. k.0) result ≡ first_of (marking_of self.old).waiting }
         ensures looked { marking_of self.new ≡ with_first_looked_into to (marking_of self.old) }
         ensures begun { IsBegun to self.new }
-        ensures memory { TakesNoMemory self.old self.new }
     {
         let key = self.waiting.pop_front(&mut self.cells)?;
         self.raise_places(SKey(key), to);
@@ -275,7 +266,6 @@ impl ScriptParts {
         requires whole { AreWhole (shows self.old) }
         ensures shows { shows self.new ≡ raised_among (keys_reached (shows self.old) (key.0 ∷ [])) to (shows self.old) }
         ensures at_rest { IsAtRest self.new }
-        ensures memory { TakesNoMemory self.old self.new }
     {
         self.raise(key, to);
         while self.look_into_first(to).is_some() {}

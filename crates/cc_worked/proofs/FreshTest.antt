@@ -18,8 +18,7 @@ use Rattle.cc_model.specs.Snapshot.{Snapshot, Node, Mapping, untraversed, gone, 
 use Rattle.cc_model.specs.Units.{members_of}
 use Rattle.cc_model.specs.Fresh.{node, IsNode, IsTraversedNode, IsOutside, IsLiving, IsScriptThere, MemberOf, IsMappingOf, HasNodes, done_first, IsFresh}
 use Rattle.cc_model.proofs.MemberNodes.{member-node}
-use Rattle.cc_worked.specs.HeapTests.{all_among, is_made, is_black_to_gray, is_native_or_black, has_no_black_to_gray}
-use Rattle.cc_worked.specs.SnapshotTests.{is_traversed, is_gone, is_sampled_as, is_noted_as_held, native_is_fresh, same_reference, is_noted, edge_is_fresh, is_member_of, is_mapping_of, joint_is_fresh, notes_nothing, is_dead_native, was_made_or_there, node_is_fresh, reference_is_fresh, mapping_is_fresh, has_all_nodes, is_fresh}
+use Rattle.cc_worked.specs.SnapshotTests.{all_among, is_made, is_black_to_gray, is_native_or_black, has_no_black_to_gray, is_traversed, is_gone, is_sampled_as, is_noted_as_held, native_is_fresh, same_reference, is_noted, edge_is_fresh, is_member_of, is_mapping_of, joint_is_fresh, notes_nothing, is_dead_native, was_made_or_there, node_is_fresh, reference_is_fresh, mapping_is_fresh, has_all_nodes, is_fresh}
 use Rattle.cc_worked.proofs.Passing.{list_all-each, list_any-some, list_any-none, all_among-each, has-absent, absent-has}
 
 -- a reference by its ends

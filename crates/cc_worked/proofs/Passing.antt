@@ -7,7 +7,7 @@ use Rattle.cc_lists.proofs.Members.{has-among, has-there}
 use Rattle.cc_names.specs.declared.name.Name.{Name}
 use Rattle.cc_names.specs.Names.{same_name}
 use Rattle.cc_names.proofs.NameTests.{same_name-exact}
-use Rattle.cc_worked.specs.HeapTests.{all_among}
+use Rattle.cc_worked.specs.SnapshotTests.{all_among}
 
 -- What passes for all members of a list passes for each.
 pub list_all-each : {X : Type 0} (p : X → Bool) (xs : List X) → list_all p xs ≡ true → (x : X) → Among x xs → p x ≡ true

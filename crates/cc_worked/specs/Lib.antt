@@ -7,8 +7,6 @@ pub mod WrongPaths
 pub mod WrongEvents
 pub mod Garbage
 pub mod Right
-pub mod HeapTests
 pub mod SnapshotTests
-pub mod GraphTests
 pub mod Audit
 pub mod Works

@@ -1,5 +1,5 @@
 -- Tests that a snapshot is fresh, and that no unreached native is forgotten.
-use Rattle.std.specs.Prelude.{ℕ, Bool, true, false, not, ◌&&◌, ◌||◌, ◌==◌, List, [], ◌++◌, map, count_by, Option, Some, None, if◌then◌else◌}
+use Rattle.std.specs.Prelude.{ℕ, Bool, true, false, not, ◌&&◌, ◌||◌, ◌==◌, List, [], ◌++◌, map, length, count_by, Option, Some, None, if◌then◌else◌, nat_le}
 use Rattle.std.specs.List.{list_all, list_any}
 use Rattle.cc_lists.specs.Members.{has}
 use Rattle.cc_lists.specs.Least.{system, closure}
@@ -11,7 +11,25 @@ use Rattle.cc_model.specs.Snapshot.{Snapshot, Node, NodeState, Mapping, untraver
 use Rattle.cc_model.specs.Units.{members_of}
 use Rattle.cc_model.specs.Fresh.{done_first}
 use Rattle.cc_model.specs.Suspected.{is_unreached, unreached_scripts}
-use Rattle.cc_worked.specs.HeapTests.{all_among, is_made, has_no_black_to_gray}
+
+-- whether all names of the first list are in the second
+abbrev pub all_among : List Name → List Name → Bool
+all_among xs ys = list_all (has same_name ys) xs
+
+-- Colours between two commands
+
+abbrev pub is_black_to_gray : View → Name × Name → Bool
+is_black_to_gray v e = has same_name v.black e.0 && has same_name v.gray e.1
+
+abbrev pub is_native_or_black : View → Name → Bool
+is_native_or_black v x = is_native x || has same_name v.black x
+
+-- whether no black object holds a gray one, the registers hold no gray one, and none is white
+abbrev pub has_no_black_to_gray : View → Bool
+has_no_black_to_gray v =
+    not (list_any (is_black_to_gray v) v.edges)
+    && (list_all (is_native_or_black v) v.registers
+    && length v.white == 0)
 
 -- Fresh
 
@@ -72,6 +90,10 @@ joint_is_fresh v s e = not (has same_name v.gray e.value) || list_any (is_mappin
 
 abbrev pub notes_nothing : Snapshot → Name → Bool
 notes_nothing s x = not (list_any (λ r. same_name r.0 x) s.references)
+
+-- whether a number is one of those made so far
+abbrev pub is_made : ℕ → ℕ → Bool
+is_made made k = nat_le 1 k && nat_le k made
 
 -- whether a name is a native that was made and is no more
 abbrev pub is_dead_native : ℕ → View → Name → Bool

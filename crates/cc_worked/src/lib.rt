@@ -4,10 +4,8 @@
 //! The examples stand in a table, `examples/worked.txt`, which says what each one shows; of it the tool
 //! `tools/worked_examples.py` makes `specs/Inputs.antt`, and `proofs/Examples1.antt` and the files after that. There
 //! each example is proved by computation (`Works`): the plain run of its input writes its output, is lawful and quiet, and
-//! passes the audit. The audit tests at the beginning and after each ask that the heaps are well formed, that counts and colours
-//! are right, that the running collection's snapshot is fresh, that no unreached native is forgotten, and that the heaps
-//! stand for the graph. Its tests of freshness and of suspicion are proved to say yes only where the relation holds
-//! (`audit_is_sound`); the others are tests alone.
+//! passes the audit. The audit tests at the beginning and after each ask that the running collection's snapshot is fresh
+//! and that no unreached native is forgotten. Both tests say yes only where the relation holds (`audit_is_sound`).
 //!
 //! Whether a transcript is lawful, and whether it is quiet, is decided by tests that compute (`verdict_decides`). So a
 //! transcript that is written by hand has a theorem: that it is right, or that its last answer is not, while all else in

@@ -24,7 +24,6 @@ loop-to-init c =
             (started-marked c.args.to c.args.key.0 m (ordered-marked c.args.to m c.requires.at_rest.emptied c.requires.at_rest.coloured));
       };
       whole = subst (λ (z : Marking). AreWhole z.objects) (sym raises) (whole-raised c.args.to c.args.key.0 m c.requires.whole);
-      memory = c.raise.ensures.memory;
     }
 
 pub loop-to-smaller : goal.loop-to-smaller
@@ -41,7 +40,6 @@ loop-to-preserved c =
           (walk-looked (shows c.args.self.now) c.args.key.0 c.args.to m c.loop-to.invariant.walk);
       begun = c.look_into_first.ensures.begun;
       whole = subst (λ (z : Marking). AreWhole z.objects) (sym looked) (whole-looked c.args.to m c.loop-to.invariant.whole);
-      memory = c.look_into_first.ensures.memory ∙ c.loop-to.invariant.memory;
     }
 
 pub returns-clause-shows : goal.returns-clause-shows

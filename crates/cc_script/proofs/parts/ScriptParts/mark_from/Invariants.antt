@@ -1,6 +1,6 @@
 use Rattle.cc_script.specs.Objects.{AreWhole}
 use Rattle.cc_script.specs.Marking.{to_do}
-use Rattle.cc_script.specs.Parts.{shows, marking_of, IsBegun, TakesNoMemory}
+use Rattle.cc_script.specs.Parts.{shows, marking_of, IsBegun}
 use Rattle.cc_script.proofs.Walks.{IsWalk}
 use Rattle.cc_script.proofs.parts.ScriptParts.mark_from.Given as goal
 
@@ -9,7 +9,6 @@ invariant-loop-to l = record {
   walk : IsWalk (shows l.fn.self) l.fn.key.0 l.to (marking_of l.self);
   begun : IsBegun l.to l.self;
   whole : AreWhole (shows l.self);
-  memory : TakesNoMemory l.fn.self l.self;
 }
 
 abbrev pub decreases-loop-to : goal.decreases-loop-to

@@ -43,7 +43,6 @@ loop-i-preserved c =
       there = λ q. ap (λ (z : Marking). is_there z.objects q) raises
           ∙ (raise_slot-there c.args.to (get_or slots c.loop-i.i None) (marking_of c.loop-i.self) q ∙ c.loop-i.invariant.there q);
       under_way = c.raise_slot.ensures.under_way;
-      memory = c.raise_slot.ensures.memory ∙ c.loop-i.invariant.memory;
     }
 
 pub returns-clause-raises : goal.returns-clause-raises
