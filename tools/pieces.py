@@ -7,9 +7,9 @@
 A piece is what stands between two fences, and its file is the one that the paragraph before it names last, in backquotes. Each
 piece of docs/EMBEDDING.md is compared, and each piece of rust of README.md.
 
-On docs/EMBEDDING.md a piece of C is the whole text of its file, and so is a piece that begins with the first line of its file,
-so that who copies it has what the gate proves. Any other piece is some lines of its file: each part between two empty lines
-stands there in a row, indented or not, one part after the other.
+On docs/EMBEDDING.md a piece is the whole text of its file, so that who copies it has what the gate proves; but one of the
+program crates/ccdom is some lines of its file, and so is a piece of README.md: each part between two empty lines stands there in
+a row, indented or not, one part after the other.
 """
 import re
 import sys
@@ -18,6 +18,7 @@ from pathlib import Path
 ROOT = Path(__file__).resolve().parent.parent
 EMBEDDING = ROOT / 'docs' / 'EMBEDDING.md'
 README = ROOT / 'README.md'
+IN_PARTS = ROOT / 'crates' / 'ccdom'
 FENCE = '```'
 
 
@@ -123,9 +124,7 @@ def fault_of_some(piece):
 
 def is_whole(piece):
     """Whether a piece is to be the whole text of its file."""
-    if piece.page != EMBEDDING:
-        return False
-    return piece.language == 'c' or piece.lines[:1] == lines_of(piece.path)[:1]
+    return piece.page == EMBEDDING and not piece.path.is_relative_to(IN_PARTS)
 
 
 def fault(piece):

@@ -114,7 +114,7 @@ impl Document {
         self.session.set_script_root(REFLECTOR, None)
     }
 
-    /// A few units of a collection, in a frame. One that begins here begins right after `gc`: it can miss nothing.
+    /// A few units of a collection, in a frame. One that begins here begins right after `gc`, and can miss no garbage.
     pub fn frame(&mut self, units: u32) -> Result<Ended, Hindrance> {
         if !self.session.running() {
             self.session.gc()?;
