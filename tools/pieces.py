@@ -1,17 +1,15 @@
 #!/usr/bin/env python3
 """Compares the pieces of code on the pages with the files that the gate proves.
 
-    tools/pieces.py            writes the pieces of docs/EMBEDDING.md anew from their files; then says what --check says
+    tools/pieces.py            writes the whole files on docs/EMBEDDING.md anew; then says what --check says
     tools/pieces.py --check    writes nothing; says which piece is not that of its file, and exits 1 where one is not
 
-A piece is what stands between two fences, and its file is the one that the paragraph before it names last, in backquotes.
+A piece is what stands between two fences, and its file is the one that the paragraph before it names last, in backquotes. Each
+piece of docs/EMBEDDING.md is compared, and each piece of rust of README.md.
 
-On docs/EMBEDDING.md a piece of rust, antt or C is the whole text of its file, so that who copies it has what the gate proves; a
-piece of text is some lines of its file. On README.md a piece of rust is some lines of its file too: each part between two empty
-lines stands there in a row, indented or not, one part after the other.
-
-The list of calls on docs/EMBEDDING.md, between fences that name no language, is no piece. Each call in it is a public function
-of the crates below that answers the type that stands behind its arrow.
+On docs/EMBEDDING.md a piece is the whole text of its file, so that who copies it has what the gate proves; but one of the
+program crates/ccdom is some lines of its file, and so is a piece of README.md: each part between two empty lines stands there in
+a row, indented or not, one part after the other.
 """
 import re
 import sys
@@ -20,8 +18,7 @@ from pathlib import Path
 ROOT = Path(__file__).resolve().parent.parent
 EMBEDDING = ROOT / 'docs' / 'EMBEDDING.md'
 README = ROOT / 'README.md'
-WHOLE = ('rust', 'antt', 'c')
-CALLED = ('cc_counted', 'cc_heaps', 'cc_paths', 'cc_script', 'cc_weakmaps', 'cc_wrappers')
+IN_PARTS = ROOT / 'crates' / 'ccdom'
 FENCE = '```'
 
 
@@ -100,15 +97,16 @@ def indented(lines, indent):
 
 
 def stands_in(piece, lines):
-    """Whether each part between empty lines stands in the file, one after the other."""
+    """Whether there is a part, and each part between empty lines stands in the file, one after the other."""
+    parts = paragraphs(piece.lines)
     at = 0
-    for part in paragraphs(piece.lines):
+    for part in parts:
         places = [place_of(indented(part, indent), lines, at) for indent in ('', '    ')]
         there = [place for place in places if place is not None]
         if not there:
             return False
         at = min(there) + len(part)
-    return True
+    return bool(parts)
 
 
 def fault_of_whole(piece):
@@ -124,55 +122,35 @@ def fault_of_some(piece):
     return f'the piece does not stand in {piece.path.relative_to(ROOT)}'
 
 
+def is_whole(piece):
+    """Whether a piece is to be the whole text of its file."""
+    return piece.page == EMBEDDING and not piece.path.is_relative_to(IN_PARTS)
+
+
 def fault(piece):
     if piece.path is None:
         return 'no file is named before the piece'
-    if piece.page == EMBEDDING and piece.language in WHOLE:
+    if is_whole(piece):
         return fault_of_whole(piece)
     return fault_of_some(piece)
 
 
-# The list of calls
-
-def calls_there():
-    """Each public function of the crates that a host calls, with what it answers."""
-    found = set()
-    for crate in CALLED:
-        for path in sorted((ROOT / 'crates' / crate / 'src').rglob('*.rt')):
-            text = path.read_text(encoding='utf-8')
-            found.update(re.findall(r'pub fn (\w+)[^{};]*?\)\s*->\s*([^\n{]+)', text))
-    return {(name, answer.strip()) for name, answer in found}
-
-
-def calls_listed(piece):
-    return [call for line in piece.lines for call in re.findall(r'(\w+)\([^()]*\) -> (\w+(?:<[^>]*>)?)', line)]
-
-
-def faults_of_list(piece):
-    there = calls_there()
-    listed = calls_listed(piece)
-    if len(listed) != sum(line.count('->') for line in piece.lines):
-        return ['a call of the list cannot be read']
-    return [f'no public function {name} answers {answer}' for name, answer in listed if (name, answer) not in there]
-
-
 # All of it
 
+def compared():
+    """Each piece that is compared with its file."""
+    return pieces(EMBEDDING) + [piece for piece in pieces(README) if piece.language == 'rust']
+
+
 def faults():
-    found = []
-    for piece in pieces(EMBEDDING):
-        wrong = [fault(piece)] if piece.language else faults_of_list(piece)
-        found += [f'{piece.place()}: {what}' for what in wrong if what]
-    for piece in pieces(README):
-        if piece.language == 'rust' and fault(piece):
-            found.append(f'{piece.place()}: {fault(piece)}')
-    return found
+    found = [(piece, fault(piece)) for piece in compared()]
+    return [f'{piece.place()}: {what}' for piece, what in found if what]
 
 
 def write_page():
     lines = lines_of(EMBEDDING)
     for piece in reversed(pieces(EMBEDDING)):
-        if piece.language in WHOLE and piece.path is not None:
+        if piece.path is not None and is_whole(piece):
             lines[piece.first:piece.first + len(piece.lines)] = lines_of(piece.path)
     EMBEDDING.write_text('\n'.join(lines) + '\n', encoding='utf-8')
 

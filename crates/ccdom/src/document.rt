@@ -1,0 +1,138 @@
+//! A document of elements, listeners and private data over a session. No call of it has a condition, as none of a session has.
+use cc_collector::Ended;
+use cc_host::{Object, Stop};
+use cc_names::{Limits, Name, NativeNo, RegNo, SlotNo};
+use cc_session::{Hindrance, Session};
+use slab::Slab;
+use std::alloc::Global;
+
+// What the slots of an element hold, which is a native: its children, then its parent, and last its listener.
+const PARENT: SlotNo = 8;
+
+const LISTENER: SlotNo = 9;
+
+// The roots by number: what was made last, of each kind; and what script has of an element.
+const MADE: RegNo = 0;
+
+const REFLECTOR: RegNo = 1;
+
+/// The script root of another world.
+pub const PROXY: RegNo = 2;
+
+/// A session, the weak map of all private data, and a row for each element that was not told as freed.
+#[derive(Drop)]
+pub struct Document {
+    pub session: Session,
+    data: Object,
+    titles: Slab<&'static str>,
+}
+
+impl Document {
+    /// No elements. Row 0 is that of each native to which the program gave no number.
+    pub fn new(alloc: Global) -> Result<Document, Stop> {
+        let mut session = Session::new(alloc, Limits::new(1000, 1000, 0), 1)?;
+        let data = session.new_map(MADE)?;
+        session.root(data)?;
+        let mut titles = Slab::new(alloc);
+        titles.insert("table of roots").map_err(|_| Stop::NoMemory)?;
+        Ok(Document {
+            session,
+            data,
+            titles,
+        })
+    }
+
+    /// Makes an element, which a root holds until the next one is made. Its row is its number of the program's.
+    pub fn make(&mut self, title: &'static str) -> Result<Object, Stop> {
+        let element = self.session.new_native(MADE, LISTENER + 1)?;
+        let row = self.titles.insert(title).map_err(|_| Stop::NoMemory)?;
+        self.session.set_data(element, row as u64)?;
+        Ok(element)
+    }
+
+    // The first place of an element's children that holds this.
+    fn place_of(&self, parent: Object, held: Option<Object>) -> Result<SlotNo, Stop> {
+        (0..PARENT)
+            .find(|i| self.session.slot(parent, *i) == Ok(held))
+            .ok_or(Stop::Index)
+    }
+
+    /// Makes an element that is a child of another: each holds the other.
+    pub fn append(&mut self, parent: Object, title: &'static str) -> Result<Object, Stop> {
+        let place = self.place_of(parent, None)?;
+        let child = self.make(title)?;
+        self.session.store(parent, place, Some(child))?;
+        self.session.store(child, PARENT, Some(parent))?;
+        Ok(child)
+    }
+
+    /// An element is a child no more. What is below it stays with it.
+    pub fn remove(&mut self, parent: Object, child: Object) -> Result<(), Stop> {
+        let place = self.place_of(parent, Some(child))?;
+        self.session.store(child, PARENT, None)?;
+        self.session.store(parent, place, None)
+    }
+
+    // What script has of an element, in a root until the next one.
+    fn reflect(&mut self, element: Object) -> Result<Object, Stop> {
+        let reflector = self.session.wrap(element)?;
+        self.session.set_script_root(REFLECTOR, Some(reflector))?;
+        Ok(reflector)
+    }
+
+    // A closure over an element: a script object that holds its reflector, in a root until the next one.
+    fn close_over(&mut self, element: Object) -> Result<Object, Stop> {
+        let reflector = self.reflect(element)?;
+        let closure = self.session.new_plain(MADE, 1)?;
+        self.session.store(closure, 0, Some(reflector))?;
+        Ok(closure)
+    }
+
+    /// An element listens for another: it holds a closure over that one.
+    pub fn listen(&mut self, element: Object, other: Object) -> Result<(), Stop> {
+        let closure = self.close_over(other)?;
+        self.session.store(element, LISTENER, Some(closure))
+    }
+
+    /// An element gets private data: its reflector has a closure over another one in the weak map.
+    pub fn remember(&mut self, element: Object, other: Object) -> Result<(), Stop> {
+        let closure = self.close_over(other)?;
+        let reflector = self.reflect(element)?;
+        self.session.set_entry(self.data, reflector, closure)
+    }
+
+    /// Another world of script gets a proxy of an element, in a root of its own.
+    pub fn share(&mut self, element: Object) -> Result<Object, Stop> {
+        let reflector = self.reflect(element)?;
+        self.session.new_proxy(PROXY, reflector)
+    }
+
+    /// The roots of what was being made hold nothing.
+    pub fn let_go(&mut self) -> Result<(), Stop> {
+        self.session.set_native_root(MADE, None)?;
+        self.session.set_script_root(MADE, None)?;
+        self.session.set_script_root(REFLECTOR, None)
+    }
+
+    /// A few units of a collection, in a frame. One that begins here begins right after `gc`, and can miss no garbage.
+    pub fn frame(&mut self, units: u32) -> Result<Ended, Hindrance> {
+        if !self.session.running() {
+            self.session.gc()?;
+        }
+        self.session.slice(units)
+    }
+
+    /// What the program calls a native, there or gone.
+    pub fn title(&self, number: NativeNo) -> &'static str {
+        let row = self.session.data_of(number.0) as usize;
+        self.titles.get(row).copied().unwrap_or("gone")
+    }
+
+    /// The row of a native that was told as freed goes.
+    pub fn forget(&mut self, name: Name) {
+        if let Name::Native(number) = name {
+            let row = self.session.data_of(number.0) as usize;
+            self.titles.try_remove(row);
+        }
+    }
+}

@@ -1,0 +1,112 @@
+//! `ccdom` builds a page over a session, removes a menu that holds itself through both heaps, and writes what comes of it.
+#![tactic(auto)]
+
+mod document;
+
+use anyhow::Result;
+use cc_host::{Object, Stop};
+use cc_model::{Event, Item, Reason};
+use cc_names::Name;
+use cc_session::Root;
+use document::{Document, PROXY};
+
+/// Writes an object. A native has a title of the program's.
+fn show(rt: &impl Print, document: &Document, word: &str, name: Name) -> Result<()> {
+    match name {
+        Name::Native(n) => println!(rt; "{word}{} #{}", document.title(n), n.0)?,
+        Name::Reflector(n) => println!(rt; "{word}reflector of {}", document.title(n))?,
+        Name::Script(n) => println!(rt; "{word}@{}", n.0)?,
+    }
+    Ok(())
+}
+
+/// Writes what was told, and how many objects are there. The row of what was freed goes.
+fn report(rt: &impl Print, document: &mut Document, what: &str) -> Result<()> {
+    println!(rt; "{what}")?;
+    for _ in 0..u64::MAX {
+        match document.session.next_told() {
+            Some(Item::Event(Event::Unlinked(name))) => show(rt, document, "  unlinked ", name)?,
+            Some(Item::Event(Event::Freed(name))) => {
+                show(rt, document, "  freed ", name)?;
+                document.forget(name);
+            }
+            Some(_) => println!(rt; "  the collection was given up")?,
+            None => break,
+        }
+    }
+    let (natives, scripts) = (document.session.natives(), document.session.scripts());
+    println!(rt; "  natives: {natives}, script objects: {scripts}")?;
+    Ok(())
+}
+
+/// Writes the steps by which the roots lead to the menu.
+fn explain(rt: &impl Print, document: &mut Document, menu: Object) -> Result<()> {
+    let led = document.session.why(menu)?;
+    println!(rt; "does anything lead to the menu? {led}")?;
+    for _ in 0..u64::MAX {
+        let Some(Item::Step(name, reason)) = document.session.next_step() else {
+            break;
+        };
+        show(rt, document, "  ", name)?;
+        match reason {
+            Reason::Root(_) => println!(rt; "    held by a root")?,
+            Reason::Edge(by) => show(rt, document, "    held by ", by)?,
+            Reason::Pair(_, key) => show(rt, document, "    of an entry with ", key)?,
+        }
+    }
+    Ok(())
+}
+
+/// A page with a text and a menu of two entries. The menu listens for its second entry, which has private data on the menu, and
+/// of which another world has a proxy. The page's root, the page and the menu.
+fn build(document: &mut Document) -> Result<(Root, Object, Object)> {
+    let page = document.make("page")?;
+    let root = document.session.root(page)?;
+    let menu = document.append(page, "menu")?;
+    document.append(menu, "first entry")?;
+    let second = document.append(menu, "second entry")?;
+    document.listen(menu, second)?;
+    document.remember(second, menu)?;
+    document.share(second)?;
+    let text = document.append(page, "text")?;
+    document.listen(text, page)?;
+    document.let_go()?;
+    Ok((root, page, menu))
+}
+
+/// Goes on with the page in frames. All that was told is fetched, so want of memory alone can hinder one.
+fn go_on(rt: &impl Print, document: &mut Document, page: Object) -> Result<()> {
+    for _ in 0..4 {
+        document.append(page, "note")?;
+        document.frame(6).map_err(|_| Stop::NoMemory)?;
+        report(rt, document, "a note is added, and a frame done")?;
+    }
+    Ok(())
+}
+
+/// Removes the menu, which goes once another world let its proxy of an entry go.
+fn remove_menu(rt: &impl Print, document: &mut Document, page: Object, menu: Object) -> Result<()> {
+    document.remove(page, menu)?;
+    report(rt, document, "the menu is removed")?;
+    explain(rt, document, menu)?;
+    document.session.set_script_root(PROXY, None)?;
+    report(rt, document, "the other world let its proxy go")?;
+    explain(rt, document, menu)?;
+    go_on(rt, document, page)
+}
+
+fn run(rt: &impl Print, document: &mut Document) -> Result<()> {
+    let (root, page, menu) = build(document)?;
+    report(rt, document, "the page is built")?;
+    remove_menu(rt, document, page, menu)?;
+    document.let_go()?;
+    document.session.release(root)?;
+    report(rt, document, "the page is released")?;
+    document.session.settle().map_err(|_| Stop::NoMemory)?;
+    report(rt, document, "the document is settled")
+}
+
+fn main(rt: HostRuntime) -> Result<()> {
+    let mut document = Document::new(rt.alloc())?;
+    run(&rt, &mut document)
+}
