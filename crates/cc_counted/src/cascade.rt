@@ -12,27 +12,25 @@ ghost use Rattle.cc_counted.specs.declared.held.Held.{Held};
 ghost use Rattle.cc_counted.specs.Counts.{is_live, numbers_held, name_of, number_at, the_number, heap_of, with_heap, with_reflector, left_with, count_of, slots_of, references_of};
 ghost use Rattle.cc_counted.specs.Owning.{CallersOwn, Transfers, Makes};
 ghost use Rattle.cc_counted.specs.Lists.{Placed, cell_at, slots_placed, keyed, numbers_in, draining_of, IsPlaced, with_front};
-ghost use Rattle.cc_counted.specs.Stored.{TakesNoMemory};
 ghost use Rattle.cc_counted.specs.Resting.{shows, IsAtRest};
 ghost use Rattle.cc_counted.specs.Steps.{GivesUp, FreesFront, Drains, ComesTo, EmptiesSlot, EmptiesEach};
 
 use crate::cell::held_reflector;
 use crate::held::{Held, native_held};
-use crate::population::Population;
+use crate::natives::Natives;
 use crate::slot::Slot;
 use cc_model::{Event, Item, Notices};
 use cc_names::{NKey, Name, NativeNo, NoMemory, SKey, SlotNo};
 use std::alloc::Global;
 
-impl Population {
+impl Natives {
     /// Gives up one reference to the native at a key: it is suspected where its count stays above zero; where that falls
     /// to zero it leaves the buffer and waits.
     #[inline(always)]
     fn give_up(&mut self, key: NKey)
         requires placed { IsPlaced self.old.lists }
         requires balanced { (owned : List ℕ) × (c : Placed) × (cell_at self.old.lists.cells key.0 ≡ Some c) × IsBalanced (c.number ∷ owned) (draining_of self.old.lists []) }
-        ensures gives_up { GivesUp self.old.lists self.new.lists (the_number (keyed self.old.lists.cells) key.0 ∷ []) }
-        ensures memory { TakesNoMemory self.old self.new }
+        ensures { GivesUp self.old.lists self.new.lists (the_number (keyed self.old.lists.cells) key.0 ∷ []) }
     {
         if self.lower(key) > 0 {
             self.suspect(key);
@@ -48,8 +46,7 @@ impl Population {
         requires placed { IsPlaced self.old.lists }
         requires live { (x : Option Held) → Among x slots.now → is_live (keyed self.old.lists.cells) x ≡ true }
         requires balanced { (owned : List ℕ) × IsBalanced (numbers_in (keyed self.old.lists.cells) slots.now ++ owned) (draining_of self.old.lists []) }
-        ensures gives_up { GivesUp self.old.lists self.new.lists (numbers_in (keyed self.old.lists.cells) slots.now) }
-        ensures memory { TakesNoMemory self.old self.new }
+        ensures { GivesUp self.old.lists self.new.lists (numbers_in (keyed self.old.lists.cells) slots.now) }
     {
         for slot in slots {
             if let Some(native) = native_held(slot.held()) {
@@ -62,8 +59,7 @@ impl Population {
     fn free<N: Notices>(&mut self, key: NKey, out: &mut N)
         requires placed { IsPlaced (with_front key.0 self.old.lists) }
         requires balanced { (owned : List ℕ) × IsBalanced owned (draining_of (with_front key.0 self.old.lists) []) }
-        ensures frees { FreesFront (with_front key.0 self.old.lists) self.new.lists (N.telling out.old) (N.telling out.new) }
-        ensures memory { TakesNoMemory self.old self.new }
+        ensures { FreesFront (with_front key.0 self.old.lists) self.new.lists (N.telling out.old) (N.telling out.new) }
     {
         let cell = self.remove(key);
         out.tell(Item::Event(Event::Freed(Name::Native(cell.number))));
@@ -77,8 +73,7 @@ impl Population {
     fn free_from<N: Notices>(&mut self, key: NKey, out: &mut N)
         requires placed { IsPlaced (with_front key.0 self.old.lists) }
         requires balanced { (owned : List ℕ) × IsBalanced owned (draining_of (with_front key.0 self.old.lists) []) }
-        ensures drains { Drains (with_front key.0 self.old.lists) self.new.lists (N.telling out.old) (N.telling out.new) }
-        ensures memory { TakesNoMemory self.old self.new }
+        ensures { Drains (with_front key.0 self.old.lists) self.new.lists (N.telling out.old) (N.telling out.new) }
     {
         let mut front = Some(key);
         while let Some(key) = front {
@@ -92,9 +87,8 @@ impl Population {
         requires placed { IsPlaced self.old.lists }
         requires balanced { (owned : List ℕ) × (c : Placed) × (cell_at self.old.lists.cells key.0 ≡ Some c) × IsBalanced (c.number ∷ owned) (draining_of self.old.lists []) }
         requires emptied { self.old.lists.queue ≡ [] }
-        ensures comes_to { ComesTo self.old.lists self.new.lists (N.telling out.old) (N.telling out.new)
+        ensures { ComesTo self.old.lists self.new.lists (N.telling out.old) (N.telling out.new)
             (cascade (heap_of (shows self.old)) (the_number (keyed self.old.lists.cells) key.0)) }
-        ensures memory { TakesNoMemory self.old self.new }
     {
         if self.lower(key) > 0 {
             return self.suspect(key);
@@ -112,7 +106,6 @@ impl Population {
         ensures shows { shows self.new ≡ with_heap (shows self.old) (add_ref (heap_of (shows self.old)) (the_number (shows self.old) key.0)) }
         ensures owned { Transfers [] (the_number (shows self.old) key.0 ∷ []) (shows self.old) (shows self.new) }
         ensures at_rest { IsAtRest self.new }
-        ensures memory { TakesNoMemory self.old self.new }
     {
         self.raise(key);
         self.touch(key);
@@ -129,7 +122,6 @@ impl Population {
         ensures live { IsTrue (is_live (shows self.old) result) }
         ensures owned { Transfers (numbers_held (shows self.old) item) (numbers_held (shows self.old) result) (shows self.old) (shows self.new) }
         ensures at_rest { IsAtRest self.new }
-        ensures memory { TakesNoMemory self.old self.new }
     {
         self.write(key, i as usize, item)
     }
@@ -141,7 +133,6 @@ impl Population {
         ensures shows { shows self.new ≡ with_heap (shows self.old) (set_preserved (heap_of (shows self.old)) (the_number (shows self.old) key.0) on) }
         ensures owned { Transfers [] [] (shows self.old) (shows self.new) }
         ensures at_rest { IsAtRest self.new }
-        ensures memory { TakesNoMemory self.old self.new }
     {
         self.preserve(key, on);
     }
@@ -153,7 +144,6 @@ impl Population {
         ensures shows { shows self.new ≡ with_reflector (shows self.old) key.0 (option_map (λ k. k.0) to) }
         ensures owned { Transfers [] [] (shows self.old) (shows self.new) }
         ensures at_rest { IsAtRest self.new }
-        ensures memory { TakesNoMemory self.old self.new }
     {
         self.reflect(key, to);
     }
@@ -203,7 +193,6 @@ impl Population {
         requires owned { (others : List ℕ) × (c : Placed) × (cell_at self.old.lists.cells key.0 ≡ Some c) × IsBalanced (c.number ∷ others) (draining_of self.old.lists []) }
         ensures empties { EmptiesSlot self.old.lists self.new.lists key.0 i (N.telling out.old) (N.telling out.new) }
         ensures at_rest { IsAtRest self.new }
-        ensures memory { TakesNoMemory self.old self.new }
     {
         let content = self.write(key, i as usize, None);
         if let Some(native) = native_held(content) {
@@ -218,7 +207,6 @@ impl Population {
         requires owned { (others : List ℕ) × (c : Placed) × (cell_at self.old.lists.cells key.0 ≡ Some c) × IsBalanced (c.number ∷ others) (draining_of self.old.lists []) }
         ensures empties { EmptiesEach self.old.lists self.new.lists key.0 (N.telling out.old) (N.telling out.new) }
         ensures at_rest { IsAtRest self.new }
-        ensures memory { TakesNoMemory self.old self.new }
     {
         for i in 0..slots {
             self.empty_slot(key, i, out);
@@ -234,7 +222,6 @@ impl Population {
         ensures told { TellsEvents (N.telling out.old) (N.telling out.new) (unlink (heap_of (shows self.old)) (the_number (shows self.old) key.0)).events }
         ensures owned { Transfers (the_number (shows self.old) key.0 ∷ []) (the_number (shows self.old) key.0 ∷ []) (shows self.old) (shows self.new) }
         ensures at_rest { IsAtRest self.new }
-        ensures memory { TakesNoMemory self.old self.new }
     {
         let cell = self.at(key);
         let number = cell.number;
@@ -252,7 +239,6 @@ impl Population {
         ensures shows { shows self.new ≡ with_heap (shows self.old) (suspect (heap_of (shows self.old)) (the_number (shows self.old) key.0)) }
         ensures owned { Transfers [] [] (shows self.old) (shows self.new) }
         ensures at_rest { IsAtRest self.new }
-        ensures memory { TakesNoMemory self.old self.new }
     {
         self.suspect(key);
     }

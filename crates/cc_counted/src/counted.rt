@@ -14,7 +14,7 @@ ghost use Rattle.cc_counted.specs.Suspects.{is_in_buffer, is_purple_in, front_nu
 ghost use Rattle.cc_lists.specs.Members.{Among};
 
 use crate::held::Held;
-use crate::population::Population;
+use crate::natives::Natives;
 use cc_model::Notices;
 use cc_names::{NKey, NativeNo, NoMemory, SKey, SlotNo};
 use std::alloc::Global;
@@ -31,7 +31,7 @@ use std::marker::Model;
 /// of its key, in the place of a number. Crates above give it its own name, and see to it that it is there.
 #[derive(Drop)]
 pub struct Counted {
-    natives: Population,
+    natives: Natives,
     alloc: Global,
 }
 
@@ -54,7 +54,7 @@ impl Counted {
         ensures owned { AreOwned [] result }
     {
         Counted {
-            natives: Population::new(alloc),
+            natives: Natives::new(alloc),
             alloc,
         }
     }
