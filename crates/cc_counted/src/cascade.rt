@@ -1,26 +1,25 @@
 //! The steps of a cascade over the natives, and the calls of the counted heap that change it.
-ghost use Rattle.std.specs.Prelude.{◌≡◌, ℕ, ◌<◌, ◌≤◌, true, List, [], ◌∷◌, ◌++◌, length, Option, Some, None, option_map, IsSome, IsTrue, IfOk, OnOk, OnErr, slice_index_or};
+ghost use Rattle.std.specs.Prelude.{◌≡◌, ℕ, ◌<◌, ◌≤◌, true, List, [], ◌∷◌, ◌++◌, length, Option, Some, None, IsSome, IfOk, OnOk, OnErr};
 ghost use Rattle.cc_lists.specs.Members.{Among};
 ghost use Rattle.cc_names.specs.Names.{native};
 ghost use Rattle.cc_names.specs.Sizes.{most_slots};
 ghost use Rattle.cc_model.specs.Telling.{TellsEvents};
-ghost use Rattle.cc_model.specs.Heap.{HeapNative, set_preserved, set_slot, suspect};
-ghost use Rattle.cc_model.specs.Cascade.{cascade, add_ref};
+ghost use Rattle.cc_model.specs.Heap.{HeapNative, set_preserved};
+ghost use Rattle.cc_model.specs.Cascade.{cascade};
 ghost use Rattle.cc_model.specs.End.{unlink};
 ghost use Rattle.cc_laws_heap.specs.Balance.{IsBalanced};
 ghost use Rattle.cc_counted.specs.declared.held.Held.{Held};
-ghost use Rattle.cc_counted.specs.Counts.{is_live, numbers_held, name_of, number_at, the_number, heap_of, with_heap, with_reflector, left_with, count_of, slots_of, references_of};
+ghost use Rattle.cc_counted.specs.Counts.{is_live, number_at, the_number, heap_of, with_heap, left_with};
 ghost use Rattle.cc_counted.specs.Owning.{CallersOwn, Transfers, Makes};
 ghost use Rattle.cc_counted.specs.Lists.{Placed, cell_at, slots_placed, keyed, numbers_in, draining_of, IsPlaced, with_front};
 ghost use Rattle.cc_counted.specs.Resting.{shows, IsAtRest};
 ghost use Rattle.cc_counted.specs.Steps.{GivesUp, FreesFront, Drains, ComesTo, EmptiesSlot, EmptiesEach};
 
-use crate::cell::held_reflector;
-use crate::held::{Held, native_held};
+use crate::held::native_held;
 use crate::natives::Natives;
 use crate::slot::Slot;
 use cc_model::{Event, Item, Notices};
-use cc_names::{NKey, Name, NativeNo, NoMemory, SKey, SlotNo};
+use cc_names::{NKey, Name, NativeNo, NoMemory, SlotNo};
 use std::alloc::Global;
 
 impl Natives {
@@ -97,35 +96,6 @@ impl Natives {
         self.free_from(key, out);
     }
 
-    /// One more reference to the native at a key, which then stands in the buffer without the mark.
-    pub(crate) fn add_ref(&mut self, key: NKey)
-        requires at_rest { IsAtRest self.old }
-        requires live { IsSome (number_at (shows self.old) key.0) }
-        requires below { count_of (shows self.old) key.0 < 4294967295 }
-        requires owned { CallersOwn [] (shows self.old) }
-        ensures shows { shows self.new ≡ with_heap (shows self.old) (add_ref (heap_of (shows self.old)) (the_number (shows self.old) key.0)) }
-        ensures owned { Transfers [] (the_number (shows self.old) key.0 ∷ []) (shows self.old) (shows self.new) }
-        ensures at_rest { IsAtRest self.new }
-    {
-        self.raise(key);
-        self.touch(key);
-    }
-
-    /// Writes slot `i` of the native at a key, and returns what it held.
-    pub(crate) fn set_slot(&mut self, key: NKey, i: SlotNo, item: Option<Held>) -> Option<Held>
-        requires at_rest { IsAtRest self.old }
-        requires live { IsSome (number_at (shows self.old) key.0) }
-        requires within { i < length (slots_of (shows self.old) key.0) }
-        requires item_live { IsTrue (is_live (shows self.old) item) }
-        ensures shows { shows self.new ≡ with_heap (shows self.old) (set_slot (heap_of (shows self.old)) (Some (native (the_number (shows self.old) key.0))) i (name_of (shows self.old) item)) }
-        ensures name { name_of (shows self.old) result ≡ slice_index_or (slots_of (shows self.old) key.0) i None }
-        ensures live { IsTrue (is_live (shows self.old) result) }
-        ensures owned { Transfers (numbers_held (shows self.old) item) (numbers_held (shows self.old) result) (shows self.old) (shows self.new) }
-        ensures at_rest { IsAtRest self.new }
-    {
-        self.write(key, i as usize, item)
-    }
-
     /// Writes whether the reflector of the native at a key is preserved.
     pub(crate) fn set_preserved(&mut self, key: NKey, on: bool)
         requires at_rest { IsAtRest self.old }
@@ -135,34 +105,6 @@ impl Natives {
         ensures at_rest { IsAtRest self.new }
     {
         self.preserve(key, on);
-    }
-
-    /// Writes where the reflector of the native at a key stands.
-    pub(crate) fn set_reflector(&mut self, key: NKey, to: Option<SKey>)
-        requires at_rest { IsAtRest self.old }
-        requires live { IsSome (number_at (shows self.old) key.0) }
-        ensures shows { shows self.new ≡ with_reflector (shows self.old) key.0 (option_map (λ k. k.0) to) }
-        ensures owned { Transfers [] [] (shows self.old) (shows self.new) }
-        ensures at_rest { IsAtRest self.new }
-    {
-        self.reflect(key, to);
-    }
-
-    /// What slot `i` of the native at a key holds; behind the last slot its reflector, where that is preserved.
-    pub(crate) fn reference(&self, key: NKey, i: SlotNo) -> Option<Held>
-        requires at_rest { IsAtRest self.now }
-        requires live { IsSome (number_at (shows self.now) key.0) }
-        requires within { i ≤ length (slots_of (shows self.now) key.0) }
-        ensures name { name_of (shows self.now) result ≡ slice_index_or (references_of (shows self.now) key.0) i None }
-        ensures live { IsTrue (is_live (shows self.now) result) }
-    {
-        let cell = self.at(key);
-        let place = i as usize;
-        if place < cell.slots.len() {
-            cell.slots[place].held()
-        } else {
-            held_reflector(cell)
-        }
     }
 
     /// Makes a native with so many empty slots and count one, which stands in the buffer without the mark.
@@ -229,17 +171,5 @@ impl Natives {
         out.tell(Item::Event(Event::Unlinked(Name::Native(number))));
         self.empty_each(key, slots, out);
         self.set_preserved(key, false);
-    }
-
-    /// The native at a key goes back into the buffer with the purple mark.
-    pub(crate) fn give_back(&mut self, key: NKey)
-        requires at_rest { IsAtRest self.old }
-        requires live { IsSome (number_at (shows self.old) key.0) }
-        requires owned { CallersOwn [] (shows self.old) }
-        ensures shows { shows self.new ≡ with_heap (shows self.old) (suspect (heap_of (shows self.old)) (the_number (shows self.old) key.0)) }
-        ensures owned { Transfers [] [] (shows self.old) (shows self.new) }
-        ensures at_rest { IsAtRest self.new }
-    {
-        self.suspect(key);
     }
 }

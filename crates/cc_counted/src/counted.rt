@@ -1,5 +1,5 @@
 //! The counted heap as callers see it.
-ghost use Rattle.std.specs.Prelude.{◌≡◌, ◌≢◌, false, ℕ, ◌+◌, ◌<◌, ◌≤◌, List, [], ◌∷◌, ◌++◌, length, Some, None, option_map, option_and_then, slice_index_or, IsSome, IsTrue, IfNone, IfSome, MatchOption, OnOk, IfOk, OnErr};
+ghost use Rattle.std.specs.Prelude.{◌≡◌, ◌≢◌, false, ℕ, ◌+◌, ◌<◌, ◌≤◌, [], ◌∷◌, ◌++◌, length, Some, None, option_map, option_and_then, slice_index_or, IsSome, IsTrue, IfNone, IfSome, MatchOption, OnOk, IfOk, OnErr};
 ghost use Rattle.cc_names.specs.Names.{native};
 ghost use Rattle.cc_names.specs.Sizes.{most_slots};
 ghost use Rattle.cc_model.specs.Telling.{TellsEvents};
@@ -13,6 +13,7 @@ ghost use Rattle.cc_counted.specs.Scripts.{HasNoHolder, IsNextHolder};
 ghost use Rattle.cc_counted.specs.Suspects.{is_in_buffer, is_purple_in, front_number, number_behind};
 ghost use Rattle.cc_lists.specs.Members.{Among};
 
+use crate::cell::held_reflector;
 use crate::held::Held;
 use crate::natives::Natives;
 use cc_model::Notices;
@@ -91,7 +92,8 @@ impl Counted {
         ensures heap { self.new ≡ with_heap self.old (add_ref (heap_of self.old) (the_number self.old key.0)) }
         ensures owned { Transfers [] (the_number self.old key.0 ∷ []) self.old self.new }
     {
-        self.natives.add_ref(key);
+        self.natives.raise(key);
+        self.natives.touch(key);
     }
 
     /// The native stands in the buffer without the purple mark: it keeps its place there, or goes last.
@@ -141,7 +143,7 @@ impl Counted {
         ensures live { IsTrue (is_live self.old result) }
         ensures owned { Transfers (numbers_held self.old item) (numbers_held self.old result) self.old self.new }
     {
-        self.natives.set_slot(key, i, item)
+        self.natives.write(key, i as usize, item)
     }
 
     /// How many slots a native has: 0 to 256.
@@ -185,7 +187,7 @@ impl Counted {
         ensures reflectors { self.new ≡ with_reflector self.old key.0 (option_map (λ k. k.0) to) }
         ensures owned { Transfers [] [] self.old self.new }
     {
-        self.natives.set_reflector(key, to);
+        self.natives.reflect(key, to);
     }
 
     /// What a native refers to, counted from 0: what each slot holds, in their order, and behind the last slot its
@@ -196,7 +198,13 @@ impl Counted {
         ensures name { name_of self.now result ≡ slice_index_or (references_of self.now key.0) i None }
         ensures live { IsTrue (is_live self.now result) }
     {
-        self.natives.reference(key, i)
+        let cell = self.natives.at(key);
+        let place = i as usize;
+        if place < cell.slots.len() {
+            cell.slots[place].held()
+        } else {
+            held_reflector(cell)
+        }
     }
 
     /// The count of a native: the slots that hold it and the references that callers own.
@@ -315,7 +323,7 @@ impl Counted {
         ensures heap { self.new ≡ with_heap self.old (suspect (heap_of self.old) (the_number self.old key.0)) }
         ensures owned { Transfers [] [] self.old self.new }
     {
-        self.natives.give_back(key);
+        self.natives.suspect(key);
     }
 
     /// Whether a native stands in the buffer.
