@@ -1,15 +1,13 @@
 //! The steps of a cascade over the natives, and the calls of the counted heap that change it.
-ghost use Rattle.std.specs.Prelude.{◌≡◌, ℕ, ◌<◌, ◌≤◌, true, List, [], ◌∷◌, ◌++◌, length, Option, Some, None, IsSome, IfOk, OnOk, OnErr};
+ghost use Rattle.std.specs.Prelude.{◌≡◌, ℕ, ◌<◌, ◌≤◌, true, List, [], ◌∷◌, ◌++◌, length, Option, Some, None, IfOk, OnOk, OnErr};
 ghost use Rattle.cc_lists.specs.Members.{Among};
 ghost use Rattle.cc_names.specs.Names.{native};
 ghost use Rattle.cc_names.specs.Sizes.{most_slots};
-ghost use Rattle.cc_model.specs.Telling.{TellsEvents};
-ghost use Rattle.cc_model.specs.Heap.{HeapNative, set_preserved};
+ghost use Rattle.cc_model.specs.Heap.{HeapNative};
 ghost use Rattle.cc_model.specs.Cascade.{cascade};
-ghost use Rattle.cc_model.specs.End.{unlink};
 ghost use Rattle.cc_laws_heap.specs.Balance.{IsBalanced};
 ghost use Rattle.cc_counted.specs.declared.held.Held.{Held};
-ghost use Rattle.cc_counted.specs.Counts.{is_live, number_at, the_number, heap_of, with_heap, left_with};
+ghost use Rattle.cc_counted.specs.Counts.{is_live, number_at, the_number, heap_of};
 ghost use Rattle.cc_counted.specs.Owning.{CallersOwn, Transfers, Makes};
 ghost use Rattle.cc_counted.specs.Lists.{Placed, cell_at, slots_placed, keyed, numbers_in, draining_of, IsPlaced, with_front};
 ghost use Rattle.cc_counted.specs.Resting.{shows, IsAtRest};
@@ -96,17 +94,6 @@ impl Natives {
         self.free_from(key, out);
     }
 
-    /// Writes whether the reflector of the native at a key is preserved.
-    pub(crate) fn set_preserved(&mut self, key: NKey, on: bool)
-        requires at_rest { IsAtRest self.old }
-        requires live { IsSome (number_at (shows self.old) key.0) }
-        ensures shows { shows self.new ≡ with_heap (shows self.old) (set_preserved (heap_of (shows self.old)) (the_number (shows self.old) key.0) on) }
-        ensures owned { Transfers [] [] (shows self.old) (shows self.new) }
-        ensures at_rest { IsAtRest self.new }
-    {
-        self.preserve(key, on);
-    }
-
     /// Makes a native with so many empty slots and count one, which stands in the buffer without the mark.
     pub(crate) fn create(
         &mut self,
@@ -143,7 +130,7 @@ impl Natives {
     }
 
     /// Empties the slots of a native that is owned, in rising order, each content given up before the next slot.
-    fn empty_each<N: Notices>(&mut self, key: NKey, slots: SlotNo, out: &mut N)
+    pub(crate) fn empty_each<N: Notices>(&mut self, key: NKey, slots: SlotNo, out: &mut N)
         requires at_rest { IsAtRest self.old }
         requires slots { slots ≡ length (slots_placed (cell_at self.old.lists.cells key.0)) }
         requires owned { (others : List ℕ) × (c : Placed) × (cell_at self.old.lists.cells key.0 ≡ Some c) × IsBalanced (c.number ∷ others) (draining_of self.old.lists []) }
@@ -153,23 +140,5 @@ impl Natives {
         for i in 0..slots {
             self.empty_slot(key, i, out);
         }
-    }
-
-    /// Tells that a native that is owned is unlinked, empties its slots, and ends the preservation of its reflector.
-    pub(crate) fn unlink<N: Notices>(&mut self, key: NKey, out: &mut N)
-        requires at_rest { IsAtRest self.old }
-        requires live { IsSome (number_at (shows self.old) key.0) }
-        requires owned { CallersOwn (the_number (shows self.old) key.0 ∷ []) (shows self.old) }
-        ensures shows { shows self.new ≡ left_with (shows self.old) (unlink (heap_of (shows self.old)) (the_number (shows self.old) key.0)).heap }
-        ensures told { TellsEvents (N.telling out.old) (N.telling out.new) (unlink (heap_of (shows self.old)) (the_number (shows self.old) key.0)).events }
-        ensures owned { Transfers (the_number (shows self.old) key.0 ∷ []) (the_number (shows self.old) key.0 ∷ []) (shows self.old) (shows self.new) }
-        ensures at_rest { IsAtRest self.new }
-    {
-        let cell = self.at(key);
-        let number = cell.number;
-        let slots = cell.slots.len() as SlotNo;
-        out.tell(Item::Event(Event::Unlinked(Name::Native(number))));
-        self.empty_each(key, slots, out);
-        self.set_preserved(key, false);
     }
 }

@@ -16,8 +16,8 @@ ghost use Rattle.cc_lists.specs.Members.{Among};
 use crate::cell::held_reflector;
 use crate::held::Held;
 use crate::natives::Natives;
-use cc_model::Notices;
-use cc_names::{NKey, NativeNo, NoMemory, SKey, SlotNo};
+use cc_model::{Event, Item, Notices};
+use cc_names::{NKey, Name, NativeNo, NoMemory, SKey, SlotNo};
 use std::alloc::Global;
 use std::marker::Model;
 
@@ -168,7 +168,7 @@ impl Counted {
         ensures heap { self.new ≡ with_heap self.old (set_preserved (heap_of self.old) (the_number self.old key.0) on) }
         ensures owned { Transfers [] [] self.old self.new }
     {
-        self.natives.set_preserved(key, on);
+        self.natives.preserve(key, on);
     }
 
     /// Where a native's reflector stands in the script heap; none where it has none.
@@ -304,7 +304,12 @@ impl Counted {
         ensures told { TellsEvents (N.telling out.old) (N.telling out.new) (unlink (heap_of self.old) (the_number self.old key.0)).events }
         ensures owned { Transfers (the_number self.old key.0 ∷ []) (the_number self.old key.0 ∷ []) self.old self.new }
     {
-        self.natives.unlink(key, out);
+        let cell = self.natives.at(key);
+        let number = cell.number;
+        let slots = cell.slots.len() as SlotNo;
+        out.tell(Item::Event(Event::Unlinked(Name::Native(number))));
+        self.natives.empty_each(key, slots, out);
+        self.natives.preserve(key, false);
     }
 
     /// Takes out the front of the buffer with its mark; none exactly where the buffer is empty.
