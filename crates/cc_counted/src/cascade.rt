@@ -1,14 +1,10 @@
-//! The steps of a cascade over the natives, and the calls of the counted heap that change it.
-ghost use Rattle.std.specs.Prelude.{◌≡◌, ℕ, ◌<◌, ◌≤◌, true, List, [], ◌∷◌, ◌++◌, length, Option, Some, None, IfOk, OnOk, OnErr};
+//! The steps of a cascade over the natives.
+ghost use Rattle.std.specs.Prelude.{◌≡◌, ℕ, ◌<◌, true, List, [], ◌∷◌, ◌++◌, length, Option, Some};
 ghost use Rattle.cc_lists.specs.Members.{Among};
-ghost use Rattle.cc_names.specs.Names.{native};
-ghost use Rattle.cc_names.specs.Sizes.{most_slots};
-ghost use Rattle.cc_model.specs.Heap.{HeapNative};
 ghost use Rattle.cc_model.specs.Cascade.{cascade};
 ghost use Rattle.cc_laws_heap.specs.Balance.{IsBalanced};
 ghost use Rattle.cc_counted.specs.declared.held.Held.{Held};
-ghost use Rattle.cc_counted.specs.Counts.{is_live, number_at, the_number, heap_of};
-ghost use Rattle.cc_counted.specs.Owning.{CallersOwn, Transfers, Makes};
+ghost use Rattle.cc_counted.specs.Counts.{is_live, the_number, heap_of};
 ghost use Rattle.cc_counted.specs.Lists.{Placed, cell_at, slots_placed, keyed, numbers_in, draining_of, IsPlaced, with_front};
 ghost use Rattle.cc_counted.specs.Resting.{shows, IsAtRest};
 ghost use Rattle.cc_counted.specs.Steps.{GivesUp, FreesFront, Drains, ComesTo, EmptiesSlot, EmptiesEach};
@@ -17,8 +13,7 @@ use crate::held::native_held;
 use crate::natives::Natives;
 use crate::slot::Slot;
 use cc_model::{Event, Item, Notices};
-use cc_names::{NKey, Name, NativeNo, NoMemory, SlotNo};
-use std::alloc::Global;
+use cc_names::{NKey, Name, SlotNo};
 
 impl Natives {
     /// Gives up one reference to the native at a key: it is suspected where its count stays above zero; where that falls
@@ -92,27 +87,6 @@ impl Natives {
         }
         self.forget(key);
         self.free_from(key, out);
-    }
-
-    /// Makes a native with so many empty slots and count one, which stands in the buffer without the mark.
-    pub(crate) fn create(
-        &mut self,
-        alloc: Global,
-        no: NativeNo,
-        slots: SlotNo,
-    ) -> Result<NKey, NoMemory>
-        requires at_rest { IsAtRest self.old }
-        requires slots { slots ≤ most_slots }
-        requires above { (n : HeapNative) → Among n (shows self.old).natives → n.number < no.0 }
-        requires owned { CallersOwn [] (shows self.old) }
-        ensures makes { IfOk result (λ key. Makes (shows self.old) (shows self.new) key.0 no.0 slots) }
-        ensures owned { OnOk result (Transfers [] (no.0 ∷ []) (shows self.old) (shows self.new)) }
-        ensures at_rest { IsAtRest self.new }
-        ensures err { OnErr result (shows self.new ≡ shows self.old) }
-    {
-        let key = self.insert(alloc, no, slots)?;
-        self.touch(key);
-        Ok(key)
     }
 
     /// Empties slot `i` of a native that is owned, and gives up what was in it, with all that it deletes.

@@ -80,7 +80,9 @@ impl Counted {
         ensures owned { OnOk result (Transfers [] (no.0 ∷ []) self.old self.new) }
         ensures err { OnErr result (self.new ≡ self.old) }
     {
-        self.natives.create(self.alloc, no, slots)
+        let key = self.natives.insert(self.alloc, no, slots)?;
+        self.natives.touch(key);
+        Ok(key)
     }
 
     /// Takes one more reference, which the caller owns. The native stands in the buffer without the purple mark.
