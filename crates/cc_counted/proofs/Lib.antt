@@ -1,5 +1,4 @@
 pub mod Nodes
-pub mod Threading
 pub mod Places
 pub mod Changing
 pub mod Marking
@@ -24,3 +23,4 @@ pub mod Owned
 pub mod Emptying
 pub mod Unlinking
 pub mod Scripts
+pub mod Threading

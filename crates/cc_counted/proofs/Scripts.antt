@@ -17,15 +17,14 @@ use Rattle.cc_names.specs.Sizes.{most_slots}
 use Rattle.cc_holders.specs.declared.entry.Entry.{Entry}
 use Rattle.cc_holders.specs.declared.entry.Entry.TheVariants.{Unknown, Known}
 use Rattle.cc_holders.specs.declared.holders.Holders.{Holders}
-use Rattle.cc_holders.specs.Entries.{IsFirst, behind, count_of, key_of, one_if, with_key}
+use Rattle.cc_holders.specs.Entries.{IsFirst, behind, count_of, key_of, one_if}
 use Rattle.cc_holders.specs.Known.{entry_at, key_at}
 use Rattle.cc_holders.proofs.Counting.{counted}
 use Rattle.cc_holders.proofs.Known.{entries-kept}
 use Rattle.cc_counted.specs.declared.held.Held.{Held}
 use Rattle.cc_counted.specs.declared.held.Held.TheVariants as held
 use Rattle.cc_counted.specs.Counts.{Counts, name_of, number_at, preserved_reflector}
-use Rattle.cc_counted.specs.Lists.{Placed, Lists, cell_at, count_placed, keyed, shown_at, counts_of, with_slot, IsPlaced}
-use Rattle.cc_counted.specs.Stored.{Stored, with_cell}
+use Rattle.cc_counted.specs.Lists.{Placed, Lists, cell_at, keyed, shown_at, counts_of, with_slot, IsPlaced}
 use Rattle.cc_counted.specs.Scripts.{AreKnown, HasNoHolder, HasNonePlaced, IsNextHolder, IsNextPlaced, is_script, is_to_script, recounted, refers_by_reflector, refers_to_script, scripts_of}
 use Rattle.cc_counted.proofs.Places.{number_at-cell, number_at-found, shown-number, the_number-cell}
 use Rattle.cc_counted.proofs.Reading.{slots_of-cell}
@@ -144,29 +143,12 @@ module _ (cells : List (Option Placed)) (h : Holders) (k : AreKnown cells h) whe
       gone : (q : ℕ) → q ≡ key → cell_at (set cells key None) q ≡ None
       gone q t = ap (cell_at (set cells key None)) t ∙ get_or-set_same cells key None None (cell-within cells key c at)
 
-  -- A number that no native has is unknown,
-  unknown-fresh : (m : ℕ) → ((key : ℕ) (c : Placed) → cell_at cells key ≡ Some c → c.number ≢ m) → entry_at h m ≡ Unknown
-  unknown-fresh m fresh = go (entry_at h m) refl
-    where
-      go : (e : Entry) → entry_at h m ≡ e → e ≡ Unknown
-      go Unknown f = refl
-      go (Known count key) f = let g = k.there m count key f in absurd (fresh key g.0 g.1 g.2)
-
-  -- so it may be known for a while, and be forgotten.
-  pub known-refused : (m : ℕ) → ((key : ℕ) (c : Placed) → cell_at cells key ≡ Some c → c.number ≢ m) → (i j : Holders) (x : Entry) →
-      ((n : ℕ) → entry_at i n ≡ (if m == n then x else entry_at h n)) → ((n : ℕ) → entry_at j n ≡ (if m == n then Unknown else entry_at i n)) → AreKnown cells j
-  known-refused m fresh i j x added removed = known-same j (λ n. removed n ∙ ⊎_elim
-      (λ t. rw t.0 (sym (ap (entry_at h) (sym t.1) ∙ unknown-fresh m fresh)))
-      (λ o. rw o.0 (added n ∙ rw o.0 refl))
-      (eqb_tells m n))
-
   -- A native came to stand at a key.
   pub known-inserted : (new : List (Option Placed)) (key : ℕ) (d : Placed) → cell_at cells key ≡ None → cell_at new key ≡ Some d →
       ((q : ℕ) → q ≢ key → cell_at new q ≡ cell_at cells q) → ((q : ℕ) (c : Placed) → cell_at cells q ≡ Some c → c.number ≢ d.number) →
-      scripts_of d ≡ 0 → length d.slots ≤ most_slots → (i j : Holders) (x : ℕ) →
-      ((n : ℕ) → entry_at i n ≡ (if d.number == n then Known 0 x else entry_at h n)) →
-      ((n : ℕ) → entry_at j n ≡ (if d.number == n then with_key key (entry_at i d.number) else entry_at i n)) → AreKnown new j
-  known-inserted new key d vacant placed others fresh none few i j x added named = record {
+      scripts_of d ≡ 0 → length d.slots ≤ most_slots → (j : Holders) →
+      ((n : ℕ) → entry_at j n ≡ (if d.number == n then Known 0 key else entry_at h n)) → AreKnown new j
+  known-inserted new key d vacant placed others fresh none few j entries = record {
     known = λ q e f. ⊎_elim
         (λ t. let is : Some d ≡ Some e = sym (ap (cell_at new) t.1 ∙ placed) ∙ f in let there : d ≡ e = cc in
         subst (λ (y : Placed). entry_at j y.number ≡ Known (scripts_of y) q) there
@@ -188,12 +170,6 @@ module _ (cells : List (Option Placed)) (h : Holders) (k : AreKnown cells h) whe
         (λ o. k.few q e (sym (others q o.1) ∙ f))
         (eqb_tells q key);
   }
-    where
-      entries : (n : ℕ) → entry_at j n ≡ (if d.number == n then Known 0 key else entry_at h n)
-      entries n = named n ∙ ⊎_elim
-          (λ t. rw t.0 (ap (with_key key) (added d.number ∙ chosen d.number _ _)))
-          (λ o. rw o.0 (added n ∙ rw o.0 refl))
-          (eqb_tells d.number n)
 
   -- THE NEXT that refers to a script object is the first that is marked.
   key-known : (q : ℕ) (c : Placed) → cell_at cells q ≡ Some c → key_at h c.number ≡ (if nat_lt 0 (scripts_of c) then Some q else None)
@@ -247,42 +223,6 @@ module _ (cells : List (Option Placed)) (h : Holders) (k : AreKnown cells h) whe
       go : (b : Bool) → nat_lt 0 (scripts_of c) ≡ b → (if b then Some q else None) ≡ None → scripts_of c ≡ 0
       go true s e = absurd (cc)
       go false s e = let l = ltb-false 0 (scripts_of c) s in omega (arith, l)
-
--- THE NATIVE AT A KEY is changed.
-module _ (s t : Stored) (h : Holders) (k : AreKnown s.lists.cells h) (key : ℕ) (f : Placed → Placed) (e : t ≡ with_cell key f s) (c : Placed) (at : cell_at s.lists.cells key ≡ Some c)
-    (same : (f c).number ≡ c.number) where
-  cells-then : t.lists.cells ≡ set s.lists.cells key (Some (f c))
-  cells-then = ap (λ (u : Stored). u.lists.cells) e ∙ ap (λ o. set s.lists.cells key (option_map f o)) at
-
-  there-then : cell_at t.lists.cells key ≡ Some (f c)
-  there-then = ap (λ cs. cell_at cs key) cells-then ∙ get_or-set_same s.lists.cells key (Some (f c)) None (cell-within s.lists.cells key c at)
-
-  pub live-then : is_some (cell_at t.lists.cells key) ≡ true
-  live-then = ap (λ (o : Option Placed). is_some o) there-then
-
-  pub room-then : (d : Placed) → cell_at t.lists.cells key ≡ Some d → count_of (entry_at h d.number) < 65535
-  room-then d g = let is : Some (f c) ≡ Some d = sym there-then ∙ g in let one : f c ≡ d = cc in
-      subst (λ m. count_of (entry_at h m) < 65535) (sym same ∙ ap (λ (x : Placed). x.number) one) (known-room s.lists.cells h k key c at)
-
-  pub counted-then : length (f c).slots ≤ most_slots → scripts_of (f c) ≡ scripts_of c → AreKnown t.lists.cells h
-  counted-then few alike = subst (λ cs. AreKnown cs h) (sym cells-then) (known-counted s.lists.cells h k key c (f c) at same few alike)
-
-  pub recounted-then : length (f c).slots ≤ most_slots → (before after : Bool) → scripts_of (f c) + one_if before ≡ scripts_of c + one_if after → (j : Holders) →
-      ((d : Placed) → cell_at t.lists.cells key ≡ Some d → (n : ℕ) → entry_at j n ≡ (if d.number == n then recounted before after (entry_at h d.number) else entry_at h n)) → AreKnown t.lists.cells j
-  recounted-then few before after counts j entries =
-      subst (λ cs. AreKnown cs j) (sym cells-then) (known-recounted s.lists.cells h k key c (f c) at same few before after counts j (entries (f c) there-then))
-
-  -- what is said of the native there is said of this one
-  pub said-then : (P : Placed → Type 0) → ((d : Placed) → cell_at t.lists.cells key ≡ Some d → P d) → P (f c)
-  said-then P says = says (f c) there-then
-
-pub placed-there : (o : Option Placed) → is_some o ≡ true → (c : Placed) × (o ≡ Some c)
-placed-there None live = absurd (cc)
-placed-there (Some c) live = (c, refl)
-
-pub placed-counted : (o : Option Placed) → 1 ≤ count_placed o → (c : Placed) × (o ≡ Some c)
-placed-counted None live = absurd (omega (arith, live))
-placed-counted (Some c) live = (c, refl)
 
 -- no natives are known by a table that knows nothing
 pub known-none : (h : Holders) → ((n : ℕ) → entry_at h n ≡ Unknown) → AreKnown [] h

@@ -5,7 +5,7 @@ pub mod Suspects
 pub mod Lists
 pub mod Stored
 pub mod Nodes
+pub mod Scripts
 pub mod Natives
 pub mod Steps
 pub mod Resting
-pub mod Scripts

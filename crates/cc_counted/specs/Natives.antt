@@ -7,6 +7,7 @@ use Rattle.cc_counted.specs.declared.node.Node.{Node}
 use Rattle.cc_counted.specs.declared.natives.Natives.TheInside.{Inside}
 use Rattle.cc_counted.specs.Lists.{Lists}
 use Rattle.cc_counted.specs.Stored.{Stored}
+use Rattle.cc_counted.specs.Scripts.{AreKnown}
 use Rattle.cc_counted.specs.Nodes.{cells_of, order_links, queue_links, suspect_links, marks_in}
 
 -- the nodes by key
@@ -29,3 +30,8 @@ pub record IsChained (n : Inside) : Type 0 where
   pub order : IsChain (order_links (slots_in n)) n.order (lists_of n).order
   pub queue : IsChain (queue_links (slots_in n)) n.queue (lists_of n).queue
   pub buffer : IsBuffer (suspect_links (slots_in n)) (marks_in (slots_in n)) n.buffer (lists_of n).marks
+
+-- and the table knows each native
+pub record IsKept (n : Inside) : Type 0 where
+  pub chained : IsChained n
+  pub known : AreKnown (lists_of n).cells n.holders

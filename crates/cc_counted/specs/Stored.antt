@@ -8,10 +8,6 @@ pub record Stored : Type 0 where
   pub lists : Lists
   pub capacity : ℕ
 
--- the keys have room for as many as before
-abbrev pub TakesNoMemory : Stored → Stored → Type 0
-TakesNoMemory old new = new.capacity ≡ old.capacity
-
 -- A CALL CHANGES ONE OF THE LISTS, and nothing else: the native at a key,
 abbrev pub with_cell : ℕ → (Placed → Placed) → Stored → Stored
 with_cell key change s = record s { lists = record s.lists { cells = slice_set s.lists.cells key (option_map change (cell_at s.lists.cells key)) } }

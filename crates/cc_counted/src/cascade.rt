@@ -1,38 +1,28 @@
-//! The steps of a cascade over the natives, and the calls of the counted heap that change it.
-ghost use Rattle.std.specs.Prelude.{◌≡◌, ℕ, ◌<◌, ◌≤◌, true, List, [], ◌∷◌, ◌++◌, length, Option, Some, None, option_map, IsSome, IsTrue, IfOk, OnOk, OnErr, slice_index_or};
+//! The steps of a cascade over the natives.
+ghost use Rattle.std.specs.Prelude.{◌≡◌, ℕ, ◌<◌, true, List, [], ◌∷◌, ◌++◌, length, Option, Some};
 ghost use Rattle.cc_lists.specs.Members.{Among};
-ghost use Rattle.cc_names.specs.Names.{native};
-ghost use Rattle.cc_names.specs.Sizes.{most_slots};
-ghost use Rattle.cc_model.specs.Telling.{TellsEvents};
-ghost use Rattle.cc_model.specs.Heap.{HeapNative, set_preserved, set_slot, suspect};
-ghost use Rattle.cc_model.specs.Cascade.{cascade, add_ref};
-ghost use Rattle.cc_model.specs.End.{unlink};
+ghost use Rattle.cc_model.specs.Cascade.{cascade};
 ghost use Rattle.cc_laws_heap.specs.Balance.{IsBalanced};
 ghost use Rattle.cc_counted.specs.declared.held.Held.{Held};
-ghost use Rattle.cc_counted.specs.Counts.{is_live, numbers_held, name_of, number_at, the_number, heap_of, with_heap, with_reflector, left_with, count_of, slots_of, references_of};
-ghost use Rattle.cc_counted.specs.Owning.{CallersOwn, Transfers, Makes};
+ghost use Rattle.cc_counted.specs.Counts.{is_live, the_number, heap_of};
 ghost use Rattle.cc_counted.specs.Lists.{Placed, cell_at, slots_placed, keyed, numbers_in, draining_of, IsPlaced, with_front};
-ghost use Rattle.cc_counted.specs.Stored.{TakesNoMemory};
 ghost use Rattle.cc_counted.specs.Resting.{shows, IsAtRest};
 ghost use Rattle.cc_counted.specs.Steps.{GivesUp, FreesFront, Drains, ComesTo, EmptiesSlot, EmptiesEach};
 
-use crate::cell::held_reflector;
-use crate::held::{Held, native_held};
-use crate::population::Population;
+use crate::held::native_held;
+use crate::natives::Natives;
 use crate::slot::Slot;
 use cc_model::{Event, Item, Notices};
-use cc_names::{NKey, Name, NativeNo, NoMemory, SKey, SlotNo};
-use std::alloc::Global;
+use cc_names::{NKey, Name, SlotNo};
 
-impl Population {
+impl Natives {
     /// Gives up one reference to the native at a key: it is suspected where its count stays above zero; where that falls
     /// to zero it leaves the buffer and waits.
     #[inline(always)]
     fn give_up(&mut self, key: NKey)
         requires placed { IsPlaced self.old.lists }
         requires balanced { (owned : List ℕ) × (c : Placed) × (cell_at self.old.lists.cells key.0 ≡ Some c) × IsBalanced (c.number ∷ owned) (draining_of self.old.lists []) }
-        ensures gives_up { GivesUp self.old.lists self.new.lists (the_number (keyed self.old.lists.cells) key.0 ∷ []) }
-        ensures memory { TakesNoMemory self.old self.new }
+        ensures { GivesUp self.old.lists self.new.lists (the_number (keyed self.old.lists.cells) key.0 ∷ []) }
     {
         if self.lower(key) > 0 {
             self.suspect(key);
@@ -48,8 +38,7 @@ impl Population {
         requires placed { IsPlaced self.old.lists }
         requires live { (x : Option Held) → Among x slots.now → is_live (keyed self.old.lists.cells) x ≡ true }
         requires balanced { (owned : List ℕ) × IsBalanced (numbers_in (keyed self.old.lists.cells) slots.now ++ owned) (draining_of self.old.lists []) }
-        ensures gives_up { GivesUp self.old.lists self.new.lists (numbers_in (keyed self.old.lists.cells) slots.now) }
-        ensures memory { TakesNoMemory self.old self.new }
+        ensures { GivesUp self.old.lists self.new.lists (numbers_in (keyed self.old.lists.cells) slots.now) }
     {
         for slot in slots {
             if let Some(native) = native_held(slot.held()) {
@@ -62,8 +51,7 @@ impl Population {
     fn free<N: Notices>(&mut self, key: NKey, out: &mut N)
         requires placed { IsPlaced (with_front key.0 self.old.lists) }
         requires balanced { (owned : List ℕ) × IsBalanced owned (draining_of (with_front key.0 self.old.lists) []) }
-        ensures frees { FreesFront (with_front key.0 self.old.lists) self.new.lists (N.telling out.old) (N.telling out.new) }
-        ensures memory { TakesNoMemory self.old self.new }
+        ensures { FreesFront (with_front key.0 self.old.lists) self.new.lists (N.telling out.old) (N.telling out.new) }
     {
         let cell = self.remove(key);
         out.tell(Item::Event(Event::Freed(Name::Native(cell.number))));
@@ -77,8 +65,7 @@ impl Population {
     fn free_from<N: Notices>(&mut self, key: NKey, out: &mut N)
         requires placed { IsPlaced (with_front key.0 self.old.lists) }
         requires balanced { (owned : List ℕ) × IsBalanced owned (draining_of (with_front key.0 self.old.lists) []) }
-        ensures drains { Drains (with_front key.0 self.old.lists) self.new.lists (N.telling out.old) (N.telling out.new) }
-        ensures memory { TakesNoMemory self.old self.new }
+        ensures { Drains (with_front key.0 self.old.lists) self.new.lists (N.telling out.old) (N.telling out.new) }
     {
         let mut front = Some(key);
         while let Some(key) = front {
@@ -92,108 +79,14 @@ impl Population {
         requires placed { IsPlaced self.old.lists }
         requires balanced { (owned : List ℕ) × (c : Placed) × (cell_at self.old.lists.cells key.0 ≡ Some c) × IsBalanced (c.number ∷ owned) (draining_of self.old.lists []) }
         requires emptied { self.old.lists.queue ≡ [] }
-        ensures comes_to { ComesTo self.old.lists self.new.lists (N.telling out.old) (N.telling out.new)
+        ensures { ComesTo self.old.lists self.new.lists (N.telling out.old) (N.telling out.new)
             (cascade (heap_of (shows self.old)) (the_number (keyed self.old.lists.cells) key.0)) }
-        ensures memory { TakesNoMemory self.old self.new }
     {
         if self.lower(key) > 0 {
             return self.suspect(key);
         }
         self.forget(key);
         self.free_from(key, out);
-    }
-
-    /// One more reference to the native at a key, which then stands in the buffer without the mark.
-    pub(crate) fn add_ref(&mut self, key: NKey)
-        requires at_rest { IsAtRest self.old }
-        requires live { IsSome (number_at (shows self.old) key.0) }
-        requires below { count_of (shows self.old) key.0 < 4294967295 }
-        requires owned { CallersOwn [] (shows self.old) }
-        ensures shows { shows self.new ≡ with_heap (shows self.old) (add_ref (heap_of (shows self.old)) (the_number (shows self.old) key.0)) }
-        ensures owned { Transfers [] (the_number (shows self.old) key.0 ∷ []) (shows self.old) (shows self.new) }
-        ensures at_rest { IsAtRest self.new }
-        ensures memory { TakesNoMemory self.old self.new }
-    {
-        self.raise(key);
-        self.touch(key);
-    }
-
-    /// Writes slot `i` of the native at a key, and returns what it held.
-    pub(crate) fn set_slot(&mut self, key: NKey, i: SlotNo, item: Option<Held>) -> Option<Held>
-        requires at_rest { IsAtRest self.old }
-        requires live { IsSome (number_at (shows self.old) key.0) }
-        requires within { i < length (slots_of (shows self.old) key.0) }
-        requires item_live { IsTrue (is_live (shows self.old) item) }
-        ensures shows { shows self.new ≡ with_heap (shows self.old) (set_slot (heap_of (shows self.old)) (Some (native (the_number (shows self.old) key.0))) i (name_of (shows self.old) item)) }
-        ensures name { name_of (shows self.old) result ≡ slice_index_or (slots_of (shows self.old) key.0) i None }
-        ensures live { IsTrue (is_live (shows self.old) result) }
-        ensures owned { Transfers (numbers_held (shows self.old) item) (numbers_held (shows self.old) result) (shows self.old) (shows self.new) }
-        ensures at_rest { IsAtRest self.new }
-        ensures memory { TakesNoMemory self.old self.new }
-    {
-        self.write(key, i as usize, item)
-    }
-
-    /// Writes whether the reflector of the native at a key is preserved.
-    pub(crate) fn set_preserved(&mut self, key: NKey, on: bool)
-        requires at_rest { IsAtRest self.old }
-        requires live { IsSome (number_at (shows self.old) key.0) }
-        ensures shows { shows self.new ≡ with_heap (shows self.old) (set_preserved (heap_of (shows self.old)) (the_number (shows self.old) key.0) on) }
-        ensures owned { Transfers [] [] (shows self.old) (shows self.new) }
-        ensures at_rest { IsAtRest self.new }
-        ensures memory { TakesNoMemory self.old self.new }
-    {
-        self.preserve(key, on);
-    }
-
-    /// Writes where the reflector of the native at a key stands.
-    pub(crate) fn set_reflector(&mut self, key: NKey, to: Option<SKey>)
-        requires at_rest { IsAtRest self.old }
-        requires live { IsSome (number_at (shows self.old) key.0) }
-        ensures shows { shows self.new ≡ with_reflector (shows self.old) key.0 (option_map (λ k. k.0) to) }
-        ensures owned { Transfers [] [] (shows self.old) (shows self.new) }
-        ensures at_rest { IsAtRest self.new }
-        ensures memory { TakesNoMemory self.old self.new }
-    {
-        self.reflect(key, to);
-    }
-
-    /// What slot `i` of the native at a key holds; behind the last slot its reflector, where that is preserved.
-    pub(crate) fn reference(&self, key: NKey, i: SlotNo) -> Option<Held>
-        requires at_rest { IsAtRest self.now }
-        requires live { IsSome (number_at (shows self.now) key.0) }
-        requires within { i ≤ length (slots_of (shows self.now) key.0) }
-        ensures name { name_of (shows self.now) result ≡ slice_index_or (references_of (shows self.now) key.0) i None }
-        ensures live { IsTrue (is_live (shows self.now) result) }
-    {
-        let cell = self.at(key);
-        let place = i as usize;
-        if place < cell.slots.len() {
-            cell.slots[place].held()
-        } else {
-            held_reflector(cell)
-        }
-    }
-
-    /// Makes a native with so many empty slots and count one, which stands in the buffer without the mark.
-    pub(crate) fn create(
-        &mut self,
-        alloc: Global,
-        no: NativeNo,
-        slots: SlotNo,
-    ) -> Result<NKey, NoMemory>
-        requires at_rest { IsAtRest self.old }
-        requires slots { slots ≤ most_slots }
-        requires above { (n : HeapNative) → Among n (shows self.old).natives → n.number < no.0 }
-        requires owned { CallersOwn [] (shows self.old) }
-        ensures makes { IfOk result (λ key. Makes (shows self.old) (shows self.new) key.0 no.0 slots) }
-        ensures owned { OnOk result (Transfers [] (no.0 ∷ []) (shows self.old) (shows self.new)) }
-        ensures at_rest { IsAtRest self.new }
-        ensures err { OnErr result (shows self.new ≡ shows self.old) }
-    {
-        let key = self.insert(alloc, no, slots)?;
-        self.touch(key);
-        Ok(key)
     }
 
     /// Empties slot `i` of a native that is owned, and gives up what was in it, with all that it deletes.
@@ -203,7 +96,6 @@ impl Population {
         requires owned { (others : List ℕ) × (c : Placed) × (cell_at self.old.lists.cells key.0 ≡ Some c) × IsBalanced (c.number ∷ others) (draining_of self.old.lists []) }
         ensures empties { EmptiesSlot self.old.lists self.new.lists key.0 i (N.telling out.old) (N.telling out.new) }
         ensures at_rest { IsAtRest self.new }
-        ensures memory { TakesNoMemory self.old self.new }
     {
         let content = self.write(key, i as usize, None);
         if let Some(native) = native_held(content) {
@@ -212,48 +104,15 @@ impl Population {
     }
 
     /// Empties the slots of a native that is owned, in rising order, each content given up before the next slot.
-    fn empty_each<N: Notices>(&mut self, key: NKey, slots: SlotNo, out: &mut N)
+    pub(crate) fn empty_each<N: Notices>(&mut self, key: NKey, slots: SlotNo, out: &mut N)
         requires at_rest { IsAtRest self.old }
         requires slots { slots ≡ length (slots_placed (cell_at self.old.lists.cells key.0)) }
         requires owned { (others : List ℕ) × (c : Placed) × (cell_at self.old.lists.cells key.0 ≡ Some c) × IsBalanced (c.number ∷ others) (draining_of self.old.lists []) }
         ensures empties { EmptiesEach self.old.lists self.new.lists key.0 (N.telling out.old) (N.telling out.new) }
         ensures at_rest { IsAtRest self.new }
-        ensures memory { TakesNoMemory self.old self.new }
     {
         for i in 0..slots {
             self.empty_slot(key, i, out);
         }
-    }
-
-    /// Tells that a native that is owned is unlinked, empties its slots, and ends the preservation of its reflector.
-    pub(crate) fn unlink<N: Notices>(&mut self, key: NKey, out: &mut N)
-        requires at_rest { IsAtRest self.old }
-        requires live { IsSome (number_at (shows self.old) key.0) }
-        requires owned { CallersOwn (the_number (shows self.old) key.0 ∷ []) (shows self.old) }
-        ensures shows { shows self.new ≡ left_with (shows self.old) (unlink (heap_of (shows self.old)) (the_number (shows self.old) key.0)).heap }
-        ensures told { TellsEvents (N.telling out.old) (N.telling out.new) (unlink (heap_of (shows self.old)) (the_number (shows self.old) key.0)).events }
-        ensures owned { Transfers (the_number (shows self.old) key.0 ∷ []) (the_number (shows self.old) key.0 ∷ []) (shows self.old) (shows self.new) }
-        ensures at_rest { IsAtRest self.new }
-        ensures memory { TakesNoMemory self.old self.new }
-    {
-        let cell = self.at(key);
-        let number = cell.number;
-        let slots = cell.slots.len() as SlotNo;
-        out.tell(Item::Event(Event::Unlinked(Name::Native(number))));
-        self.empty_each(key, slots, out);
-        self.set_preserved(key, false);
-    }
-
-    /// The native at a key goes back into the buffer with the purple mark.
-    pub(crate) fn give_back(&mut self, key: NKey)
-        requires at_rest { IsAtRest self.old }
-        requires live { IsSome (number_at (shows self.old) key.0) }
-        requires owned { CallersOwn [] (shows self.old) }
-        ensures shows { shows self.new ≡ with_heap (shows self.old) (suspect (heap_of (shows self.old)) (the_number (shows self.old) key.0)) }
-        ensures owned { Transfers [] [] (shows self.old) (shows self.new) }
-        ensures at_rest { IsAtRest self.new }
-        ensures memory { TakesNoMemory self.old self.new }
-    {
-        self.suspect(key);
     }
 }

@@ -1,5 +1,5 @@
 //! The counted heap as callers see it.
-ghost use Rattle.std.specs.Prelude.{◌≡◌, ◌≢◌, false, ℕ, ◌+◌, ◌<◌, ◌≤◌, List, [], ◌∷◌, ◌++◌, length, Some, None, option_map, option_and_then, slice_index_or, IsSome, IsTrue, IfNone, IfSome, MatchOption, OnOk, IfOk, OnErr};
+ghost use Rattle.std.specs.Prelude.{◌≡◌, ◌≢◌, false, ℕ, ◌+◌, ◌<◌, ◌≤◌, [], ◌∷◌, ◌++◌, length, Some, None, option_map, option_and_then, slice_index_or, IsSome, IsTrue, IfNone, IfSome, MatchOption, OnOk, IfOk, OnErr};
 ghost use Rattle.cc_names.specs.Names.{native};
 ghost use Rattle.cc_names.specs.Sizes.{most_slots};
 ghost use Rattle.cc_model.specs.Telling.{TellsEvents};
@@ -13,10 +13,11 @@ ghost use Rattle.cc_counted.specs.Scripts.{HasNoHolder, IsNextHolder};
 ghost use Rattle.cc_counted.specs.Suspects.{is_in_buffer, is_purple_in, front_number, number_behind};
 ghost use Rattle.cc_lists.specs.Members.{Among};
 
+use crate::cell::held_reflector;
 use crate::held::Held;
-use crate::population::Population;
-use cc_model::Notices;
-use cc_names::{NKey, NativeNo, NoMemory, SKey, SlotNo};
+use crate::natives::Natives;
+use cc_model::{Event, Item, Notices};
+use cc_names::{NKey, Name, NativeNo, NoMemory, SKey, SlotNo};
 use std::alloc::Global;
 use std::marker::Model;
 
@@ -31,7 +32,7 @@ use std::marker::Model;
 /// of its key, in the place of a number. Crates above give it its own name, and see to it that it is there.
 #[derive(Drop)]
 pub struct Counted {
-    natives: Population,
+    natives: Natives,
     alloc: Global,
 }
 
@@ -54,7 +55,7 @@ impl Counted {
         ensures owned { AreOwned [] result }
     {
         Counted {
-            natives: Population::new(alloc),
+            natives: Natives::new(alloc),
             alloc,
         }
     }
@@ -79,7 +80,9 @@ impl Counted {
         ensures owned { OnOk result (Transfers [] (no.0 ∷ []) self.old self.new) }
         ensures err { OnErr result (self.new ≡ self.old) }
     {
-        self.natives.create(self.alloc, no, slots)
+        let key = self.natives.insert(self.alloc, no, slots)?;
+        self.natives.touch(key);
+        Ok(key)
     }
 
     /// Takes one more reference, which the caller owns. The native stands in the buffer without the purple mark.
@@ -91,7 +94,8 @@ impl Counted {
         ensures heap { self.new ≡ with_heap self.old (add_ref (heap_of self.old) (the_number self.old key.0)) }
         ensures owned { Transfers [] (the_number self.old key.0 ∷ []) self.old self.new }
     {
-        self.natives.add_ref(key);
+        self.natives.raise(key);
+        self.natives.touch(key);
     }
 
     /// The native stands in the buffer without the purple mark: it keeps its place there, or goes last.
@@ -141,7 +145,7 @@ impl Counted {
         ensures live { IsTrue (is_live self.old result) }
         ensures owned { Transfers (numbers_held self.old item) (numbers_held self.old result) self.old self.new }
     {
-        self.natives.set_slot(key, i, item)
+        self.natives.write(key, i as usize, item)
     }
 
     /// How many slots a native has: 0 to 256.
@@ -166,7 +170,7 @@ impl Counted {
         ensures heap { self.new ≡ with_heap self.old (set_preserved (heap_of self.old) (the_number self.old key.0) on) }
         ensures owned { Transfers [] [] self.old self.new }
     {
-        self.natives.set_preserved(key, on);
+        self.natives.preserve(key, on);
     }
 
     /// Where a native's reflector stands in the script heap; none where it has none.
@@ -185,7 +189,7 @@ impl Counted {
         ensures reflectors { self.new ≡ with_reflector self.old key.0 (option_map (λ k. k.0) to) }
         ensures owned { Transfers [] [] self.old self.new }
     {
-        self.natives.set_reflector(key, to);
+        self.natives.reflect(key, to);
     }
 
     /// What a native refers to, counted from 0: what each slot holds, in their order, and behind the last slot its
@@ -196,7 +200,13 @@ impl Counted {
         ensures name { name_of self.now result ≡ slice_index_or (references_of self.now key.0) i None }
         ensures live { IsTrue (is_live self.now result) }
     {
-        self.natives.reference(key, i)
+        let cell = self.natives.at(key);
+        let place = i as usize;
+        if place < cell.slots.len() {
+            cell.slots[place].held()
+        } else {
+            held_reflector(cell)
+        }
     }
 
     /// The count of a native: the slots that hold it and the references that callers own.
@@ -296,7 +306,12 @@ impl Counted {
         ensures told { TellsEvents (N.telling out.old) (N.telling out.new) (unlink (heap_of self.old) (the_number self.old key.0)).events }
         ensures owned { Transfers (the_number self.old key.0 ∷ []) (the_number self.old key.0 ∷ []) self.old self.new }
     {
-        self.natives.unlink(key, out);
+        let cell = self.natives.at(key);
+        let number = cell.number;
+        let slots = cell.slots.len() as SlotNo;
+        out.tell(Item::Event(Event::Unlinked(Name::Native(number))));
+        self.natives.empty_each(key, slots, out);
+        self.natives.preserve(key, false);
     }
 
     /// Takes out the front of the buffer with its mark; none exactly where the buffer is empty.
@@ -315,7 +330,7 @@ impl Counted {
         ensures heap { self.new ≡ with_heap self.old (suspect (heap_of self.old) (the_number self.old key.0)) }
         ensures owned { Transfers [] [] self.old self.new }
     {
-        self.natives.give_back(key);
+        self.natives.suspect(key);
     }
 
     /// Whether a native stands in the buffer.

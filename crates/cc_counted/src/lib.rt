@@ -23,7 +23,6 @@ mod counted;
 mod held;
 mod natives;
 mod node;
-mod population;
 mod slot;
 
 pub use counted::Counted;

@@ -1,24 +1,31 @@
-//! The natives by key, and the lists that go through them.
-ghost use Rattle.std.specs.Prelude.{◌≡◌, ◌≢◌, true, false, ◌+◌, ◌<◌, ◌≤◌, [], ◌∷◌, ◌++◌, length, count_by, drop, Some, None, is_some, option_map, IsSome, IsTrue, IfOk, OnErr, replicate, slice_index_or, vec_capacity, vec_len};
+//! The natives by key, the lists that go through them, and a table of those that refer to script objects.
+ghost use Rattle.std.specs.Prelude.{◌≡◌, ◌≢◌, true, false, ℕ, ◌+◌, ◌<◌, ◌≤◌, ◌==◌, [], ◌∷◌, ◌++◌, length, count_by, drop, Some, None, is_some, option_map, if◌then◌else◌, IsSome, IsTrue, IfNone, IfOk, IfSome, OnErr, replicate, slice_index_or, vec_capacity, vec_len};
 ghost use Rattle.cc_lists.specs.Members.{Among};
 ghost use Rattle.cc_lists.specs.Walks.{first_of};
+ghost use Rattle.cc_names.specs.Sizes.{most_slots};
 ghost use Rattle.cc_chain.specs.Chains.{behind};
+ghost use Rattle.cc_holders.specs.Entries.{count_of};
+ghost use Rattle.cc_holders.specs.Known.{entry_at};
 ghost use Rattle.cc_purple.specs.Marks.{Marked, marked_as, first_key, holds_key, is_purple, key_after, with_mark, without_key};
-ghost use Rattle.cc_counted.specs.Lists.{cell_at, count_placed, slots_placed, with_one_less, with_one_more, with_slot, with_flag, reflected_by};
+ghost use Rattle.cc_counted.specs.Lists.{Placed, cell_at, count_placed, slots_placed, with_one_less, with_one_more, with_slot, with_flag, reflected_by};
 ghost use Rattle.cc_counted.specs.Stored.{Inserts, with_cell, with_queue, with_marks, without_cell};
+ghost use Rattle.cc_counted.specs.Scripts.{IsNextPlaced, HasNonePlaced, is_script, recounted, refers_by_reflector};
 
 use crate::cell::Cell;
 use crate::held::Held;
 use crate::node::{Node, Nodes, Order, Queue};
 use crate::slot::Slot;
 use cc_chain::{Chain, Neighbours};
+use cc_holders::Holders;
 use cc_names::{NKey, NativeNo, NoMemory, SKey, SlotNo, narrow_key};
 use cc_purple::Buffer;
 use slab::Slab;
 use std::alloc::{AllocError, Global};
 use std::marker::Model;
 
-/// The natives by key; all of them by rising number, those that wait to be deleted, and the buffer of suspects.
+/// The natives by key; all of them by rising number, those that wait to be deleted, and the buffer of suspects; and a table
+/// that has for each number the key of its native, with a count of the script objects that this refers to: in slots, and as
+/// its reflector, where that is preserved.
 ///
 /// The lists go through the natives themselves, so `insert` alone takes memory.
 #[derive(Drop)]
@@ -27,6 +34,7 @@ pub(crate) struct Natives {
     order: Chain<Order>,
     queue: Chain<Queue>,
     buffer: Buffer,
+    holders: Holders,
 }
 
 impl Model for Natives {
@@ -34,11 +42,11 @@ impl Model for Natives {
 
     ghost Value = { Stored };
 
-    ghost use Rattle.cc_counted.specs.Natives.{stored_of, IsChained};
+    ghost use Rattle.cc_counted.specs.Natives.{stored_of, IsKept};
 
     ghost view = { stored_of };
 
-    ghost invariant = { IsChained };
+    ghost invariant = { IsKept };
 }
 
 impl Natives {
@@ -53,6 +61,7 @@ impl Natives {
             order: Chain::new(),
             queue: Chain::new(),
             buffer: Buffer::new(),
+            holders: Holders::new(alloc),
         }
     }
 
@@ -114,6 +123,12 @@ impl Natives {
         let cell = &mut self.nodes.slab[key.0 as usize].cell;
         let old = cell.slots[i].held();
         cell.slots[i] = Slot::of(item);
+        recount(
+            cell,
+            &mut self.holders,
+            holds_script(old),
+            holds_script(item),
+        );
         old
     }
 
@@ -122,8 +137,14 @@ impl Natives {
         requires { IsSome (cell_at self.old.lists.cells key.0) }
         ensures { self.new ≡ with_cell key.0 (with_flag on) self.old }
     {
+        if self.at(key).preserved == on {
+            return;
+        }
         let cell = &mut self.nodes.slab[key.0 as usize].cell;
+        let before = refers_by_reflector(cell);
         cell.preserved = on;
+        let after = refers_by_reflector(cell);
+        recount(cell, &mut self.holders, before, after);
     }
 
     /// Writes where the reflector of the native at a key stands.
@@ -132,7 +153,23 @@ impl Natives {
         ensures { self.new ≡ with_cell key.0 (reflected_by (option_map (λ k. k.0) to)) self.old }
     {
         let cell = &mut self.nodes.slab[key.0 as usize].cell;
+        let before = refers_by_reflector(cell);
         cell.reflector = to;
+        let after = refers_by_reflector(cell);
+        recount(cell, &mut self.holders, before, after);
+    }
+
+    // What natives refer to
+
+    /// The native with the least number above `after` that refers to a script object, of all where there is no `after`.
+    pub(crate) fn next_holder(&self, after: Option<u32>) -> Option<NKey>
+        ensures next { IfSome result (λ k. IsNextPlaced self.now.lists.cells after k.0) }
+        ensures last { IfNone result (HasNonePlaced self.now.lists.cells after) }
+    {
+        match self.holders.next_marked_after(after) {
+            Some((_, key)) => Some(NKey(key)),
+            None => None,
+        }
     }
 
     // The order
@@ -145,6 +182,8 @@ impl Natives {
         no: NativeNo,
         slots: SlotNo,
     ) -> Result<NKey, NoMemory>
+        requires slots { slots ≤ most_slots }
+        requires fresh { (key : ℕ) (c : Placed) → cell_at self.old.lists.cells key ≡ Some c → c.number ≢ no.0 }
         ensures inserts { IfOk result (λ key. Inserts self.old.lists self.new.lists key.0
             (record { number = no.0; slots = replicate slots None; preserved = false; reflector = None; count = 1 })) }
         ensures err { OnErr result (self.new.lists ≡ self.old.lists) }
@@ -152,6 +191,7 @@ impl Natives {
         let empty = empty_slots(alloc, slots)?;
         self.nodes.slab.reserve(1)?;
         let key = narrow_key(self.nodes.slab.vacant_key())?;
+        self.holders.add(no.0, key)?;
         self.nodes.slab.insert_reserved(Node {
             cell: Cell {
                 slots: empty,
@@ -181,6 +221,7 @@ impl Natives {
     {
         self.order.unlink_at(&mut self.nodes, key.0);
         let node = self.nodes.slab.remove(key.0 as usize);
+        self.holders.remove(node.cell.number.0);
         node.cell
     }
 
@@ -305,4 +346,34 @@ fn empty_slots(alloc: Global, slots: SlotNo) -> Result<Vec<Slot>, AllocError>
         empty.push_reserved(Slot::of(None));
     }
     Ok(empty)
+}
+
+/// Whether a slot holds a script object.
+fn holds_script(slot: Option<Held>) -> bool
+    ensures { result ≡ is_script slot }
+{
+    match slot {
+        Some(Held::Script(_)) => true,
+        _ => false,
+    }
+}
+
+/// Whether a native has a reflector, and that is preserved.
+fn refers_by_reflector(cell: &Cell) -> bool
+    ensures { result ≡ refers_by_reflector cell.now }
+{
+    cell.preserved && cell.reflector.is_some()
+}
+
+/// Counts the script objects that a native refers to, where one place of it referred to one before, or does after.
+#[inline(always)]
+fn recount(cell: &Cell, holders: &mut Holders, before: bool, after: bool)
+    requires { count_of (entry_at holders.old cell.now.number) < 65535 }
+    ensures { (n : ℕ) → entry_at holders.new n ≡ (if cell.now.number == n then recounted before after (entry_at holders.old cell.now.number) else entry_at holders.old n) }
+{
+    match (before, after) {
+        (false, true) => holders.raise(cell.number.0),
+        (true, false) => holders.lower(cell.number.0),
+        _ => {}
+    }
 }

@@ -28,6 +28,6 @@ returns-clause-owned g c others o =
     let new = c.release.new.self.lists in
     let none = c.self.invariant.emptied in
     let was = subst (λ (v : Counts). AreOwned (the_number v c.args.key.0 ∷ others) v) (sym c.self.view_is) o in
-    owned-lists new c.release.ensures.comes_to.emptied others
-    (balanced-cascade l new (g.N.Notices.telling c.args.out.now) (g.N.Notices.telling c.release.new.out) (the_number (counts_of l) c.args.key.0) others none c.release.ensures.comes_to
+    owned-lists new c.release.ensures.emptied others
+    (balanced-cascade l new (g.N.Notices.telling c.args.out.now) (g.N.Notices.telling c.release.new.out) (the_number (counts_of l) c.args.key.0) others none c.release.ensures
     (IsBalanced-owned l c.self.invariant.placed none (the_number (counts_of l) c.args.key.0 ∷ others) was))

@@ -1,12 +1,16 @@
-use Rattle.std.proofs.Common.{◌≡◌, ℕ, List, Option, Some, None, false, refl, ap, sym, ◌∙◌, subst, arith}
+use Rattle.std.proofs.Common.{◌≡◌, ◌≢◌, ◌≤◌, ℕ, List, length, replicate, count_by, Option, Some, None, false, refl, ap, sym, ◌∙◌, subst, arith}
+use Rattle.std.proofs.lemmas.List.{length-replicate}
+use Rattle.cc_names.specs.Sizes.{most_slots}
 use Rattle.slab.specs.Slab.{Slab, Updates, get}
 use Rattle.cc_chain.specs.declared.link.Link.{Link}
 use Rattle.cc_counted.specs.declared.held.Held.{Held}
 use Rattle.cc_counted.specs.declared.node.Node.{Node}
-use Rattle.cc_counted.specs.Lists.{Placed}
-use Rattle.cc_counted.specs.Stored.{Inserts}
+use Rattle.cc_counted.specs.Lists.{Placed, cell_at}
+use Rattle.cc_counted.specs.Scripts.{is_script, scripts_of}
+use Rattle.cc_counted.specs.Stored.{Stored, Inserts}
 use Rattle.cc_counted.specs.Natives.{lists_of}
-use Rattle.cc_counted.proofs.Threading.{inserted, chained-reserved, chained-inserted, order-inserted, inserts}
+use Rattle.cc_counted.proofs.Scripts.{scripts-empty}
+use Rattle.cc_counted.proofs.Threading.{inserted, kept-reserved, kept-inserted, order-inserted, inserts}
 use Rattle.cc_counted.proofs.natives.Natives.insert.Goals as goal
 
 -- what is known at the key that the slab answered, at the same key in 32 bits
@@ -21,11 +25,21 @@ bare cell o q s e f g = rw (e, f, g) refl
 updates-at : (t u : Slab Node) (answered key : ℕ) (node : Option Node) → answered ≡ key → Updates t u answered node → Updates t u key node
 updates-at t u answered key node same updates = subst (λ k. Updates t u k node) same updates
 
+-- its slots are few, and hold none
+holds-none : (number n : ℕ) (slots : List (Option Held)) → slots ≡ replicate n None → scripts_of (record { number = number; slots = slots; preserved = false; reflector = None; count = 1 }) ≡ 0
+holds-none number n slots e = let empty = ap (count_by is_script) e ∙ scripts-empty n in omega (arith, empty)
+
+few-slots : (n : ℕ) (slots : List (Option Held)) → slots ≡ replicate n None → n ≤ most_slots → length slots ≤ most_slots
+few-slots n slots e few = let many = ap length e ∙ length-replicate {A = Option Held} n None in omega (arith, many, few)
+
 pub invariant_of-self : goal.invariant_of-self
-invariant_of-self c = chained-reserved c.self.inside c.self.invariant _ c.reserve.ensures.rest_kept
+invariant_of-self c = kept-reserved c.self.inside c.self.invariant _ c.self.inside.holders c.reserve.ensures.rest_kept (λ m. refl)
 
 pub invariant_of-self-in_err-key : goal.invariant_of-self-in_err-key
-invariant_of-self-in_err-key c = chained-reserved c.self.inside c.self.invariant _ c.reserve.ensures.rest_kept
+invariant_of-self-in_err-key c = kept-reserved c.self.inside c.self.invariant _ c.self.inside.holders c.reserve.ensures.rest_kept (λ m. refl)
+
+pub invariant_of-self-in_err-add : goal.invariant_of-self-in_err-add
+invariant_of-self-in_err-add c = kept-reserved c.self.inside c.self.invariant _ c.add.new.self c.reserve.ensures.rest_kept c.in_err-add.ensures.err
 
 pub push_back-requires-clause-chain : goal.push_back-requires-clause-chain
 push_back-requires-clause-chain c =
@@ -47,10 +61,13 @@ invariant_of-self-2 c =
     let vacant = vacant-at c.reserve.new.self c.insert_reserved.result c.in_ok-key.key same c.insert_reserved.ensures.was_vacant in
     let made = updates-at c.reserve.new.self c.insert_reserved.new.self c.insert_reserved.result c.in_ok-key.key _ same c.insert_reserved.ensures.updates in
     let there = made.changed ∙ ap Some (bare _ c.of.result c.of-2.result c.of-3.result c.of.ensures c.of-2.ensures c.of-3.ensures) in
-    chained-inserted n c.self.invariant c.reserve.new.self c.insert_reserved.new.self c.reserve.ensures.rest_kept c.in_ok-key.key _
-    vacant there made.others c.push_back.new.store c.push_back.new.self c.push_back.ensures.rest
+    kept-inserted n c.self.invariant c.reserve.new.self c.insert_reserved.new.self c.reserve.ensures.rest_kept c.in_ok-key.key _
+    vacant there made.others c.push_back.new.store c.push_back.new.self c.add.new.self c.push_back.ensures.rest
     (c.push_back.ensures.keys (lists_of n).order (order-inserted n c.self.invariant c.reserve.new.self c.insert_reserved.new.self c.reserve.ensures.rest_kept c.in_ok-key.key _
     vacant there made.others))
+    (subst (λ (v : Stored). (q : ℕ) (p : Placed) → cell_at v.lists.cells q ≡ Some p → p.number ≢ c.args.no.0) (sym c.self.view_is) c.requires.fresh)
+    (holds-none c.args.no.0 c.args.slots _ c.in_ok-empty.ensures.items) (few-slots c.args.slots _ c.in_ok-empty.ensures.items c.requires.slots)
+    c.in_ok-add.ensures.entries
 
 pub returns-clause-inserts : goal.returns-clause-inserts
 returns-clause-inserts c =
@@ -59,10 +76,10 @@ returns-clause-inserts c =
     let vacant = vacant-at c.reserve.new.self c.insert_reserved.result c.in_ok-key.key same c.insert_reserved.ensures.was_vacant in
     let made = updates-at c.reserve.new.self c.insert_reserved.new.self c.insert_reserved.result c.in_ok-key.key _ same c.insert_reserved.ensures.updates in
     let there = made.changed ∙ ap Some (bare _ c.of.result c.of-2.result c.of-3.result c.of.ensures c.of-2.ensures c.of-3.ensures) in
-    let P : List (Option Held) → Type 0 = λ slots. Inserts c.args.self.now.lists (lists_of (inserted n c.push_back.new.store c.push_back.new.self)) c.in_ok-key.key
+    let P : List (Option Held) → Type 0 = λ slots. Inserts c.args.self.now.lists (lists_of (inserted n c.push_back.new.store c.push_back.new.self c.add.new.self)) c.in_ok-key.key
     (record { number = c.args.no.0; slots = slots; preserved = false; reflector = None; count = 1 }) in
     subst P c.in_ok-empty.ensures.items
     (inserts n c.self.invariant c.reserve.new.self c.insert_reserved.new.self c.reserve.ensures.rest_kept c.in_ok-key.key _
-    vacant there made.others c.push_back.new.store c.push_back.new.self c.push_back.ensures.rest
+    vacant there made.others c.push_back.new.store c.push_back.new.self c.add.new.self c.push_back.ensures.rest
     (c.push_back.ensures.keys (lists_of n).order (order-inserted n c.self.invariant c.reserve.new.self c.insert_reserved.new.self c.reserve.ensures.rest_kept c.in_ok-key.key _
     vacant there made.others)) _ c.self.view_is)

@@ -1,10 +1,10 @@
-use Rattle.std.proofs.Common.{ap}
+use Rattle.std.proofs.Common.{ap, refl}
 use Rattle.cc_counted.specs.Lists.{with_one_less}
-use Rattle.cc_counted.proofs.Threading.{stored-written}
+use Rattle.cc_counted.proofs.Threading.{stored-written, kept-counted}
 use Rattle.cc_counted.proofs.natives.Natives.lower.Goals as goal
 
 pub invariant_of-self : goal.invariant_of-self
-invariant_of-self c = (stored-written c.self.inside c.self.invariant _ c.self.view_is c.args.key.0 _ c.index_mut.ensures.value with_one_less _ (ap with_one_less c.cell.view_is)).1
+invariant_of-self c = kept-counted c.self.inside c.self.invariant _ c.self.view_is c.args.key.0 _ c.index_mut.ensures.value with_one_less _ (ap with_one_less c.cell.view_is) c.self.inside.holders refl refl refl refl
 
 pub returns-clause-lists : goal.returns-clause-lists
-returns-clause-lists c = (stored-written c.self.inside c.self.invariant _ c.self.view_is c.args.key.0 _ c.index_mut.ensures.value with_one_less _ (ap with_one_less c.cell.view_is)).0
+returns-clause-lists c = stored-written c.self.inside c.self.invariant _ c.self.view_is c.args.key.0 _ c.index_mut.ensures.value with_one_less _ (ap with_one_less c.cell.view_is) c.self.inside.holders

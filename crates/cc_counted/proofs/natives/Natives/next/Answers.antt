@@ -8,5 +8,5 @@ use Rattle.cc_counted.proofs.natives.Natives.next.Goals as goal
 
 pub next-requires : goal.next-requires
 next-requires c =
-    among-linked (order_links (slots_in c.self.inside)) c.self.inside.order (lists_of c.self.inside).order c.self.invariant.order c.args.key.0
+    among-linked (order_links (slots_in c.self.inside)) c.self.inside.order (lists_of c.self.inside).order c.self.invariant.chained.order c.args.key.0
     (subst (λ (s : Stored). Among c.args.key.0 s.lists.order) (sym c.self.view_is) c.requires)

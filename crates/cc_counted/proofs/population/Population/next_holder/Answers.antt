@@ -1,8 +1,0 @@
-use Rattle.cc_counted.proofs.Scripts.{next-placed, none-placed}
-use Rattle.cc_counted.proofs.population.Population.next_holder.Goals as goal
-
-pub returns-in-Some-clause-next : goal.returns-in-Some-clause-next
-returns-in-Some-clause-next c = rw (← c.self.view_is) (next-placed c.self.inside.natives.lists.cells c.self.inside.holders c.self.invariant c.args.after _ c.in-Some.key c.in-Some.ensures.next)
-
-pub returns-in-None-clause-last : goal.returns-in-None-clause-last
-returns-in-None-clause-last c = rw (← c.self.view_is) (none-placed c.self.inside.natives.lists.cells c.self.inside.holders c.self.invariant c.args.after c.in-None.ensures.last)
