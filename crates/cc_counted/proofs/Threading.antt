@@ -113,7 +113,7 @@ module _ (n : Inside) (i : IsKept n) (s : Stored) (was : stored_of n ≡ s) wher
     pub stored-written : stored_of written ≡ with_cell key change s
     stored-written = stands.0 ∙ ap (with_cell key change) was
 
-    -- and the table with it
+    -- the table goes along where it knows the native that was written
     pub kept-written : AreKnown (set (cells_of (slots_in n)) key (Some (change node.cell))) j → IsKept written
     kept-written known = record { chained = stands.1; known = subst (λ cs. AreKnown cs j) (sym cells-then) known }
 
@@ -141,7 +141,7 @@ module _ (n : Inside) (i : IsKept n) (s : Stored) (was : stored_of n ≡ s) wher
     pub buffer-beside_order : IsBuffer (suspect_links v.slab.slots) (marks_in v.slab.slots) n.buffer (lists_of n).marks
     buffer-beside_order = grind arith
 
-  -- and no native itself,
+  -- or no native itself,
   kept-beside : (m : Inside) → m.holders ≡ n.holders → cells_of (slots_in m) ≡ cells_of (slots_in n) → IsChained m → IsKept m
   kept-beside m same cells chained = record { chained = chained; known = subst (λ cs. AreKnown cs m.holders) (sym cells) (subst (AreKnown _) (sym same) i.known) }
 

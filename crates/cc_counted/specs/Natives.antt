@@ -31,7 +31,7 @@ pub record IsChained (n : Inside) : Type 0 where
   pub queue : IsChain (queue_links (slots_in n)) n.queue (lists_of n).queue
   pub buffer : IsBuffer (suspect_links (slots_in n)) (marks_in (slots_in n)) n.buffer (lists_of n).marks
 
--- and the table knows each native
+-- EACH LIST IS A CHAIN, and the table of holders knows each native
 pub record IsKept (n : Inside) : Type 0 where
   pub chained : IsChained n
   pub known : AreKnown (lists_of n).cells n.holders

@@ -23,11 +23,10 @@ use slab::Slab;
 use std::alloc::{AllocError, Global};
 use std::marker::Model;
 
-/// The natives by key; all of them by rising number, those that wait to be deleted, and the buffer of suspects; and a table
-/// that has for each number the key of its native, with a count of the script objects that this refers to: in slots, and as
-/// its reflector, where that is preserved.
+/// The natives by key; all of them by rising number, those that wait to be deleted, and the buffer of suspects.
 ///
-/// The lists go through the natives themselves, so `insert` alone takes memory.
+/// The lists go through the natives themselves. A table has for each number the key of its native, and counts the script
+/// objects that the native refers to: in slots, and as its reflector, where that is preserved. `insert` alone takes memory.
 #[derive(Drop)]
 pub(crate) struct Natives {
     nodes: Nodes,
