@@ -1,135 +1,116 @@
-//! Lines of a source that gives a few bytes at a time, and the command of one of them.
+//! Lines of a source that gives a few bytes at a time, and what lines ask.
 
 use cc_model::{Command, Dialect};
 use cc_names::{Name, NativeNo, Reg, ScriptNo};
 use cc_outside::BytesSource;
 use cc_reader::{Line, Lines, ReadStop, parse};
-use std::test::Fail;
+
+/// Whether the first line of a source is a command, and ends behind its line feed.
+fn reads(source: &mut BytesSource) -> bool {
+    let mut lines = Lines::new(source, 200);
+    let read = lines.next() == Ok(Line::Text);
+    let asked = parse(lines.text(), Dialect::Start) == Some(Command::Drop(Reg::N(7)));
+    read & asked & (lines.taken() == 9)
+}
+
+/// Whether it is told where the first line goes over a limit, and that one byte more was taken.
+fn stops(source: &mut BytesSource) -> bool {
+    let mut lines = Lines::new(source, 7);
+    (lines.next() == Err(ReadStop::Limit)) & (lines.taken() == 8)
+}
 
 #[test]
-fn a_line_in_small_pieces_is_a_command(rt: HostRuntime) -> Result<(), Fail> {
-    let bytes = b"drop n7\r\ngc".to_vec(rt.alloc())?;
+fn lines_come_in_small_pieces(rt: HostRuntime) {
+    let bytes = b"drop n7\r\ngc".to_vec(rt.alloc()).expect(&rt, "memory");
     let mut source = BytesSource::new(bytes, Vec::new(rt.alloc()), 3);
-    let mut lines = Lines::new(&mut source, 200);
-    assert_eq!(rt; lines.next(), Ok(Line::Text));
-    assert_eq!(rt; lines.taken(), 9);
-    assert_eq!(rt;
-        parse(lines.text(), Dialect::Start),
-        Some(Command::Drop(Reg::N(7)))
-    );
-    Ok(())
-}
-
-#[test]
-fn a_byte_above_the_limit_is_told(rt: HostRuntime) -> Result<(), Fail> {
-    let bytes = b"drop n7\n".to_vec(rt.alloc())?;
+    assert!(rt; reads(&mut source));
+    let bytes = b"drop n7\n".to_vec(rt.alloc()).expect(&rt, "memory");
     let mut source = BytesSource::new(bytes, Vec::new(rt.alloc()), 3);
-    let mut lines = Lines::new(&mut source, 7);
-    assert_eq!(rt; lines.next(), Err(ReadStop::Limit));
-    assert_eq!(rt; lines.taken(), 8);
-    Ok(())
+    assert!(rt; stops(&mut source));
 }
 
-#[test]
-fn a_proxy_is_asked_for_with_two_script_registers(rt: HostRuntime) {
-    assert_eq!(rt;
-        parse(b"proxy s1 s0".as_slice(), Dialect::One),
-        Some(Command::Proxy(1, 0))
-    );
-    assert_eq!(rt;
-        parse(b"proxy s255 s255\r".as_slice(), Dialect::One),
-        Some(Command::Proxy(255, 255))
-    );
-    assert_eq!(rt; parse(b"proxy s0".as_slice(), Dialect::One), None);
-    assert_eq!(rt; parse(b"proxy n0 s0".as_slice(), Dialect::One), None);
-    assert_eq!(rt; parse(b"proxy s0 n0".as_slice(), Dialect::One), None);
-    assert_eq!(rt; parse(b"proxy s256 s0".as_slice(), Dialect::One), None);
+/// A line, and what it asks.
+type Row = (&'static str, Option<Command>);
+
+/// Whether each line asks that in a dialect.
+fn ask(dialect: Dialect, rows: &[Row]) -> bool {
+    let mut asked = true;
+    for (line, command) in rows {
+        asked &= parse(line.as_bytes(), dialect) == *command;
+    }
+    asked
 }
 
-#[test]
-fn a_dialect_decides_how_far_numbers_go(rt: HostRuntime) {
-    for dialect in [Dialect::Start, Dialect::One] {
-        assert_eq!(rt;
-            parse(b"native n255 64".as_slice(), dialect),
-            Some(Command::Native(255, 64))
-        );
-        assert_eq!(rt; parse(b"native n256 64".as_slice(), dialect), None);
-        assert_eq!(rt; parse(b"native n255 65".as_slice(), dialect), None);
-    }
-    assert_eq!(rt;
-        parse(b"native n1023 256".as_slice(), Dialect::Two),
-        Some(Command::Native(1023, 256))
-    );
-    assert_eq!(rt; parse(b"native n1024 256".as_slice(), Dialect::Two), None);
-    assert_eq!(rt; parse(b"native n1023 257".as_slice(), Dialect::Two), None);
-}
+/// Lines of version 1, also before a version was asked for.
+const OF_VERSION_1: &[Row] = &[
+    ("proxy s1 s0", Some(Command::Proxy(1, 0))),
+    ("proxy s255 s255\r", Some(Command::Proxy(255, 255))),
+    ("proxy s0", None),
+    ("proxy n0 s0", None),
+    ("proxy s0 n0", None),
+    ("proxy s256 s0", None),
+    ("native n255 64", Some(Command::Native(255, 64))),
+    ("native n256 64", None),
+    ("native n255 65", None),
+    ("move n1023 4294967295 n0 1", None),
+    ("why #1", None),
+];
+
+/// Lines of version 2.
+const OF_VERSION_2: &[Row] = &[
+    ("native n1023 256", Some(Command::Native(1023, 256))),
+    ("native n1024 256", None),
+    ("native n1023 257", None),
+    (
+        "move n1023 4294967295 n0 1",
+        Some(Command::Move(1023, 4_294_967_295, 0, 1)),
+    ),
+    ("move n1 0 n2", None),
+    ("move n1 0 n2 1 1", None),
+    ("move n1 0 s2 1", None),
+    ("move n1 0 n2 none", None),
+    (" version  2 \r", None),
+];
+
+/// A path is asked for with one name.
+const OF_PATHS: &[Row] = &[
+    ("why #1", Some(Command::Why(Name::Native(NativeNo(1))))),
+    (
+        " why  @4294967295 \r",
+        Some(Command::Why(Name::Script(ScriptNo(4_294_967_295)))),
+    ),
+    ("why ~20", Some(Command::Why(Name::Reflector(NativeNo(20))))),
+    ("why", None),
+    ("why 7", None),
+    ("why n7", None),
+    ("why #", None),
+    ("why #0", None),
+    ("why #01", None),
+    ("why #4294967296", None),
+    ("why #-1", None),
+    ("why # 1", None),
+    ("why #1 #2", None),
+    ("why ##1", None),
+    ("why none", None),
+    ("Why #1", None),
+];
+
+/// The version is asked for before any command.
+const OF_THE_START: &[Row] = &[
+    (" version  2 \r", Some(Command::Version2)),
+    ("version", None),
+    ("version 1", None),
+    ("version 02", None),
+    ("version 2 2", None),
+    ("Version 2", None),
+];
 
 #[test]
-fn a_move_is_of_version_2(rt: HostRuntime) {
-    let line = b"move n1023 4294967295 n0 1".as_slice();
-    assert_eq!(rt;
-        parse(line, Dialect::Two),
-        Some(Command::Move(1023, 4_294_967_295, 0, 1))
-    );
-    assert_eq!(rt; parse(line, Dialect::One), None);
-    assert_eq!(rt; parse(line, Dialect::Start), None);
-    for line in [
-        "move n1 0 n2",
-        "move n1 0 n2 1 1",
-        "move n1 0 s2 1",
-        "move n1 0 n2 none",
-    ] {
-        assert_eq!(rt; parse(line.as_bytes(), Dialect::Two), None);
-    }
-}
-
-#[test]
-fn why_is_of_version_2_and_asks_for_one_name(rt: HostRuntime) {
-    for (line, name) in [
-        ("why #1", Name::Native(NativeNo(1))),
-        (
-            " why  @4294967295 \r",
-            Name::Script(ScriptNo(4_294_967_295)),
-        ),
-        ("why ~20", Name::Reflector(NativeNo(20))),
-    ] {
-        let line = line.as_bytes();
-        assert_eq!(rt; parse(line, Dialect::Two), Some(Command::Why(name)));
-        assert_eq!(rt; parse(line, Dialect::One), None);
-        assert_eq!(rt; parse(line, Dialect::Start), None);
-    }
-    for line in [
-        "why",
-        "why 7",
-        "why n7",
-        "why #",
-        "why #0",
-        "why #01",
-        "why #4294967296",
-        "why #-1",
-        "why # 1",
-        "why #1 #2",
-        "why ##1",
-        "why none",
-        "Why #1",
-    ] {
-        assert_eq!(rt; parse(line.as_bytes(), Dialect::Two), None, "{line}");
-    }
-}
-
-#[test]
-fn the_version_is_asked_for_at_the_start(rt: HostRuntime) {
-    let line = b" version  2 \r".as_slice();
-    assert_eq!(rt; parse(line, Dialect::Start), Some(Command::Version2));
-    assert_eq!(rt; parse(line, Dialect::One), None);
-    assert_eq!(rt; parse(line, Dialect::Two), None);
-    for line in [
-        "version",
-        "version 1",
-        "version 02",
-        "version 2 2",
-        "Version 2",
-    ] {
-        assert_eq!(rt; parse(line.as_bytes(), Dialect::Start), None);
-    }
+fn lines_ask_what_their_dialect_says(rt: HostRuntime) {
+    assert!(rt; ask(Dialect::Start, OF_VERSION_1));
+    assert!(rt; ask(Dialect::One, OF_VERSION_1));
+    assert!(rt; ask(Dialect::One, &[(" version  2 \r", None)]));
+    assert!(rt; ask(Dialect::Two, OF_VERSION_2));
+    assert!(rt; ask(Dialect::Two, OF_PATHS));
+    assert!(rt; ask(Dialect::Start, OF_THE_START));
 }
