@@ -4,11 +4,11 @@ use Rattle.std.specs.List.{filter}
 use Rattle.std.proofs.lemmas.Bool.{eqb-true, eq-eqb, false≢true}
 use Rattle.cc_lists.specs.Members.{Among}
 use Rattle.cc_lists.specs.Walks.{HasDistinctKeys, left_at}
-use Rattle.cc_lists.proofs.Walks.{first_key-among, next_key-among, left-next}
+use Rattle.cc_lists.proofs.Walks.{next_key-among, left-next}
 use Rattle.cc_names.specs.declared.name.Name.{Name}
 use Rattle.cc_names.specs.Names.{native}
 use Rattle.cc_model.specs.Heap.{Heap, Buffered}
-use Rattle.cc_counted.specs.Suspects.{front_number, number_behind, is_in_buffer, is_purple_in}
+use Rattle.cc_counted.specs.Suspects.{number_behind, is_in_buffer, is_purple_in}
 use Rattle.cc_builder.specs.BuildSteps.{purple_name}
 
 -- the buffer from native k on
@@ -41,11 +41,7 @@ among-buffered (c ∷ bs) b k m e = go (among-buffered bs b k) (c.number == k) r
     go ih true t = refl
     go ih false t = ih (⊎_elim (λ s. absurd (false≢true (sym t ∙ eq-eqb c.number k (ap (λ (d : Buffered). d.number) s ∙ e)))) (λ n. n) m) e
 
--- the first is there,
-pub first-there : (bs : List Buffered) (k : ℕ) → front_number bs ≡ Some k → is_in_buffer bs k ≡ true
-first-there bs k e = let f = first_key-among (λ (b : Buffered). b.number) bs k e in among-buffered bs f.0 k f.1 f.2
-
--- and so is the one behind another
+-- what stands behind another is there
 pub after-there : (bs : List Buffered) (j k : ℕ) → number_behind bs j ≡ Some k → is_in_buffer bs k ≡ true
 after-there bs j k e = let f = next_key-among (λ (b : Buffered). b.number) bs j k e in among-buffered bs f.0 k f.1 f.2
 

@@ -123,19 +123,7 @@ module _ (h g k : Heap) (w : IsWellFormed k) (came : NoneCame g k) where
       let out : ¬ (Among (native j) (names_there k)) = λ i. l.gone (came (native j) i) in
       record { before = l.before; gone = out; unreached = λ r. out (reached-there k w (native j) r) }
 
-  -- where nothing is told afterwards
-  pub tells-later : (before after : Telling) → NothingLeft g k → TellsWhatIsFreed h g before after → TellsWhatIsFreed h k before after
-  tells-later before after stays o = record {
-    numbers = o.numbers;
-    told = o.told;
-    left = record {
-      once = o.left.once;
-      each = λ j i. still-left j (o.left.each j i);
-      rest = λ x i. ⊎_elim (λ l. inl (stays x l)) (λ r. inr r) (o.left.rest x i);
-    };
-  }
-
-  -- and where more is: what left first is none of what leaves then
+  -- where more is told afterwards: what left first is none of what leaves then
   pub tells-then : NoneCame h g → (a b c : Telling) → TellsWhatIsFreed h g a b → TellsWhatIsFreed g k b c → TellsWhatIsFreed h k a c
   tells-then was a b c o p = record {
     numbers = xs ++ ys;

@@ -1,17 +1,17 @@
 -- A MARKING BY KEYS is the marking of the definitions: it gives each object the same colour, and changes nothing else.
-use Rattle.std.proofs.Common.{arith, ◌≡◌, ℕ, List, refl}
+use Rattle.std.proofs.Common.{arith, ◌≡◌, ℕ, List}
 use Rattle.cc_lists.specs.Members.{Among}
 use Rattle.cc_model.specs.Colours as names
 use Rattle.cc_model.specs.Colours.{black_names, marked_names, marked}
 use Rattle.cc_laws_heap.proofs.Face.{IsSound-marked, colour_of}
-use Rattle.cc_script.specs.Objects.{Object, with_colour, colour_by}
+use Rattle.cc_script.specs.Objects.{Object, colour_by}
 use Rattle.cc_marking.specs.Marking.{black_keys, marked_keys, marked_from}
 use Rattle.cc_heaps.specs.Keyed.{IsInOrder}
 use Rattle.cc_heaps.specs.Changes.{KeepsKeys}
 use Rattle.cc_heaps.specs.Fields.{heap_of, keyed_of, IsLinked}
 use Rattle.cc_heaps.specs.declared.heaps.Heaps.TheInside.{Inside}
 use Rattle.cc_heaps.proofs.RootNames.{black_roots, gray_roots, black-alike, marked-alike}
-use Rattle.cc_heaps.proofs.ScriptWrites.{KeepsObjects, named-written, whole-written}
+use Rattle.cc_heaps.proofs.ScriptWrites.{named-written, whole-written}
 use Rattle.cc_heaps.proofs.ScriptsChanged.{with_objects, with_named}
 use Rattle.cc_heaps.proofs.ScriptCalls.{Becomes, becomes-written}
 
@@ -22,18 +22,11 @@ blacks p = black_keys p.scripts p.weak (black_roots p)
 abbrev marks : Inside → List ℕ
 marks p = marked_keys p.scripts p.weak (black_roots p) (gray_roots p)
 
--- an object gets the colour of its key
-abbrev recoloured : Inside → Object → Object
-recoloured p o = with_colour (colour_by (blacks p) (marks p) o.key) o
-
 -- the objects after marking
 abbrev pub marked_objects : Inside → List Object
 marked_objects p = marked_from (black_roots p) (gray_roots p) p.weak p.scripts
 
 module _ {owned : List ℕ} (p : Inside) (l : IsLinked p) (o : IsInOrder owned (keyed_of p)) where
-  keeps : KeepsObjects (recoloured p)
-  keeps = record { key = λ q. refl; name = λ q. refl; kind = λ q. refl; native = λ q. refl; delegate = λ q. refl }
-
   same-colour : (q : Object) → Among q p.scripts → colour_by (blacks p) (marks p) q.key ≡ names.colour_by (black_names (heap_of p)) (marked_names (heap_of p)) q.name
   same-colour q m = λ i. colour_of (black-alike p l o q m i) (marked-alike p l o q m i)
 

@@ -19,7 +19,7 @@ use Rattle.cc_lists.proofs.Members.{Among-map}
 use Rattle.cc_lists.proofs.Places.{among-get}
 use Rattle.cc_lists.proofs.Searching.{find-map, find-only}
 use Rattle.cc_names.specs.declared.kind.Kind.{Kind}
-use Rattle.cc_names.specs.declared.kind.Kind.TheVariants.{Plain, Reflector, Map, Proxy}
+use Rattle.cc_names.specs.declared.kind.Kind.TheVariants.{Reflector}
 use Rattle.cc_names.specs.declared.name.Name.{Name}
 use Rattle.cc_names.specs.declared.name.Name.TheVariants as name
 use Rattle.cc_names.specs.declared.number.NKey.{NKey}
@@ -30,12 +30,11 @@ use Rattle.cc_names.specs.Sizes.{most_slots}
 use Rattle.cc_model.specs.Slots.{Slots}
 use Rattle.cc_model.specs.Checks.{slots_or_none, native_of}
 use Rattle.cc_model.specs.Places.{places_in, places_of_native, places_of_script}
-use Rattle.cc_model.specs.Heap.{Heap, HeapNative, HeapScript, script_at}
+use Rattle.cc_model.specs.Heap.{HeapNative, HeapScript, script_at}
 use Rattle.cc_model.specs.WellFormed.{FitsName, IsWellFormed}
 use Rattle.cc_counted.specs.declared.held.Held.{Held}
 use Rattle.cc_counted.specs.declared.held.Held.TheVariants as held
 use Rattle.cc_counted.specs.Counts.{held_of_native, is_live, name_of, preserved_at, preserved_reflector, reflector_at, references_of, slots_at, slots_of}
-use Rattle.cc_counted.specs.Counts as counts
 use Rattle.cc_script.specs.Objects.{Object, object_at, is_there}
 use Rattle.cc_script.specs.Objects as objects
 use Rattle.cc_script.proofs.Reaching.{among-held}
@@ -67,9 +66,6 @@ places-same e is = λ i. places_at (sym e i) (is i)
 module _ (p : Inside) (owned : List ℕ) (l : IsLinked p) (o : IsInOrder owned (keyed_of p)) where
   abbrev v : Keyed
   v = keyed_of p
-
-  abbrev alone : Heap
-  alone = counts.heap_of p.counted
 
   -- A native
 
@@ -196,17 +192,6 @@ module _ (p : Inside) (owned : List ℕ) (l : IsLinked p) (o : IsInOrder owned (
       length-map q.slots (name_held p.scripts),
       ap length slots-are,
     )
-      where
-        fit : (x : Name) (kind : Kind) (slots : Slots) → FitsName x kind slots → length slots ≤ most_slots
-        fit (name.Native j) kind slots f = absurd f
-        fit (name.Script j) Plain slots f = f
-        fit (name.Script j) Map slots f = subst (λ ss. length ss ≤ most_slots) (sym f) (omega arith)
-        fit (name.Script j) Proxy slots f = subst (λ ss. length ss ≤ most_slots) (sym f) (omega arith)
-        fit (name.Script j) Reflector slots f = absurd f
-        fit (name.Reflector j) Reflector slots f = omega (arith, f)
-        fit (name.Reflector j) Plain slots f = absurd f
-        fit (name.Reflector j) Map slots f = absurd f
-        fit (name.Reflector j) Proxy slots f = absurd f
 
     -- a script object that may be there has its name,
     held-is_named : (x : Option SKey) → held_name v (option_map held.Script x) ≡ name_held p.scripts (option_map (λ (r : SKey). r.0) x)

@@ -8,7 +8,7 @@ use Rattle.cc_collector.specs.Kept.{running_snapshot}
 use Rattle.cc_collector.proofs.GoingOn.{RunsIn-kept}
 use Rattle.cc_host.specs.Hosted.{Hosted, IsKept}
 use Rattle.cc_host.specs.Steps.{IsStep, IsTried}
-use Rattle.cc_host.specs.Calls.{Does, Tries}
+use Rattle.cc_host.specs.Calls.{Tries}
 
 -- the host of these heaps
 abbrev pub hosted : Keyed → Option Built → ℕ → Hosted
@@ -21,9 +21,6 @@ module _ {premise : Type 0} {change : Graph → Graph} (v w : Keyed) (c : Option
     suspected = t.kept.suspected (candidates_now (running_snapshot c)) k.suspected;
     spared = t.spared;
   }
-
-  pub step-does : Does premise change (hosted v c m) (hosted w c m)
-  step-does = record { stands = t.stands; doomed = t.doomed; keys = t.kept.keys; running = refl; mark = refl }
 
 module _ {premise : Type 0} (v w : Keyed) (c : Option Built) (m : ℕ) (t : IsTried premise v w) where
   pub tried-keeps : IsKept (hosted v c m) → IsKept (hosted w c m)

@@ -1,5 +1,5 @@
 -- A SESSION HAS ROOM after each call, where it had some before.
-use Rattle.std.proofs.Common.{◌≡◌, ℕ, ◌+◌, ◌<◌, ◌≤◌, false, List, [], ◌∷◌, ◌++◌, map, length, refl, sym, ap, subst, inl, inr, ⊎_elim, arith, Result, Ok, Err, IfOk, OnErr, OnOk, ◌∙◌}
+use Rattle.std.proofs.Common.{◌≡◌, ℕ, ◌+◌, ◌≤◌, false, List, [], ◌∷◌, ◌++◌, map, length, refl, sym, ap, subst, inl, inr, ⊎_elim, arith, Result, Ok, Err, IfOk, OnErr, OnOk, ◌∙◌}
 use Rattle.std.proofs.lemmas.List.{length-append, length-map}
 use Rattle.cc_lists.specs.Members.{Among}
 use Rattle.cc_lists.proofs.Members.{Among-left, Among-right}
@@ -53,10 +53,6 @@ pub record MayCollect (h : Hosted) (q : Queued) : Type 0 where
 -- it was taken
 pub may-collect : (h : Hosted) (q p : Queued) → HasRoom h q → p.items ≡ q.items → p.broken ≡ q.broken → length q.items + most_told h ≤ p.room → MayCollect h p
 may-collect h q p r items broken room = record { whole = subst (λ b. b ≡ false) (sym broken) r.whole; room = omega (arith, room, ap length items) }
-
--- it is refused only where something waits
-pub waits-where_refused : (h : Hosted) (q : Queued) → HasRoom h q → q.room < length q.items + most_told h → ¬ (q.items ≡ [])
-waits-where_refused h q r full e = absurd (omega (arith, full, r.all, ap length e))
 
 -- What is told leaves room
 
