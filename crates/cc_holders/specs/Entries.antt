@@ -30,11 +30,6 @@ abbrev pub one_less : Entry → Entry
 one_less Unknown = Unknown
 one_less (Known count key) = Known (count - 1) key
 
--- the same with another key
-abbrev pub with_key : ℕ → Entry → Entry
-with_key k Unknown = Unknown
-with_key k (Known count key) = Known count k
-
 abbrev pub one_if : Bool → ℕ
 one_if b = if b then 1 else 0
 

@@ -1,6 +1,6 @@
 //! What a table knows of a number.
 ghost use Rattle.std.specs.Prelude.{◌≡◌, ◌<◌};
-ghost use Rattle.cc_holders.specs.Entries.{count_of, is_known, is_marked, key_of, one_if, one_less, one_more, with_key};
+ghost use Rattle.cc_holders.specs.Entries.{count_of, is_known, is_marked, key_of, one_if, one_less, one_more};
 
 /// What a table knows of a number. It is marked as long as its count is above zero.
 #[derive(Clone, Copy, Debug, PartialEq, Eq, Drop)]
@@ -70,16 +70,6 @@ impl Entry {
         match self {
             Entry::Known(count, key) if count > 0 => Entry::Known(count - 1, key),
             entry => entry,
-        }
-    }
-
-    /// The same with this key.
-    pub(crate) fn keyed(self, key: u32) -> Entry
-        ensures { result ≡ with_key key self }
-    {
-        match self {
-            Entry::Unknown => Entry::Unknown,
-            Entry::Known(count, _) => Entry::Known(count, key),
         }
     }
 }

@@ -1,7 +1,7 @@
 //! The table: keys and counts by number.
 ghost use Rattle.std.specs.Prelude.{◌≡◌, ℕ, ◌<◌, ◌≤◌, ◌/◌, ◌==◌, ◌^◌, [], None, if◌then◌else◌, vec_capacity, IfNone, IfSome, IsTrue, OnErr, OnOk};
 ghost use Rattle.cc_holders.specs.declared.entry.Entry.TheVariants.{Unknown, Known};
-ghost use Rattle.cc_holders.specs.Entries.{IsFirst, IsGivenBack, behind, count_of, is_known, one_less, one_more, page_in, with_key};
+ghost use Rattle.cc_holders.specs.Entries.{IsFirst, IsGivenBack, behind, count_of, is_known, one_less, one_more, page_in};
 ghost use Rattle.cc_holders.specs.Known.{entry_at, key_at};
 
 use crate::entry::Entry;
@@ -80,17 +80,6 @@ impl Holders {
         let entry = self.get(number);
         if entry.is_known() {
             put(&mut self.groups, number as usize, entry.lowered());
-        }
-    }
-
-    /// The number, where it is known, has this key from now on. Takes no memory.
-    pub fn set_key(&mut self, number: u32, key: u32)
-        ensures entries { (n : ℕ) → entry_at self.new n ≡ (if number == n then with_key key (entry_at self.old number) else entry_at self.old n) }
-        ensures memory { vec_capacity self.new.groups ≡ vec_capacity self.old.groups }
-    {
-        let entry = self.get(number);
-        if entry.is_known() {
-            put(&mut self.groups, number as usize, entry.keyed(key));
         }
     }
 
