@@ -232,11 +232,22 @@ static void move_and_proxy(cc_collector *c) {
     WANT(cc_is_there(c, &proxy), CC_GONE);
 }
 
+/* A table of the roots that cc_hold made, which is a native of 256 slots. It is found by trying keys and numbers. */
+static cc_object table_of(cc_collector *c, uint64_t mark) {
+    cc_object table = {mark, 0, 0, CC_NATIVE};
+    uint16_t slots;
+    for (table.number = 1; table.number < 100; table.number++)
+        for (table.key = 0; table.key < 100; table.key++)
+            if (cc_slots(c, &table, &slots) == CC_OK && slots == 256) return table;
+    printf("there is no table\n");
+    exit(1);
+}
+
 /* Each status once. Nothing is changed, and nothing is written. */
 static void meet_each_status(cc_collector *c, const struct page *p) {
     static const cc_object untouched = {5, 5, 5, 5};
     cc_collector closed = CC_COLLECTOR_CLOSED, other = CC_COLLECTOR_CLOSED;
-    cc_object stranger, out, native, plain, second;
+    cc_object stranger, out, native, plain, second, table;
     cc_root root, strange_root;
     cc_told told;
     uint64_t natives, natives_after;
@@ -301,6 +312,11 @@ static void meet_each_status(cc_collector *c, const struct page *p) {
     TRY(cc_release(c, &root));
     WANT(cc_release(c, &root), CC_GONE);
     printf("  CC_GONE: a root that was released, twice\n");
+    table = table_of(c, native.mark);
+    WANT(cc_store(c, &table, 0, &nothing), CC_GONE);
+    WANT(cc_move_slot(c, &native, 0, &table, 0), CC_GONE);
+    WANT(cc_move_slot(c, &table, 0, &native, 0), CC_GONE);
+    printf("  CC_GONE: a table of roots, which is not the program's to write\n");
 
     TRY(cc_new_plain(c, 9, 1, &plain));
     WANT(cc_store(c, &plain, 0, &native), CC_KIND);
@@ -309,6 +325,7 @@ static void meet_each_status(cc_collector *c, const struct page *p) {
     WANT(cc_wrap(c, &plain, &out), CC_KIND);
     WANT(cc_unwrap(c, &native, &out), CC_KIND);
     WANT(cc_preserve(c, &plain), CC_KIND);
+    WANT(cc_set_data(c, &plain, 1), CC_KIND);
     WANT(cc_set_entry(c, &plain, &plain, &plain), CC_KIND);
     WANT(cc_entry(c, &p->map, &native, &out), CC_KIND);
     printf("  CC_KIND: an object of the wrong kind\n");
