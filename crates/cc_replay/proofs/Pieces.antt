@@ -2,6 +2,7 @@
 use Rattle.std.proofs.Common.{◌≡◌, ℕ, ◌+◌, ◌<◌, List, [], ◌∷◌, ◌++◌, length, take, drop, get_or, Option, sym, ap, subst, ◌∙◌, append_assoc, append-nil, flat_map}
 use Rattle.std.proofs.lemmas.Grind.{flat_map-append}
 use Rattle.std.proofs.lemmas.List.{take-append-drop, take_more}
+use Rattle.std.proofs.Math.Seq.{take-add}
 use Rattle.std.specs.Io.KnownBytes.{Appends}
 use Rattle.cc_lists.proofs.KnownBytes.{Appends-trans}
 use Rattle.cc_model.specs.Telling.{AppendsFront}
@@ -38,3 +39,7 @@ module _ {X : Type 0} (text : X → List ℕ) (xs : List X) (i : ℕ) (d : X) (w
         ∙ sym (append_assoc (flat_map text (take i xs)) q.front (q.rest ++ flat_map text (drop (i + 1) xs)))));
     grown = Appends-trans a b c (flat_map text (take i xs)) q.front p q.grown;
   }
+
+-- ONE MORE PIECE OF A SLICE WAS WRITTEN
+pub Appends-more : (a b c : Option (List ℕ)) (bytes : List ℕ) (n m : ℕ) → Appends a b (take n bytes) → Appends b c (take m (drop n bytes)) → Appends a c (take (n + m) bytes)
+Appends-more a b c bytes n m p q = rw take-add (Appends-trans a b c (take n bytes) (take m (drop n bytes)) p q)

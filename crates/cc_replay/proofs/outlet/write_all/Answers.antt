@@ -1,8 +1,10 @@
 use Rattle.std.proofs.Common.{arith, take, drop, sym}
 use Rattle.std.proofs.lemmas.List.{take-append-drop}
 use Rattle.std.proofs.lemmas.Grind.{common_steps}
-use Rattle.cc_lists.proofs.KnownBytes.{on_err_of, Appends-kept, Appends-more}
+use Rattle.std.proofs.KnownBytes.{Appends-kept}
+use Rattle.cc_lists.proofs.KnownBytes.{on_err_of}
 use Rattle.cc_model.specs.Telling.{AppendsFront}
+use Rattle.cc_replay.proofs.Pieces.{Appends-more}
 use Rattle.cc_replay.proofs.outlet.write_all.Goals as goal
 
 pub returns-in_err-taken-clause-part : goal.returns-in_err-taken-clause-part
