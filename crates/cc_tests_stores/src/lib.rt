@@ -1,11 +1,8 @@
 //! Tests of the small stores and of names: each call once, and over the borders of their pages and blocks.
 //!
-//! They stand over traits and type parameters, which are given concrete types here. A crate with tests is proved twice, so
-//! they stand here, once for all of these crates.
+//! A crate with tests is proved twice, so they stand here, once for all of these crates.
 #![tactic(auto)]
 
-#[cfg(test)]
-mod chain;
 #[cfg(test)]
 mod holders;
 #[cfg(test)]
@@ -18,9 +15,5 @@ mod names;
 mod pages;
 #[cfg(test)]
 mod pool;
-#[cfg(test)]
-mod purple;
-#[cfg(test)]
-mod steps;
 #[cfg(test)]
 mod weakmaps;

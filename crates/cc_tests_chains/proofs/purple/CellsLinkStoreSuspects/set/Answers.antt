@@ -1,7 +1,7 @@
 use Rattle.std.proofs.Common.{◌≡◌, refl}
 use Rattle.std.proofs.lemmas.Option.{slice_get_read}
 use Rattle.cc_chain.proofs.Stores.{part_at-set, part_at-kept, part_at-live}
-use Rattle.cc_tests_stores.proofs.purple.CellsLinkStoreSuspects.set.Goals as goal
+use Rattle.cc_tests_chains.proofs.purple.CellsLinkStoreSuspects.set.Goals as goal
 
 both : {A B : Type 0} (a c : A) (b d : B) → a ≡ c → b ≡ d → ◌≡◌ {A = A × B} (a, b) (c, d)
 both a c b d e f = rw (e, f) refl
