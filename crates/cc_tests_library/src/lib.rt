@@ -1,9 +1,6 @@
-//! The collector as a library: the lines that the README shows and a listener on the page on embedding, as tests; and the calls
-//! of a host that no session and no program tries.
+//! The collector as a library: the lines that the README shows, and the listener of the page on embedding, as tests.
 #![tactic(auto)]
 
-#[cfg(test)]
-mod host;
 #[cfg(test)]
 mod library;
 #[cfg(test)]
