@@ -28,11 +28,17 @@ pub struct Document {
 }
 
 impl Document {
+    // The weak map of all private data, which a root holds.
+    fn data_in(session: &mut Session) -> Result<Object, Stop> {
+        let data = session.new_map(MADE)?;
+        session.root(data)?;
+        Ok(data)
+    }
+
     /// No elements. Row 0 is that of each native to which the program gave no number.
     pub fn new(alloc: Global) -> Result<Document, Stop> {
         let mut session = Session::new(alloc, Limits::new(1000, 1000, 0), 1)?;
-        let data = session.new_map(MADE)?;
-        session.root(data)?;
+        let data = Document::data_in(&mut session)?;
         let mut titles = Slab::new(alloc);
         titles.insert("table of roots").map_err(|_| Stop::NoMemory)?;
         Ok(Document {
