@@ -19,33 +19,23 @@ const REFLECTOR: RegNo = 1;
 /// The script root of another world.
 pub const PROXY: RegNo = 2;
 
-/// A session, the weak map of all private data, and a row for each element that was not told as freed.
+/// The script root of the weak map of all private data.
+pub const DATA: RegNo = 3;
+
+/// A session, and a row for each element that was not told as freed.
 #[derive(Drop)]
 pub struct Document {
     pub session: Session,
-    data: Object,
     titles: Slab<&'static str>,
 }
 
 impl Document {
-    // The weak map of all private data, which a root holds.
-    fn data_in(session: &mut Session) -> Result<Object, Stop> {
-        let data = session.new_map(MADE)?;
-        session.root(data)?;
-        Ok(data)
-    }
-
     /// No elements. Row 0 is that of each native to which the program gave no number.
     pub fn new(alloc: Global) -> Result<Document, Stop> {
-        let mut session = Session::new(alloc, Limits::new(1000, 1000, 0), 1)?;
-        let data = Document::data_in(&mut session)?;
         let mut titles = Slab::new(alloc);
         titles.insert("table of roots").map_err(|_| Stop::NoMemory)?;
-        Ok(Document {
-            session,
-            data,
-            titles,
-        })
+        let session = Session::new(alloc, Limits::new(1000, 1000, 0), 1)?;
+        Ok(Document { session, titles })
     }
 
     /// Makes an element, which a root holds until the next one is made. Its row is its number of the program's.
@@ -104,7 +94,8 @@ impl Document {
     pub fn remember(&mut self, element: Object, other: Object) -> Result<(), Stop> {
         let closure = self.close_over(other)?;
         let reflector = self.reflect(element)?;
-        self.session.set_entry(self.data, reflector, closure)
+        let data = self.session.script_root(DATA).ok_or(Stop::Gone)?;
+        self.session.set_entry(data, reflector, closure)
     }
 
     /// Another world of script gets a proxy of an element, in a root of its own.

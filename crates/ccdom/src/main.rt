@@ -8,7 +8,7 @@ use cc_host::{Object, Stop};
 use cc_model::{Event, Item, Reason};
 use cc_names::Name;
 use cc_session::Root;
-use document::{Document, PROXY};
+use document::{DATA, Document, PROXY};
 
 /// Writes an object. A native has a title of the program's.
 fn show(rt: &impl Print, document: &Document, word: &str, name: Name) -> Result<()> {
@@ -60,6 +60,7 @@ fn explain(rt: &impl Print, document: &mut Document, menu: Object) -> Result<()>
 /// A page with a text and a menu of two entries. The menu listens for its second entry, which has private data on the menu, and
 /// of which another world has a proxy. The page's root, the page and the menu.
 fn build(document: &mut Document) -> Result<(Root, Object, Object)> {
+    document.session.new_map(DATA)?;
     let page = document.make("page")?;
     let root = document.session.root(page)?;
     let menu = document.append(page, "menu")?;
