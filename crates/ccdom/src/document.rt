@@ -30,7 +30,7 @@ pub struct Document {
 }
 
 impl Document {
-    /// No elements. Row 0 is that of each native to which the program gave no number.
+    /// No elements. The first row is that of each native to which the program gave no number.
     pub fn new(alloc: Global) -> Result<Document, Stop> {
         let mut titles = Slab::new(alloc);
         titles.insert("table of roots").map_err(|_| Stop::NoMemory)?;
