@@ -8,7 +8,7 @@ use Rattle.cc_names.specs.declared.register.Reg.{Reg}
 use Rattle.cc_names.specs.declared.register.Reg.TheVariants.{N, S}
 use Rattle.cc_names.specs.Names.{native, object, reflector, is_native, is_script, is_reflector}
 use Rattle.cc_model.specs.declared.command.Command.{Command}
-use Rattle.cc_model.specs.declared.command.Command.TheVariants.{Nothing, Version2, Native, Script, WeakMap, Proxy, CopyNative, CopyScript, Drop, Set, Get, Move, Put, Take, Wrap, Unwrap, Preserve, SetEntry, GetEntry, Expose, Why, Slice, Collect, Gc, Census}
+use Rattle.cc_model.specs.declared.command.Command.TheVariants.{Native, Script, WeakMap, Proxy, CopyNative, CopyScript, Set, Get, Move, Put, Take, Wrap, Unwrap, Preserve, SetEntry, GetEntry, Expose}
 use Rattle.cc_model.specs.declared.item.Refusal.{Refusal}
 use Rattle.cc_model.specs.declared.item.Refusal.TheVariants.{Empty, Kind, Slot, Full}
 use Rattle.cc_model.specs.declared.item.Reply.{Reply}
@@ -64,15 +64,7 @@ reflector_of None = None
 
 -- the registers that must hold an object
 abbrev pub needed : Command → List Reg
-needed Nothing = []
-needed Version2 = []
-needed (Native d n) = []
-needed (Script d n) = []
-needed (WeakMap d) = []
 needed (Proxy d s) = S s ∷ []
-needed (CopyNative d s) = []
-needed (CopyScript d s) = []
-needed (Drop r) = []
 needed (Set d i r) = N d ∷ option_to_list r
 needed (Get r s i) = N s ∷ []
 needed (Move d i s j) = N d ∷ N s ∷ []
@@ -84,11 +76,7 @@ needed (Preserve s) = S s ∷ []
 needed (SetEntry m k v) = S m ∷ S k ∷ map S (option_to_list v)
 needed (GetEntry d m k) = S m ∷ S k ∷ []
 needed (Expose s i) = N s ∷ []
-needed (Why x) = []
-needed (Slice u) = []
-needed Collect = []
-needed Gc = []
-needed Census = []
+needed _ = []
 
 abbrev pub lacks_object : Objects → Command → Bool
 lacks_object o c = list_any (λ r. is_none (o.register r)) (needed c)

@@ -8,10 +8,11 @@ use Rattle.cc_names.specs.declared.kind.Kind.TheVariants.{Plain, Reflector, Map,
 use Rattle.cc_names.specs.declared.kind.Colour.TheVariants.{Black}
 use Rattle.cc_names.specs.Names.{native, object, reflector}
 use Rattle.cc_model.specs.declared.command.Command.{Command}
-use Rattle.cc_model.specs.declared.command.Command.TheVariants.{Nothing, Version2, Native, Script, WeakMap, Proxy, CopyNative, CopyScript, Drop, Set, Get, Move, Put, Take, Wrap, Unwrap, Preserve, SetEntry, GetEntry, Expose, Why, Slice, Collect, Gc, Census}
+use Rattle.cc_model.specs.declared.command.Command.TheVariants.{Native, Script, WeakMap, Proxy, Wrap, SetEntry}
 use Rattle.cc_model.specs.Slots.{empty_slots, reflector_slots}
 use Rattle.cc_model.specs.Entries.{with_entry, without_entry}
-use Rattle.cc_model.specs.Checks.{slot_at, value_at, reflector_of, native_of}
+use Rattle.cc_model.specs.Checks.{slot_at, value_at, reflector_of}
+use Rattle.cc_model.specs.Deeds.{Deed, nothing_done, native_made, plain_made, map_made, proxy_made, native_held, script_held, script_copied, native_stored, slot_moved, script_stored, reflector_held, reflector_preserved, entry_written, object_exposed, deed_of}
 use Rattle.cc_model.specs.Heap.{Heap, Outcome, silently, register, objects_of, source, delegate_at, has_reflector, set_register, set_slot, preserve, touch}
 use Rattle.cc_model.specs.Cascade.{add_ref, take_up, let_go}
 use Rattle.cc_model.specs.Exposure.{exposed}
@@ -102,35 +103,27 @@ set_entry h None k v = h
 abbrev pub put_in_script : Heap → Option Name → ℕ → Option Name → Heap
 put_in_script h x i y = set_slot (preserve h x) x i y
 
+-- what a deed does to the heaps, and what is told meanwhile
+unfoldable pub done_in : Heap → Deed → Outcome
+done_in h nothing_done = silently h
+done_in h (native_made d n) = make_native h d n
+done_in h (plain_made d n) = silently (make_object h d Plain n None)
+done_in h (map_made d) = silently (make_object h d Map 0 None)
+done_in h (proxy_made d x) = silently (make_proxy h d x)
+done_in h (native_held d x) = hold_native h d x
+done_in h (script_held d x) = silently (hold_script h d x)
+done_in h (script_copied d x) = silently (set_register h (S d) x)
+done_in h (native_stored d i x) = store_native h d i x
+done_in h (slot_moved d i s j) = move_slot h d i s j
+done_in h (script_stored x i y) = silently (put_in_script h x i y)
+done_in h (reflector_held d x) = silently (set_register (wrapped h x) (S d) (reflector_of x))
+done_in h (reflector_preserved x) = silently (preserve h x)
+done_in h (entry_written m k v) = silently (set_entry h m k v)
+done_in h (object_exposed x) = silently (exposed h x)
+
 -- THE EFFECTS of a command that passes its checks and has its memory
 unfoldable pub effects : Heap → Command → Outcome
-effects h (Native d n) = make_native h d n
-effects h (Script d n) = silently (make_object h d Plain n None)
-effects h (WeakMap d) = silently (make_object h d Map 0 None)
-effects h (Proxy d s) = silently (make_proxy h d (register h (S s)))
-effects h (CopyNative d s) = hold_native h d (register h (N s))
-effects h (CopyScript d s) = silently (set_register h (S d) (register h (S s)))
-effects h (Drop (N d)) = put_in_register h d None
-effects h (Drop (S d)) = silently (set_register h (S d) None)
-effects h (Set d i r) = store_native h d i (source h r)
-effects h (Get (N d) s i) = hold_native h d (slot_at (objects_of h) (N s) i)
-effects h (Get (S d) s i) = silently (hold_script h d (slot_at (objects_of h) (N s) i))
-effects h (Move d i s j) = move_slot h d i s j
-effects h (Put d i s) = silently (put_in_script h (register h (S d)) i (source h (option_map S s)))
-effects h (Take d s i) = silently (hold_script h d (slot_at (objects_of h) (S s) i))
-effects h (Wrap d s) = silently (set_register (wrapped h (register h (N s))) (S d) (reflector_of (register h (N s))))
-effects h (Unwrap d s) = hold_native h d (native_of (register h (S s)))
-effects h (Preserve s) = silently (preserve h (register h (S s)))
-effects h (SetEntry m k v) = silently (set_entry h (register h (S m)) (register h (S k)) (source h (option_map S v)))
-effects h (GetEntry d m k) = silently (hold_script h d (value_at (objects_of h) (register h (S m)) (register h (S k))))
-effects h (Expose s i) = silently (exposed h (slot_at (objects_of h) (N s) i))
-effects h Nothing = silently h
-effects h Version2 = silently h
-effects h (Why x) = silently h
-effects h (Slice u) = silently h
-effects h Collect = silently h
-effects h Gc = silently h
-effects h Census = silently h
+effects h c = done_in h (deed_of (objects_of h) c)
 
 abbrev pub lacks_reflector : Heap → Option Name → Bool
 lacks_reflector h (Some (name.Native k)) = not (has_reflector h k.0)

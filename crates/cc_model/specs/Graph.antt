@@ -8,13 +8,13 @@ use Rattle.cc_names.specs.declared.register.Reg.TheVariants.{N, S}
 use Rattle.cc_names.specs.Names.{native, object}
 use Rattle.cc_names.specs.Sizes.{bank_length}
 use Rattle.cc_model.specs.declared.command.Command.{Command}
-use Rattle.cc_model.specs.declared.command.Command.TheVariants.{Nothing, Version2, Native, Script, WeakMap, Proxy, CopyNative, CopyScript, Drop, Set, Get, Move, Put, Take, Wrap, Unwrap, Preserve, SetEntry, GetEntry, Expose, Why, Slice, Collect, Gc, Census}
 use Rattle.cc_model.specs.declared.item.Refusal.{Refusal}
 use Rattle.cc_model.specs.declared.item.Reply.{Reply}
 use Rattle.cc_model.specs.Banks.{Bank, of_natives, of_scripts, bank_of, place_in_bank}
 use Rattle.cc_model.specs.Slots.{Slots, empty_slots, reflector_slots}
 use Rattle.cc_model.specs.Entries.{Entry, value_in, with_entry, without_entry}
-use Rattle.cc_model.specs.Checks.{Objects, slot_at, value_at, reflector_of, native_of, refusal_of, reply_of}
+use Rattle.cc_model.specs.Checks.{Objects, slot_at, reflector_of, refusal_of, reply_of}
+use Rattle.cc_model.specs.Deeds.{Deed, nothing_done, native_made, plain_made, map_made, proxy_made, native_held, script_held, script_copied, native_stored, slot_moved, script_stored, reflector_held, reflector_preserved, entry_written, object_exposed, deed_of}
 
 -- a native: its slots, whether its reflector is preserved, and its reflector's slots, where it was ever wrapped
 pub record GraphNative : Type 0 where
@@ -193,33 +193,27 @@ abbrev pub with_proxy : Graph → ℕ → Option Name → Graph
 with_proxy g d None = g
 with_proxy g d (Some x) = set_register (with_script (preserve g (Some x)) (proxy x)) (S d) (Some (object (length g.scripts + 1)))
 
--- what a command that is not refused makes of the graph; a collection, `gc`, a census, `why` and `expose` leave it
+-- what a deed makes of the graph
+unfoldable pub done_to : Graph → Deed → Graph
+done_to g nothing_done = g
+done_to g (native_made d n) = set_register (with_native g n) (N d) (Some (native (length g.natives + 1)))
+done_to g (plain_made d n) = set_register (with_script g (plain_object (empty_slots n))) (S d) (Some (object (length g.scripts + 1)))
+done_to g (map_made d) = set_register (with_script g weak_map) (S d) (Some (object (length g.scripts + 1)))
+done_to g (proxy_made d x) = with_proxy g d x
+done_to g (native_held d x) = set_register g (N d) x
+done_to g (script_held d x) = set_register g (S d) x
+done_to g (script_copied d x) = set_register g (S d) x
+done_to g (native_stored d i x) = set_slot g (register g (N d)) i x
+done_to g (slot_moved d i s j) = move_slot g (register g (N d)) i (register g (N s)) j (slot_at (objects_of g) (N s) j)
+done_to g (script_stored x i y) = set_slot (preserve g x) x i y
+done_to g (reflector_held d x) = set_register (wrapped g x) (S d) (reflector_of x)
+done_to g (reflector_preserved x) = preserve g x
+done_to g (entry_written m k v) = set_entry g m k v
+done_to g (object_exposed x) = g
+
+-- what a command that is not refused makes of the graph
 unfoldable pub changed : Graph → Command → Graph
-changed g (Native d n) = set_register (with_native g n) (N d) (Some (native (length g.natives + 1)))
-changed g (Script d n) = set_register (with_script g (plain_object (empty_slots n))) (S d) (Some (object (length g.scripts + 1)))
-changed g (WeakMap d) = set_register (with_script g weak_map) (S d) (Some (object (length g.scripts + 1)))
-changed g (Proxy d s) = with_proxy g d (register g (S s))
-changed g (CopyNative d s) = set_register g (N d) (register g (N s))
-changed g (CopyScript d s) = set_register g (S d) (register g (S s))
-changed g (Drop r) = set_register g r None
-changed g (Set d i r) = set_slot g (register g (N d)) i (source g r)
-changed g (Get r s i) = set_register g r (slot_at (objects_of g) (N s) i)
-changed g (Move d i s j) = move_slot g (register g (N d)) i (register g (N s)) j (slot_at (objects_of g) (N s) j)
-changed g (Put d i s) = set_slot (preserve g (register g (S d))) (register g (S d)) i (source g (option_map S s))
-changed g (Take d s i) = set_register g (S d) (slot_at (objects_of g) (S s) i)
-changed g (Wrap d s) = set_register (wrapped g (register g (N s))) (S d) (reflector_of (register g (N s)))
-changed g (Unwrap d s) = set_register g (N d) (native_of (register g (S s)))
-changed g (Preserve s) = preserve g (register g (S s))
-changed g (SetEntry m k v) = set_entry g (register g (S m)) (register g (S k)) (source g (option_map S v))
-changed g (GetEntry d m k) = set_register g (S d) (value_at (objects_of g) (register g (S m)) (register g (S k)))
-changed g (Expose s i) = g
-changed g Nothing = g
-changed g Version2 = g
-changed g (Why x) = g
-changed g (Slice u) = g
-changed g Collect = g
-changed g Gc = g
-changed g Census = g
+changed g c = done_to g (deed_of (objects_of g) c)
 
 abbrev pub unless_refused : Option Refusal → Graph → Graph → Graph
 unless_refused None old new = new

@@ -12,6 +12,7 @@ pub mod Asks
 pub mod Slots
 pub mod Entries
 pub mod Checks
+pub mod Deeds
 pub mod Graph
 pub mod WellMade
 pub mod Reached

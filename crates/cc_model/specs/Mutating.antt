@@ -1,33 +1,46 @@
--- Which commands are the mutator's.
-use Rattle.std.specs.Prelude.{Bool, true, false}
+-- WHAT A COMMAND IS: it says something, does a deed, runs units of a collection, or collects script objects.
+use Rattle.std.specs.Prelude.{ℕ, Bool, true, false}
+use Rattle.cc_names.specs.declared.name.Name.{Name}
 use Rattle.cc_model.specs.declared.command.Command.{Command}
-use Rattle.cc_model.specs.declared.command.Command.TheVariants.{Nothing, Version2, Native, Script, WeakMap, Proxy, CopyNative, CopyScript, Drop, Set, Get, Move, Put, Take, Wrap, Unwrap, Preserve, SetEntry, GetEntry, Expose, Why, Slice, Collect, Gc, Census}
+use Rattle.cc_model.specs.declared.command.Command.TheVariants.{Nothing, Version2, Why, Slice, Collect, Gc, Census}
 
--- THE COMMANDS OF THE MUTATOR: all but a blank line, the line that asks for a version, a question, a collection, whole or in slices, a
--- script collection and a census
+-- what is said, where all stays as it is
+pub data Saying : Type 0 where
+  -- nothing, for a blank line
+  silence : Saying
+  version : Saying
+  -- how the registers reach an object
+  path : Name → Saying
+  census : Saying
+
+-- units of collections: so many, or those of a whole one
+pub data Running : Type 0 where
+  so_many : ℕ → Running
+  whole : Running
+
+pub data Class : Type 0 where
+  says : Saying → Class
+  does : Class
+  runs : Running → Class
+  collects_scripts : Class
+
+-- THE CLASS OF A COMMAND: all but seven words do a deed
+abbrev pub class_of : Command → Class
+class_of Nothing = says silence
+class_of Version2 = says version
+class_of (Why x) = says (path x)
+class_of Census = says census
+class_of (Slice n) = runs (so_many n)
+class_of Collect = runs whole
+class_of Gc = collects_scripts
+class_of _ = does
+
+abbrev pub is_deed : Class → Bool
+is_deed (says q) = false
+is_deed does = true
+is_deed (runs u) = false
+is_deed collects_scripts = false
+
+-- THE COMMANDS OF THE MUTATOR: those that do a deed
 abbrev pub is_applied : Command → Bool
-is_applied (Native d n) = true
-is_applied (Script d n) = true
-is_applied (WeakMap d) = true
-is_applied (Proxy d s) = true
-is_applied (CopyNative d s) = true
-is_applied (CopyScript d s) = true
-is_applied (Drop r) = true
-is_applied (Set d i r) = true
-is_applied (Get r s i) = true
-is_applied (Move d i s j) = true
-is_applied (Put d i s) = true
-is_applied (Take d s i) = true
-is_applied (Wrap d s) = true
-is_applied (Unwrap d s) = true
-is_applied (Preserve s) = true
-is_applied (SetEntry m k v) = true
-is_applied (GetEntry d m k) = true
-is_applied (Expose s i) = true
-is_applied Nothing = false
-is_applied Version2 = false
-is_applied (Why x) = false
-is_applied (Slice u) = false
-is_applied Collect = false
-is_applied Gc = false
-is_applied Census = false
+is_applied c = is_deed (class_of c)

@@ -4,7 +4,7 @@ use Rattle.cc_names.specs.declared.register.Reg.{Reg}
 use Rattle.cc_names.specs.declared.register.Reg.TheVariants.{N, S}
 use Rattle.cc_names.specs.Sizes.{bank_length, most_slots}
 use Rattle.cc_model.specs.declared.command.Command.{Command}
-use Rattle.cc_model.specs.declared.command.Command.TheVariants.{Nothing, Version2, Native, Script, WeakMap, Proxy, CopyNative, CopyScript, Drop, Set, Get, Move, Put, Take, Wrap, Unwrap, Preserve, SetEntry, GetEntry, Expose, Why, Slice, Collect, Gc, Census}
+use Rattle.cc_model.specs.declared.command.Command.TheVariants.{Native, Script, WeakMap, Proxy, CopyNative, CopyScript, Drop, Set, Get, Move, Put, Take, Wrap, Unwrap, Preserve, SetEntry, GetEntry, Expose}
 
 -- a register is one of its bank
 abbrev pub is_register : ℕ → Bool
@@ -49,10 +49,4 @@ in_range (Preserve s) = is_register s
 in_range (SetEntry m k v) = are_registers m k && is_script_source v
 in_range (GetEntry d m k) = is_register d && are_registers m k
 in_range (Expose s i) = is_register s
-in_range Nothing = true
-in_range Version2 = true
-in_range (Why x) = true
-in_range (Slice u) = true
-in_range Collect = true
-in_range Gc = true
-in_range Census = true
+in_range _ = true

@@ -4,13 +4,13 @@ use Rattle.cc_names.specs.Allowance.{Allowance}
 use Rattle.cc_names.specs.declared.name.Name.{Name}
 use Rattle.cc_names.specs.Names.{native}
 use Rattle.cc_model.specs.declared.command.Command.{Command}
-use Rattle.cc_model.specs.declared.command.Command.TheVariants.{Nothing, Version2, Why, Slice, Collect, Gc, Census}
 use Rattle.cc_model.specs.declared.item.Refusal.{Refusal}
 use Rattle.cc_model.specs.declared.item.Refusal.TheVariants.{NoMemory, Long, Line}
 use Rattle.cc_model.specs.declared.item.Reply.{Reply}
 use Rattle.cc_model.specs.declared.item.Reply.TheVariants.{Done, Refused, Census as counted}
 use Rattle.cc_model.specs.declared.item.Event.{Event}
 use Rattle.cc_model.specs.Answers.{Answer, no_answer, replying, listing, text_of_answers}
+use Rattle.cc_model.specs.Mutating.{Saying, silence, version, path, census, Running, so_many, whole, Class, says, does, runs, collects_scripts, class_of}
 use Rattle.cc_model.specs.Asks.{Ask, long, bad, taken, asks_of}
 use Rattle.cc_model.specs.Checks.{refusal_of, reply_if_taken}
 use Rattle.cc_model.specs.Heap.{Heap, Outcome, objects_of}
@@ -74,15 +74,26 @@ explain m x = elim (next_answer m.memory) [
 abbrev pub say_nothing : Machine → Turn
 say_nothing m = record { machine = m; answer = no_answer }
 
+-- what is said, which leaves the heaps and the running collection
+abbrev pub say : Machine → Saying → Turn
+say m silence = say_nothing m
+say m version = answering m [] Done
+say m (path x) = explain m x
+say m census = take_census m (census_names m.heap)
+
+-- units of collections
+abbrev pub run_units : Machine → Running → UnitsDone
+run_units m (so_many n) = slice n m
+run_units m whole = collect m
+
+abbrev pub do_class : Machine → Command → Class → Turn
+do_class m c (says q) = say m q
+do_class m c does = mutate m c
+do_class m c (runs u) = after_units (run_units m u)
+do_class m c collects_scripts = after_gc (gc m)
+
 abbrev pub do_command : Machine → Command → Turn
-do_command m Nothing = say_nothing m
-do_command m Version2 = answering m [] Done
-do_command m (Why x) = explain m x
-do_command m (Slice n) = after_units (slice n m)
-do_command m Collect = after_units (collect m)
-do_command m Gc = after_gc (gc m)
-do_command m Census = take_census m (census_names m.heap)
-do_command m c = mutate m c
+do_command m c = do_class m c (class_of c)
 
 -- AN ASK DONE
 unfoldable pub do_ask : Machine → Ask → Turn
