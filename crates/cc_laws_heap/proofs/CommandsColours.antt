@@ -1,7 +1,6 @@
 -- EACH COMMAND THAT IS NOT REFUSED KEEPS THE COLOURS.
-use Rattle.std.proofs.Common.{◌≡◌, ℕ, ◌+◌, Bool, true, false, ◌<◌, ◌≤◌, List, [], ◌∷◌, ◌++◌, length, Option, Some, None, refl, sym, subst, ⊎_elim, arith, option_map, slice_set, slice_index_or, option_to_list, inl}
+use Rattle.std.proofs.Common.{◌≡◌, ℕ, ◌+◌, Bool, true, false, ◌<◌, ◌≤◌, List, [], ◌∷◌, ◌++◌, length, Option, Some, None, refl, sym, subst, ⊎_elim, arith, slice_set, slice_index_or, option_to_list, inl}
 use Rattle.std.specs.Prelude.{IsTrue}
-use Rattle.std.proofs.lemmas.Bool.{leb-false}
 use Rattle.cc_lists.specs.Members.{Among}
 use Rattle.cc_lists.proofs.Members.{Among-map}
 use Rattle.cc_names.specs.declared.name.Name.{Name}
@@ -12,42 +11,32 @@ use Rattle.cc_names.specs.declared.kind.Kind.TheVariants.{Plain, Reflector, Map,
 use Rattle.cc_names.specs.declared.kind.Colour.TheVariants.{Black}
 use Rattle.cc_names.specs.Names.{native, object, reflector}
 use Rattle.cc_model.specs.declared.command.Command.{Command}
-use Rattle.cc_model.specs.declared.command.Command.TheVariants.{Native, Script, WeakMap, Proxy, CopyNative, CopyScript, Drop, Set, Get, Move, Put, Take, Wrap, Unwrap, Preserve, SetEntry, GetEntry, Expose}
+use Rattle.cc_model.specs.Deeds.{Deed, nothing_done, native_made, plain_made, map_made, proxy_made, native_held, script_held, script_copied, native_stored, slot_moved, script_stored, reflector_held, reflector_preserved, entry_written, object_exposed, deed_of}
 use Rattle.cc_model.specs.Slots.{reflector_slots, contents}
 use Rattle.cc_model.specs.Ranges.{in_range}
-use Rattle.cc_model.specs.Checks.{slot_at, slots_at, value_at, reflector_of}
-use Rattle.cc_model.specs.Heap.{Heap, HeapScript, Outcome, register, set_register, source, objects_of, preserve, has_reflector}
+use Rattle.cc_model.specs.Checks.{slots_at, reflector_of}
+use Rattle.cc_model.specs.Heap.{Heap, HeapScript, Outcome, set_register, objects_of, preserve, has_reflector}
 use Rattle.cc_model.specs.Exposure.{exposed}
-use Rattle.cc_model.specs.Effects.{effects, touched, taken_out, put_in_register, hold_native, put_in_slot, store_native, move_slot, make_native, make_object, with_reflector, wrapped, put_in_script, set_entry, make_proxy}
+use Rattle.cc_model.specs.Effects.{done_in, effects, touched, taken_out, hold_native, put_in_slot, store_native, move_slot, make_native, make_object, with_reflector, wrapped, put_in_script, set_entry, make_proxy}
 use Rattle.cc_model.specs.WellFormed.{IsWellFormed, script_names}
 use Rattle.cc_model.specs.Places.{script_places_of}
 use Rattle.cc_model.proofs.Places.{script_place-cases}
 use Rattle.cc_laws_heap.specs.Sound.{IsSound}
 use Rattle.cc_lists.proofs.ListWrites.{each-push}
 use Rattle.cc_laws_heap.proofs.Making.{contents-empty_none}
-use Rattle.cc_laws_heap.proofs.Writes.{contents-at}
-use Rattle.cc_laws_heap.proofs.Holding.{has_reflector-none, source-there, script_register-there}
+use Rattle.cc_laws_heap.proofs.Holding.{has_reflector-none}
 use Rattle.cc_laws_heap.proofs.ScriptCommands.{blank}
 use Rattle.cc_laws_heap.proofs.Taken.{IsTaken}
 use Rattle.cc_laws_heap.proofs.Coloured.{AreColoured, IsColoured}
 use Rattle.cc_laws_heap.proofs.ColourChanges.{IsHeldBlack, AreColoured-register, AreColoured-slot, AreColoured-push, exposed-coloured, exposed-black}
-use Rattle.cc_laws_heap.proofs.NativesKeepScripts.{SameScripts-coloured, put_in_register-scripts, hold_native-scripts, put_in_slot-scripts, store_native-scripts, make_native-scripts}
+use Rattle.cc_laws_heap.proofs.NativesKeepScripts.{SameScripts-coloured, hold_native-scripts, put_in_slot-scripts, store_native-scripts, make_native-scripts}
 use Rattle.cc_laws_heap.proofs.Owning.{IsIn}
 use Rattle.cc_laws_heap.proofs.NativeCommands.{HasSlot-from}
 use Rattle.cc_laws_heap.proofs.Moving.{HasSlot-taken_out, move_slot-is}
-use Rattle.cc_laws_heap.proofs.CommandsSound.{moved-slots}
+use Rattle.cc_laws_heap.proofs.MayBeDone.{MayBeDone, may_be_done}
 use Rattle.cc_laws_heap.proofs.ScriptsKept.{native-no_script, preserve-sound, preserve-scripts}
 
 -- Script registers
-
--- what a script register holds is black
-script_register-black : (h : Heap) (d : ℕ) → IsColoured h → IsHeldBlack h.scripts (register h (S d))
-script_register-black h d c = λ o m i. c.held_black o m (contents-at h.script_registers d o.name i)
-
--- and so is a source, where it is none or a script register
-script_source-black : (h : Heap) (s : Option ℕ) → IsColoured h → IsHeldBlack h.scripts (source h (option_map S s))
-script_source-black h None c = λ o m i. absurd i
-script_source-black h (Some d) c = script_register-black h d c
 
 -- what comes into a script register is exposed first
 exposed_register-coloured : (h : Heap) (d : ℕ) (x : Option Name) → IsColoured h → IsColoured (set_register (exposed h x) (S d) x)
@@ -143,29 +132,27 @@ make_proxy-coloured {owned} h d (Some x) s there black c = make_object-coloured 
     (preserve-sound owned h (Some x) there s).well_formed
     (subst (λ os. IsHeldBlack os (Some x)) (sym (preserve-scripts h (Some x))) black) (preserve-coloured h (Some x) c)
 
+-- WHAT IS DONE KEEPS THE COLOURS.
+pub done_in-coloured : {owned : List ℕ} (h : Heap) (d : Deed) → IsSound owned h → IsColoured h → MayBeDone h d → IsColoured (done_in h d).heap
+unfolding done_in
+done_in-coloured h nothing_done s c m = c
+done_in-coloured h (native_made d n) s c m = SameScripts-coloured h (make_native h d n).heap (make_native-scripts h d n) c
+done_in-coloured h (plain_made d n) s c m = make_object-coloured h d Plain n None s.well_formed (λ o i j. absurd j) c
+done_in-coloured h (map_made d) s c m = make_object-coloured h d Map 0 None s.well_formed (λ o i j. absurd j) c
+done_in-coloured h (proxy_made d x) s c m = make_proxy-coloured h d x s m.0.there (m.0.black c) c
+done_in-coloured h (native_held d x) s c m = SameScripts-coloured h (hold_native h d x).heap (hold_native-scripts h d x) c
+done_in-coloured h (script_held d x) s c m = exposed_register-coloured h d x c
+done_in-coloured h (script_copied d x) s c m = AreColoured-register h.scripts h.script_registers d x (m.black c) c
+done_in-coloured {owned} h (native_stored d i x) s c m = SameScripts-coloured h (store_native h d i x).heap (store_native-scripts owned h d i x m.0.there m.1 s) c
+done_in-coloured h (slot_moved d i q j) s c m = move_slot-coloured h d i q j s.well_formed m.0 m.1 c
+done_in-coloured h (script_stored x i y) s c m = put_in_script-coloured h x i y (m.1.black c) c
+done_in-coloured h (reflector_held d x) s c m = wrapped-coloured h d x c
+done_in-coloured h (reflector_preserved x) s c m = preserve-coloured h x c
+done_in-coloured h (entry_written m k v) s c t = set_entry-coloured h m k v c
+done_in-coloured h (object_exposed x) s c m = exposed-coloured h x c
+
 -- A command that is not refused keeps the colours.
 pub effects-coloured : {owned : List ℕ} (h : Heap) (c : Command) → IsSound owned h → IsColoured h → IsTrue (in_range c) → IsTaken (objects_of h) c →
     IsColoured (effects h c).heap
 unfolding effects
-effects-coloured {owned} h (Native d n) s c r t = SameScripts-coloured h (make_native h d n).heap (make_native-scripts h d n) c
-effects-coloured {owned} h (Script d n) s c r t = make_object-coloured h d Plain n None s.well_formed (λ o m i. absurd i) c
-effects-coloured {owned} h (WeakMap d) s c r t = make_object-coloured h d Map 0 None s.well_formed (λ o m i. absurd i) c
-effects-coloured {owned} h (Proxy d q) s c r t = make_proxy-coloured h d (register h (S q)) s (script_register-there h q s.well_formed) (script_register-black h q c) c
-effects-coloured {owned} h (CopyNative d q) s c r t = SameScripts-coloured h (hold_native h d (register h (N q))).heap (hold_native-scripts h d (register h (N q))) c
-effects-coloured {owned} h (CopyScript d q) s c r t = AreColoured-register h.scripts h.script_registers d (register h (S q)) (script_register-black h q c) c
-effects-coloured {owned} h (Drop (N d)) s c r t = SameScripts-coloured h (put_in_register h d None).heap (put_in_register-scripts h d None) c
-effects-coloured {owned} h (Drop (S d)) s c r t = AreColoured-register h.scripts h.script_registers d None (λ o m i. absurd i) c
-effects-coloured {owned} h (Set d i q) s c r t = SameScripts-coloured h (store_native h d i (source h q)).heap
-    (store_native-scripts owned h d i (source h q) (source-there h q s.well_formed) (leb-false (length (slots_at (objects_of h) (N d))) i t.slot) s) c
-effects-coloured {owned} h (Get (N d) q i) s c r t = grind (arith, SameScripts-coloured, hold_native-scripts)
-effects-coloured {owned} h (Get (S d) q i) s c r t = exposed_register-coloured h d (slot_at (objects_of h) (N q) i) c
-effects-coloured {owned} h (Move d i q j) s c r t = let slots = moved-slots h d i q j t.slot in move_slot-coloured h d i q j s.well_formed slots.0 slots.1 c
-effects-coloured {owned} h (Put d i q) s c r t = put_in_script-coloured h (register h (S d)) i (source h (option_map S q)) (script_source-black h q c) c
-effects-coloured {owned} h (Take d q i) s c r t = exposed_register-coloured h d (slot_at (objects_of h) (S q) i) c
-effects-coloured {owned} h (Wrap d q) s c r t = wrapped-coloured h d (register h (N q)) c
-effects-coloured {owned} h (Unwrap d q) s c r t = grind (arith, SameScripts-coloured, hold_native-scripts)
-effects-coloured {owned} h (Preserve q) s c r t = preserve-coloured h (register h (S q)) c
-effects-coloured {owned} h (SetEntry m k v) s c r t = set_entry-coloured h (register h (S m)) (register h (S k)) (source h (option_map S v)) c
-effects-coloured {owned} h (GetEntry d m k) s c r t = exposed_register-coloured h d (value_at (objects_of h) (register h (S m)) (register h (S k))) c
-effects-coloured {owned} h (Expose q i) s c r t = exposed-coloured h (slot_at (objects_of h) (N q) i) c
-effects-coloured {owned} h _ s c r t = c
+effects-coloured h c s colours r t = done_in-coloured h (deed_of (objects_of h) c) s colours (may_be_done h c s r t)

@@ -19,13 +19,14 @@ use Rattle.cc_model.specs.Ranges.{in_range}
 use Rattle.cc_model.specs.Slots.{empty_slots}
 use Rattle.cc_model.specs.Checks.{slot_at, value_at, native_of, reflector_of, refusal_of}
 use Rattle.cc_model.specs.Graph as graph
-use Rattle.cc_model.specs.Graph.{Graph, plain_object, weak_map, proxy, empty_graph, changed, unless_refused, step}
+use Rattle.cc_model.specs.Graph.{Graph, plain_object, weak_map, proxy, empty_graph, done_to, changed, unless_refused, step}
 use Rattle.cc_model.specs.Reached.{Reached, held, edge, value, key}
+use Rattle.cc_model.specs.Deeds.{deed_of}
 use Rattle.cc_model.specs.WellMade.{IsWellMade, was_made}
 use Rattle.cc_model.specs.Heap as heap
 use Rattle.cc_model.specs.Heap.{Heap, empty_heap}
 use Rattle.cc_model.specs.Effects as effects_of
-use Rattle.cc_model.specs.Effects.{effects, hold_native, store_native, move_slot, make_native, put_in_script}
+use Rattle.cc_model.specs.Effects.{done_in, effects, hold_native, store_native, move_slot, make_native, put_in_script}
 use Rattle.cc_model.specs.WellFormed.{IsWellFormed, names_there, native_names}
 use Rattle.cc_model.specs.StandsFor.{StandsFor}
 use Rattle.cc_laws_heap.specs.Sound.{IsSound}
@@ -112,7 +113,7 @@ module _ (h : Heap) (g : Graph) (w : IsWellFormed h) (m : IsWellMade g) (s : Sta
 
   -- AFTER EACH COMMAND THE HEAPS FOLLOW what it makes of the graph: whatever follows from that, follows.
   effects-follow : (c : Command) (Q : Type 0) → ((P : Name → Type 0) → Follows P (effects h c).heap (changed g c) → Q) → Q
-  unfolding effects make_native changed
+  unfolding effects done_in make_native hold_native changed done_to deed_of
   effects-follow (Native d n) Q f = f (λ z. Reached g z ⊎ (next_native g ≡ z))
       (Follows-put (λ z. Reached g z ⊎ (next_native g ≡ z)) (effects_of.with_native h n) (graph.with_native g n) d
       (Some (native (h.natives_made + 1))) (Some (native (length g.natives + 1))) (ap (λ k. Some (native (k + 1))) s.natives_made) (inr refl)
@@ -184,7 +185,7 @@ command-stands h g c sound m s r t = effects-follow h g sound.well_formed m s c 
 
 -- what a command tells as freed are natives that are there no more
 effects-gone : (h : Heap) (c : Command) → TellsWhatIsGone (effects h c)
-unfolding effects make_native hold_native store_native move_slot
+unfolding effects done_in deed_of make_native hold_native store_native move_slot
 effects-gone h c = grind (arith, let_go-gone)
 
 -- NOTHING THAT WAS FREED IS REACHED.

@@ -17,7 +17,8 @@ use Rattle.cc_model.specs.Ranges.{in_range, is_register, is_slots}
 use Rattle.cc_model.specs.Slots.{Slots, empty_slots}
 use Rattle.cc_model.specs.Entries.{entry, is_entry_of, with_entry, without_entry}
 use Rattle.cc_model.specs.Checks.{slot_at, value_at, native_of, reflector_of, is_map_in, refusal_of}
-use Rattle.cc_model.specs.Graph.{Graph, plain_object, weak_map, proxy, numbered, script_in, delegate_in, slots_in, objects_of, register, source, set_slot, move_slot, preserve, wrapped, set_entry, as_preserved, as_wrapped, with_slot, with_reflector_slot, with_native, with_script, with_proxy, empty_graph, changed, unless_refused, step}
+use Rattle.cc_model.specs.Graph.{Graph, plain_object, weak_map, proxy, numbered, script_in, delegate_in, slots_in, objects_of, register, source, set_slot, move_slot, preserve, wrapped, set_entry, as_preserved, as_wrapped, with_slot, with_reflector_slot, with_native, with_script, with_proxy, empty_graph, done_to, changed, unless_refused, step}
+use Rattle.cc_model.specs.Deeds.{deed_of}
 use Rattle.cc_model.specs.WellMade.{IsWellMade, IsMadeEntry}
 use Rattle.cc_laws_heap.proofs.Taken.{IsTaken, IsTaken-from}
 use Rattle.cc_laws_heap.proofs.Holds.{OfSome, OfSome-then}
@@ -140,7 +141,7 @@ proxy-well g w d (Some x) m room = IsWellMade-script_register f d (Some (object 
 module _ (g : Graph) (w : IsWellMade g) where
   -- EACH COMMAND that is not refused leaves the graph well made.
   changed-well : (c : Command) → IsTrue (in_range c) → IsTaken (objects_of g) c → IsWellMade (changed g c)
-  unfolding changed
+  unfolding changed done_to deed_of
   changed-well (Native d n) r t = IsWellMade-native_register (with_native g n) d (Some (native (length g.natives + 1)))
       (IsWellMade-with_native g n w (leb-true n most_slots (and_parts (is_register d) (is_slots n) r).1) (leb-false g.limits.natives (length g.natives) t.room))
       (was_made-native (with_native g n) (length g.natives + 1) _ (numbered-push g.natives _))

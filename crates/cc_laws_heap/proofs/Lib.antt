@@ -26,12 +26,13 @@ pub mod Taken
 pub mod NativeCommands
 pub mod Moving
 pub mod ScriptCommands
-pub mod CommandsSound
 pub mod CountBound
 pub mod ViewEdges
 pub mod ScriptNames
 pub mod Coloured
 pub mod ColourChanges
+pub mod MayBeDone
+pub mod CommandsSound
 pub mod NativesKeepScripts
 pub mod CommandsColours
 pub mod Leaving
