@@ -1,46 +1,46 @@
 -- HEAPS THAT STAND FOR A GRAPH GO ON STANDING FOR IT: after each command that is not refused they stand for the graph's step,
 -- and what they told as freed is not reached.
-use Rattle.std.proofs.Common.{arith, ◌≡◌, ℕ, ◌+◌, List, length, Option, Some, None, option_map, refl, sym, ◌∙◌, ap, subst, inr, ◌⊎◌}
+use Rattle.std.proofs.Common.{arith, ◌≡◌, ℕ, ◌+◌, List, length, Option, Some, None, refl, sym, ◌∙◌, ap, subst, inr, ◌⊎◌}
 use Rattle.std.specs.Prelude.{IsTrue}
 use Rattle.std.proofs.lemmas.Bool.{false≢true, and_parts}
 use Rattle.cc_lists.specs.Members.{Among}
 use Rattle.cc_names.specs.Allowance.{Allowance}
 use Rattle.cc_names.specs.declared.name.Name.{Name}
 use Rattle.cc_names.specs.declared.name.Name.TheVariants as name
-use Rattle.cc_names.specs.declared.register.Reg.{Reg}
 use Rattle.cc_names.specs.declared.register.Reg.TheVariants.{N, S}
 use Rattle.cc_names.specs.declared.kind.Kind.TheVariants.{Plain, Map, Proxy as proxy_kind}
 use Rattle.cc_names.specs.Names.{native, object, reflector, is_script}
 use Rattle.cc_names.specs.Sizes.{bank_length}
 use Rattle.cc_model.specs.declared.command.Command.{Command}
-use Rattle.cc_model.specs.declared.command.Command.TheVariants.{Native, Script, WeakMap, Proxy, CopyNative, CopyScript, Drop, Set, Get, Move, Put, Take, Wrap, Unwrap, Preserve, SetEntry, GetEntry, Expose}
 use Rattle.cc_model.specs.declared.item.Event.TheVariants.{Freed}
 use Rattle.cc_model.specs.Ranges.{in_range}
 use Rattle.cc_model.specs.Slots.{empty_slots}
-use Rattle.cc_model.specs.Checks.{slot_at, value_at, native_of, reflector_of, refusal_of}
+use Rattle.cc_model.specs.Checks.{slot_at, reflector_of, refusal_of}
 use Rattle.cc_model.specs.Graph as graph
 use Rattle.cc_model.specs.Graph.{Graph, plain_object, weak_map, proxy, empty_graph, done_to, changed, unless_refused, step}
 use Rattle.cc_model.specs.Reached.{Reached, held, edge, value, key}
-use Rattle.cc_model.specs.Deeds.{deed_of}
+use Rattle.cc_model.specs.Deeds.{Deed, nothing_done, native_made, plain_made, map_made, proxy_made, native_held, script_held, script_copied, native_stored, slot_moved, script_stored, reflector_held, reflector_preserved, entry_written, object_exposed, deed_of}
 use Rattle.cc_model.specs.WellMade.{IsWellMade, was_made}
 use Rattle.cc_model.specs.Heap as heap
 use Rattle.cc_model.specs.Heap.{Heap, empty_heap}
+use Rattle.cc_model.specs.Exposure.{exposed}
 use Rattle.cc_model.specs.Effects as effects_of
 use Rattle.cc_model.specs.Effects.{done_in, effects, hold_native, store_native, move_slot, make_native, put_in_script}
 use Rattle.cc_model.specs.WellFormed.{IsWellFormed, names_there, native_names}
 use Rattle.cc_model.specs.StandsFor.{StandsFor}
 use Rattle.cc_laws_heap.specs.Sound.{IsSound}
 use Rattle.cc_laws_heap.proofs.Holds.{OfSome, OfSome-then, contents-get}
-use Rattle.cc_laws_heap.proofs.GraphReads.{MadeNative, MadeScript, MadeScript-made, native_register-made, script_register-made}
+use Rattle.cc_laws_heap.proofs.GraphReads.{MadeNative, MadeScript, MadeScript-made, native_register-made}
 use Rattle.cc_laws_heap.proofs.GraphCommands.{preserve-well, scripts-preserve, step-well}
 use Rattle.cc_laws_heap.proofs.References.{native-there}
 use Rattle.cc_laws_heap.proofs.ReachedAlike.{reached-there}
 use Rattle.cc_laws_heap.proofs.CascadeTakesOut.{TellsWhatIsGone, let_go-gone}
-use Rattle.cc_laws_heap.proofs.Taken.{IsTaken-from}
+use Rattle.cc_laws_heap.proofs.Taken.{IsTaken, IsTaken-from}
+use Rattle.cc_laws_heap.proofs.MayBeDoneTo.{IsScriptNamed, MayBeDoneTo, may_be_done_to}
 use Rattle.cc_laws_heap.proofs.CommandsSound.{effects-sound}
 use Rattle.cc_laws_heap.proofs.Numbered.{numbered-nothing}
-use Rattle.cc_laws_heap.proofs.RepliesAlike.{AreAlike, slot_at-alike, refusal_of-alike, delegate-stands, objects-stand}
-use Rattle.cc_laws_heap.proofs.ReachedReads.{HasBehind, register-reached, source-reached, script_source-reached, slot_at-reached, value_at-reached, script-behind, native_of-reached}
+use Rattle.cc_laws_heap.proofs.RepliesAlike.{AreAlike, slot_at-alike, refusal_of-alike, deed_of-alike, delegate-stands, objects-stand}
+use Rattle.cc_laws_heap.proofs.ReachedReads.{HasBehind, register-reached, slot_at-reached, script-behind}
 use Rattle.cc_laws_heap.proofs.Following.{Follows, stands-follows}
 use Rattle.cc_laws_heap.proofs.Standing.{follows-stands}
 use Rattle.cc_laws_heap.proofs.Changing.{Follows-left}
@@ -51,7 +51,7 @@ use Rattle.cc_laws_heap.proofs.Wrapping.{Follows-wrapped}
 use Rattle.cc_laws_heap.proofs.StepsAlike.{Follows-script_register, Follows-put, Follows-hold, Follows-hold_script, Follows-store, Follows-move, Follows-preserve, preserved-after, Follows-put_script, Follows-set_entry}
 use Rattle.cc_laws_heap.proofs.Making.{contents-empty_none}
 
-module _ (h : Heap) (g : Graph) (w : IsWellFormed h) (m : IsWellMade g) (s : StandsFor h g) where
+module _ (h : Heap) (g : Graph) (w : IsWellFormed h) (well : IsWellMade g) (s : StandsFor h g) where
   -- the heaps follow the graph
   start : Follows (Reached g) h g
   start = stands-follows h g w s
@@ -59,15 +59,6 @@ module _ (h : Heap) (g : Graph) (w : IsWellFormed h) (m : IsWellMade g) (s : Sta
   -- what the checks look at is the same
   a : AreAlike (heap.objects_of h) (graph.objects_of g)
   a = objects-stand h g s
-
-  -- a source gives the same
-  source-alike : (r : Option Reg) → heap.source h r ≡ graph.source g r
-  source-alike None = refl
-  source-alike (Some r) = a.register r
-
-  -- and so does a script source
-  script_source-alike : (r : Option ℕ) → heap.source h (option_map S r) ≡ graph.source g (option_map S r)
-  script_source-alike r = grind arith
 
   -- what a native register holds has no native whose reflector it is
   native-preserved : (f : Graph) (d : ℕ) → OfSome (IsPreserved f) (graph.register g (N d))
@@ -77,17 +68,18 @@ module _ (h : Heap) (g : Graph) (w : IsWellFormed h) (m : IsWellMade g) (s : Sta
   wrap : (d : ℕ) (x : Option Name) → OfSome (Reached g) x → OfSome (MadeNative g) x → (Q : Type 0) →
       ((P : Name → Type 0) → Follows P (heap.set_register (effects_of.wrapped h x) (S d) (reflector_of x)) (graph.set_register (graph.wrapped g x) (S d) (reflector_of x)) → Q) → Q
   wrap d None r t Q f = f (Reached g) (Follows-script_register (Reached g) h g d None None refl tt start)
-  wrap d (Some (name.Native k)) r t Q f = Follows-wrapped h g k.0 w m s r Q
+  wrap d (Some (name.Native k)) r t Q f = Follows-wrapped h g k.0 w well s r Q
       (λ P p u. f P (Follows-script_register P (effects_of.wrapped h (Some (name.Native k))) (graph.wrapped g (Some (name.Native k))) d (Some (reflector k.0)) (Some (reflector k.0)) refl p u))
   wrap d _ r t Q f = absurd (false≢true t)
 
-  -- what a script register holds has the same delegate
-  delegate-same : (k : ℕ) → OfSome (λ x. heap.delegate_at h x ≡ graph.delegate_in g x) (graph.register g (S k))
-  delegate-same k = go (graph.register g (S k)) (script_register-made g m k) (register-reached g (S k))
-    where
-      go : (o : Option Name) → OfSome (MadeScript g) o → OfSome (Reached g) o → OfSome (λ x. heap.delegate_at h x ≡ graph.delegate_in g x) o
-      go None i d = tt
-      go (Some x) i d = delegate-stands h g s x (and_parts (is_script x) (was_made g x) i).0 d
+  -- a script object that is named has the same delegate
+  delegate-same : (x : Option Name) → IsScriptNamed g x → OfSome (λ y. heap.delegate_at h y ≡ graph.delegate_in g y) x
+  delegate-same None n = tt
+  delegate-same (Some x) n = delegate-stands h g s x (and_parts (is_script x) (was_made g x) n.made).0 n.reached
+
+  -- the native behind it, where it is a reflector, is reached
+  behind : (x : Option Name) → IsScriptNamed g x → OfSome (HasBehind (Reached g)) x
+  behind x n = script-behind g x n.made n.reached
 
   -- a proxy made of what a register holds, which is preserved first where it is a reflector, and put into a register
   pub proxy-follows : (d : ℕ) (o : Option Name) → OfSome (Reached g) o → OfSome (HasBehind (Reached g)) o → OfSome (MadeScript g) o → (Q : Type 0) →
@@ -97,7 +89,7 @@ module _ (h : Heap) (g : Graph) (w : IsWellFormed h) (m : IsWellMade g) (s : Sta
       (Follows-script_register (λ z. Reached g z ⊎ (next_object e ≡ z)) (effects_of.with_object k proxy_kind 0 (Some x)) (graph.with_script e (proxy x)) d
       (Some (object (k.scripts_made + 1))) (Some (object (length g.scripts + 1)))
       (ap (λ j. Some (object (j + 1))) (t.beside.scripts_made ∙ ap length same)) (inr (ap (λ os. object (length os + 1)) same))
-      (Follows-proxy (Reached g) k e x r (preserved-after g x) (preserve-well g m (Some x) (MadeScript-made g x i)) t))
+      (Follows-proxy (Reached g) k e x r (preserved-after g x) (preserve-well g well (Some x) (MadeScript-made g x i)) t))
     where
       k : Heap
       k = heap.preserve h (Some x)
@@ -111,73 +103,59 @@ module _ (h : Heap) (g : Graph) (w : IsWellFormed h) (m : IsWellMade g) (s : Sta
       same : e.scripts ≡ g.scripts
       same = scripts-preserve g (Some x)
 
-  -- AFTER EACH COMMAND THE HEAPS FOLLOW what it makes of the graph: whatever follows from that, follows.
-  effects-follow : (c : Command) (Q : Type 0) → ((P : Name → Type 0) → Follows P (effects h c).heap (changed g c) → Q) → Q
-  unfolding effects done_in make_native hold_native changed done_to deed_of
-  effects-follow (Native d n) Q f = f (λ z. Reached g z ⊎ (next_native g ≡ z))
+  -- a script object made, and put into a register
+  object-follows : (d : ℕ) (k : Heap) (e : Graph) → k.scripts_made ≡ h.scripts_made + 1 → (Q : Type 0) → Follows (λ z. Reached g z ⊎ (next_object g ≡ z)) k e →
+      ((P : Name → Type 0) → Follows P (heap.set_register k (S d) (Some (object (h.scripts_made + 1)))) (graph.set_register e (S d) (Some (next_object g))) → Q) → Q
+  object-follows d k e made Q t f = f (λ z. Reached g z ⊎ (next_object g ≡ z))
+      (Follows-script_register (λ z. Reached g z ⊎ (next_object g ≡ z)) k e d (Some (object (h.scripts_made + 1))) (Some (next_object g))
+      (ap (λ j. Some (object (j + 1))) s.scripts_made) (inr refl) t)
+
+  -- WHATEVER IS DONE, THE HEAPS FOLLOW what it makes of the graph: whatever follows from that, follows.
+  done_in-follows : (d : Deed) → MayBeDoneTo g d → (Q : Type 0) → ((P : Name → Type 0) → Follows P (done_in h d).heap (done_to g d) → Q) → Q
+  unfolding done_in make_native done_to
+  done_in-follows nothing_done m Q f = f (Reached g) start
+  done_in-follows (native_made d n) m Q f = f (λ z. Reached g z ⊎ (next_native g ≡ z))
       (Follows-put (λ z. Reached g z ⊎ (next_native g ≡ z)) (effects_of.with_native h n) (graph.with_native g n) d
       (Some (native (h.natives_made + 1))) (Some (native (length g.natives + 1))) (ap (λ k. Some (native (k + 1))) s.natives_made) (inr refl)
-      (Follows-native (Reached g) h g n m start))
-  effects-follow (Script d n) Q f = f (λ z. Reached g z ⊎ (next_object g ≡ z))
-      (Follows-script_register (λ z. Reached g z ⊎ (next_object g ≡ z)) (effects_of.with_object h Plain n None) (graph.with_script g (plain_object (empty_slots n))) d
-      (Some (object (h.scripts_made + 1))) (Some (object (length g.scripts + 1))) (ap (λ k. Some (object (k + 1))) s.scripts_made) (inr refl)
-      (Follows-plain (Reached g) h g n m start))
-  effects-follow (WeakMap d) Q f = f (λ z. Reached g z ⊎ (next_object g ≡ z))
-      (Follows-script_register (λ z. Reached g z ⊎ (next_object g ≡ z)) (effects_of.with_object h Map 0 None) (graph.with_script g weak_map) d
-      (Some (object (h.scripts_made + 1))) (Some (object (length g.scripts + 1))) (ap (λ k. Some (object (k + 1))) s.scripts_made) (inr refl)
-      (Follows-map (Reached g) h g m start))
-  effects-follow (Proxy d r) Q f = proxy-follows d (graph.register g (S r)) (register-reached g (S r))
-      (script-behind g (graph.register g (S r)) (script_register-made g m r) (register-reached g (S r))) (script_register-made g m r) Q
-      (λ P t. f P (subst (λ x. Follows P (effects_of.make_proxy h d x) (graph.with_proxy g d (graph.register g (S r)))) (sym (a.register (S r))) t))
-  effects-follow (CopyNative d r) Q f = f (Reached g) (Follows-hold (Reached g) h g d (heap.register h (N r)) (graph.register g (N r)) (a.register (N r)) (register-reached g (N r)) start)
-  effects-follow (CopyScript d r) Q f = f (Reached g) (Follows-script_register (Reached g) h g d (heap.register h (S r)) (graph.register g (S r)) (a.register (S r)) (register-reached g (S r)) start)
-  effects-follow (Drop (N d)) Q f = f (Reached g) (Follows-put (Reached g) h g d None None refl tt start)
-  effects-follow (Drop (S d)) Q f = f (Reached g) (Follows-script_register (Reached g) h g d None None refl tt start)
-  effects-follow (Set d i r) Q f = f (Reached g) (Follows-store (Reached g) h g d i (heap.source h r) (graph.source g r) (source-alike r) (source-reached g r) (register-reached g (N d)) (native-preserved g d) start)
-  effects-follow (Get (N d) r i) Q f = f (Reached g) (Follows-hold (Reached g) h g d (slot_at (heap.objects_of h) (N r) i) (slot_at (graph.objects_of g) (N r) i)
-      (slot_at-alike (heap.objects_of h) (graph.objects_of g) a (N r) i) (slot_at-reached g (N r) i) start)
-  effects-follow (Get (S d) r i) Q f = f (Reached g) (Follows-hold_script (Reached g) h g d (slot_at (heap.objects_of h) (N r) i) (slot_at (graph.objects_of g) (N r) i)
-      (slot_at-alike (heap.objects_of h) (graph.objects_of g) a (N r) i) (slot_at-reached g (N r) i) start)
-  effects-follow (Move d i r j) Q f = f (Reached g) (Follows-move (Reached g) h g d i r j (slot_at (graph.objects_of g) (N r) j)
+      (Follows-native (Reached g) h g n well start))
+  done_in-follows (plain_made d n) m Q f = object-follows d (effects_of.with_object h Plain n None) (graph.with_script g (plain_object (empty_slots n))) refl Q
+      (Follows-plain (Reached g) h g n well start) f
+  done_in-follows (map_made d) m Q f = object-follows d (effects_of.with_object h Map 0 None) (graph.with_script g weak_map) refl Q
+      (Follows-map (Reached g) h g well start) f
+  done_in-follows (proxy_made d x) m Q f = proxy-follows d x m.0.reached (behind x m.0) m.0.made Q f
+  done_in-follows (native_held d x) m Q f = f (Reached g) (Follows-hold (Reached g) h g d x x refl m.reached start)
+  done_in-follows (script_held d x) m Q f = f (Reached g) (Follows-hold_script (Reached g) h g d x x refl m.reached start)
+  done_in-follows (script_copied d x) m Q f = f (Reached g) (Follows-script_register (Reached g) h g d x x refl m.reached start)
+  done_in-follows (native_stored d i x) m Q f = f (Reached g)
+      (Follows-store (Reached g) h g d i x x refl m.reached (register-reached g (N d)) (native-preserved g d) start)
+  done_in-follows (slot_moved d i r j) m Q f = f (Reached g) (Follows-move (Reached g) h g d i r j (slot_at (graph.objects_of g) (N r) j)
       (slot_at-alike (heap.objects_of h) (graph.objects_of g) a (N r) j) (slot_at-reached g (N r) j) (register-reached g (N d)) (register-reached g (N r)) native-preserved start)
-  effects-follow (Put d i r) Q f = f (Reached g)
-      (subst (λ x. Follows (Reached g) (put_in_script h x i (heap.source h (option_map S r))) (graph.set_slot (graph.preserve g (graph.register g (S d))) (graph.register g (S d)) i (graph.source g (option_map S r)))) (sym (a.register (S d)))
-      (subst (λ y. Follows (Reached g) (put_in_script h (graph.register g (S d)) i y) (graph.set_slot (graph.preserve g (graph.register g (S d))) (graph.register g (S d)) i (graph.source g (option_map S r)))) (sym (script_source-alike r))
-      (Follows-put_script (Reached g) h g (graph.register g (S d)) i (graph.source g (option_map S r)) (register-reached g (S d))
-      (script-behind g (graph.register g (S d)) (script_register-made g m d) (register-reached g (S d))) (script_source-reached g r) start)))
-  effects-follow (Take d r i) Q f = f (Reached g) (Follows-hold_script (Reached g) h g d (slot_at (heap.objects_of h) (S r) i) (slot_at (graph.objects_of g) (S r) i)
-      (slot_at-alike (heap.objects_of h) (graph.objects_of g) a (S r) i) (slot_at-reached g (S r) i) start)
-  effects-follow (Wrap d r) Q f = wrap d (graph.register g (N r)) (register-reached g (N r)) (native_register-made g m r) Q
-      (λ P t. f P (subst (λ x. Follows P (heap.set_register (effects_of.wrapped h x) (S d) (reflector_of x)) (graph.set_register (graph.wrapped g (graph.register g (N r))) (S d) (reflector_of (graph.register g (N r)))))
-      (sym (a.register (N r))) t))
-  effects-follow (Unwrap d r) Q f = f (Reached g) (Follows-hold (Reached g) h g d (native_of (heap.register h (S r))) (native_of (graph.register g (S r))) (ap native_of (a.register (S r)))
-      (native_of-reached g (graph.register g (S r)) (script_register-made g m r) (register-reached g (S r))) start)
-  effects-follow (Preserve r) Q f = f (Reached g)
-      (subst (λ x. Follows (Reached g) (heap.preserve h x) (graph.preserve g (graph.register g (S r)))) (sym (a.register (S r)))
-      (Follows-preserve (Reached g) h g (graph.register g (S r)) (register-reached g (S r))
-      (script-behind g (graph.register g (S r)) (script_register-made g m r) (register-reached g (S r))) start))
-  effects-follow (SetEntry x k v) Q f = f (Reached g)
-      (subst (λ y. Follows (Reached g) (effects_of.set_entry h y (heap.register h (S k)) (heap.source h (option_map S v))) (changed_entry x k v)) (sym (a.register (S x)))
-      (subst (λ y. Follows (Reached g) (effects_of.set_entry h (graph.register g (S x)) y (heap.source h (option_map S v))) (changed_entry x k v)) (sym (a.register (S k)))
-      (subst (λ y. Follows (Reached g) (effects_of.set_entry h (graph.register g (S x)) (graph.register g (S k)) y) (changed_entry x k v)) (sym (script_source-alike v))
-      (Follows-set_entry (Reached g) h g (graph.register g (S x)) (graph.register g (S k)) (graph.source g (option_map S v)) (register-reached g (S x)) (register-reached g (S k))
-      (script-behind g (graph.register g (S k)) (script_register-made g m k) (register-reached g (S k))) (script_source-reached g v) (delegate-same k) m.one_entry start))))
-    where
-      changed_entry : ℕ → ℕ → Option ℕ → Graph
-      changed_entry x k v = graph.set_entry g (graph.register g (S x)) (graph.register g (S k)) (graph.source g (option_map S v))
-  effects-follow (GetEntry d x k) Q f = f (Reached g) (Follows-hold_script (Reached g) h g d (value_at (heap.objects_of h) (heap.register h (S x)) (heap.register h (S k)))
-      (value_at (graph.objects_of g) (graph.register g (S x)) (graph.register g (S k))) (a.value (S x) (S k)) (value_at-reached g (S x) (S k)) start)
-  effects-follow (Expose r i) Q f = f (Reached g) (Follows-left (Reached g) h _ g (Leaves-exposed h (slot_at (heap.objects_of h) (N r) i)) start)
-  effects-follow _ Q f = f (Reached g) start
+  done_in-follows (script_stored x i y) m Q f = f (Reached g) (Follows-put_script (Reached g) h g x i y m.0.reached (behind x m.0) m.1.reached start)
+  done_in-follows (reflector_held d x) m Q f = wrap d x m.reached m.made Q f
+  done_in-follows (reflector_preserved x) m Q f = f (Reached g) (Follows-preserve (Reached g) h g x m.reached (behind x m) start)
+  done_in-follows (entry_written x k v) m Q f = f (Reached g) (Follows-set_entry (Reached g) h g x k v m.the_map.reached m.key.reached (behind k m.key)
+      m.value.reached (delegate-same k m.key) well.one_entry start)
+  done_in-follows (object_exposed x) m Q f = f (Reached g) (Follows-left (Reached g) h (exposed h x) g (Leaves-exposed h x) start)
 
--- what a command that the heaps do not refuse makes of the graph
+  -- AFTER EACH COMMAND that is not refused the heaps follow what it makes of the graph.
+  effects-follow : (c : Command) → IsTrue (in_range c) → IsTaken (graph.objects_of g) c → (Q : Type 0) →
+      ((P : Name → Type 0) → Follows P (effects h c).heap (changed g c) → Q) → Q
+  unfolding effects changed
+  effects-follow c r t Q f = done_in-follows (deed_of (graph.objects_of g) c) (may_be_done_to g well c r t) Q
+      (λ P k. f P (subst (λ d. Follows P (done_in h d).heap (done_to g (deed_of (graph.objects_of g) c))) (sym (deed_of-alike (heap.objects_of h) (graph.objects_of g) a c)) k))
+
+-- the graph does not refuse what the heaps do not refuse
+refused-alike : (h : Heap) (g : Graph) (c : Command) → StandsFor h g → refusal_of (heap.objects_of h) c ≡ None → refusal_of (graph.objects_of g) c ≡ None
+refused-alike h g c s t = sym (refusal_of-alike (heap.objects_of h) (graph.objects_of g) (objects-stand h g s) c) ∙ t
+
+-- what it makes of the graph
 step-changed : (h : Heap) (g : Graph) (c : Command) → StandsFor h g → refusal_of (heap.objects_of h) c ≡ None → step g c ≡ changed g c
-step-changed h g c s t = ap (λ o. unless_refused o g (changed g c)) (sym (refusal_of-alike (heap.objects_of h) (graph.objects_of g) (objects-stand h g s) c) ∙ t)
+step-changed h g c s t = ap (λ o. unless_refused o g (changed g c)) (refused-alike h g c s t)
 
 -- AFTER EACH COMMAND THAT IS NOT REFUSED THE HEAPS STAND FOR THE GRAPH'S STEP.
 pub command-stands : {owned : List ℕ} (h : Heap) (g : Graph) (c : Command) → IsSound owned h → IsWellMade g → StandsFor h g → IsTrue (in_range c) →
     refusal_of (heap.objects_of h) c ≡ None → StandsFor (effects h c).heap (step g c)
-command-stands h g c sound m s r t = effects-follow h g sound.well_formed m s c (StandsFor (effects h c).heap (step g c))
+command-stands h g c sound m s r t = effects-follow h g sound.well_formed m s c r (IsTaken-from (graph.objects_of g) c (refused-alike h g c s t)) (StandsFor (effects h c).heap (step g c))
     (λ P f. follows-stands P (effects h c).heap (step g c) (effects-sound h c sound r (IsTaken-from (heap.objects_of h) c t)).well_formed (step-well g m c r)
     (subst (Follows P (effects h c).heap) (sym (step-changed h g c s t)) f))
 

@@ -1,7 +1,7 @@
 -- EACH COMMAND LEAVES A GRAPH WELL MADE: what it puts into a register, a slot or an entry was made.
-use Rattle.std.proofs.Common.{◌≡◌, ℕ, ◌+◌, ◌<◌, true, false, not, [], ◌∷◌, ◌++◌, length, set, Option, Some, None, is_none, is_some, option_map, refl, sym, subst, ⊎_elim, arith}
+use Rattle.std.proofs.Common.{◌≡◌, ℕ, ◌+◌, ◌<◌, true, not, [], ◌∷◌, ◌++◌, length, set, Option, Some, None, is_none, is_some, option_map, refl, sym, subst, ⊎_elim, arith}
 use Rattle.std.specs.Prelude.{IsTrue}
-use Rattle.std.proofs.lemmas.Bool.{and_parts, false≢true, leb-true, leb-false, not-false}
+use Rattle.std.proofs.lemmas.Bool.{false≢true}
 use Rattle.cc_lists.proofs.Members.{Among-filtered}
 use Rattle.cc_lists.proofs.Filtering.{count_by-filter-le}
 use Rattle.cc_names.specs.Allowance.{Allowance}
@@ -9,24 +9,23 @@ use Rattle.cc_names.specs.declared.name.Name.{Name}
 use Rattle.cc_names.specs.declared.name.Name.TheVariants as name
 use Rattle.cc_names.specs.declared.register.Reg.TheVariants.{N, S}
 use Rattle.cc_names.specs.Names.{native, object}
-use Rattle.cc_names.specs.Sizes.{most_slots}
 use Rattle.cc_model.specs.declared.command.Command.{Command}
-use Rattle.cc_model.specs.declared.command.Command.TheVariants.{Native, Script, WeakMap, Proxy, CopyNative, CopyScript, Drop, Set, Get, Move, Put, Take, Wrap, Unwrap, Preserve, SetEntry, GetEntry}
 use Rattle.cc_model.specs.declared.item.Refusal.{Refusal}
-use Rattle.cc_model.specs.Ranges.{in_range, is_register, is_slots}
+use Rattle.cc_model.specs.Ranges.{in_range}
 use Rattle.cc_model.specs.Slots.{Slots, empty_slots}
 use Rattle.cc_model.specs.Entries.{entry, is_entry_of, with_entry, without_entry}
-use Rattle.cc_model.specs.Checks.{slot_at, value_at, native_of, reflector_of, is_map_in, refusal_of}
-use Rattle.cc_model.specs.Graph.{Graph, plain_object, weak_map, proxy, numbered, script_in, delegate_in, slots_in, objects_of, register, source, set_slot, move_slot, preserve, wrapped, set_entry, as_preserved, as_wrapped, with_slot, with_reflector_slot, with_native, with_script, with_proxy, empty_graph, done_to, changed, unless_refused, step}
-use Rattle.cc_model.specs.Deeds.{deed_of}
+use Rattle.cc_model.specs.Checks.{slot_at, reflector_of, refusal_of}
+use Rattle.cc_model.specs.Graph.{Graph, GraphScript, plain_object, weak_map, proxy, numbered, script_in, delegate_in, slots_in, objects_of, register, set_register, set_slot, move_slot, preserve, wrapped, set_entry, as_preserved, as_wrapped, with_slot, with_reflector_slot, with_native, with_script, with_proxy, empty_graph, done_to, changed, unless_refused, step}
+use Rattle.cc_model.specs.Deeds.{Deed, nothing_done, native_made, plain_made, map_made, proxy_made, native_held, script_held, script_copied, native_stored, slot_moved, script_stored, reflector_held, reflector_preserved, entry_written, object_exposed, deed_of}
 use Rattle.cc_model.specs.WellMade.{IsWellMade, IsMadeEntry}
 use Rattle.cc_laws_heap.proofs.Taken.{IsTaken, IsTaken-from}
+use Rattle.cc_laws_heap.proofs.MayBeDoneTo.{MayBeDoneTo, may_be_done_to}
 use Rattle.cc_laws_heap.proofs.Holds.{OfSome, OfSome-then}
 use Rattle.cc_laws_heap.proofs.Numbered.{numbered-nothing, numbered-push, numbered-change}
 use Rattle.cc_laws_heap.proofs.EntryLists.{with_entry-cases, entries_of-set}
-use Rattle.cc_laws_heap.proofs.GraphParts.{is_some-found, was_made-native, was_made-script, was_made-reflector, reflector-made, Grows, is_made_native-grows, is_made_script-grows, IsMadeEntry-grows, IsWellMade-entries}
+use Rattle.cc_laws_heap.proofs.GraphParts.{ScriptFits, is_some-found, was_made-native, was_made-script, was_made-reflector, reflector-made, Grows, is_made_native-grows, is_made_script-grows, IsMadeEntry-grows, IsWellMade-entries}
 use Rattle.cc_laws_heap.proofs.GraphWrites.{IsWellMade-native_register, IsWellMade-script_register, set_native-is, Grows-change_native, IsWellMade-change_native, KeepsNative-slot, KeepsNative-reflector_slot, KeepsNative-preserved, KeepsNative-wrapped, IsWellMade-script_slot, IsWellMade-with_native, IsWellMade-with_script, ScriptFits-plain, ScriptFits-map, ScriptFits-proxy}
-use Rattle.cc_laws_heap.proofs.GraphReads.{Made, MadeNative, MadeScript, MadeScript-made, native_register-made, script_register-made, register-made, source-made, script_source-made, slot_at-made, script_slot_at-made, no_script-made, no_native-made, native_of-made, value_at-made}
+use Rattle.cc_laws_heap.proofs.GraphReads.{Made, MadeNative, MadeScript, MadeScript-made, native_register-made, slot_at-made}
 use Rattle.cc_laws_heap.proofs.Making.{contents-empty_none}
 
 -- a slot written takes no reflector away
@@ -95,10 +94,6 @@ module _ (g : Graph) (w : IsWellMade g) where
       made : IsMadeEntry g (entry m k (delegate_in g k) v)
       made = record { the_map = map-made g m s.0 s.1; key = t; value = u; delegate = refl }
 
-  -- what a map's register holds was made, and has no slots
-  map_register-made : (r : ℕ) → not (is_map_in (objects_of g) (register g (S r))) ≡ false → OfSome (λ x. MadeScript g x × (is_none (slots_in g x) ≡ true)) (register g (S r))
-  map_register-made r = grind (arith, script_register-made, not-false)
-
 -- what a slot of a native holds moved into another
 move-well : (g : Graph) → IsWellMade g → (to : Option Name) (i : ℕ) (from : Option Name) (j : ℕ) (x : Option Name) → OfSome (MadeNative g) to → OfSome (MadeNative g) from → OfSome (Made g) x →
     IsWellMade (move_slot g to i from j x)
@@ -139,37 +134,37 @@ proxy-well g w d (Some x) m room = IsWellMade-script_register f d (Some (object 
     f = with_script e (proxy x)
 
 module _ (g : Graph) (w : IsWellMade g) where
-  -- EACH COMMAND that is not refused leaves the graph well made.
-  changed-well : (c : Command) → IsTrue (in_range c) → IsTaken (objects_of g) c → IsWellMade (changed g c)
-  unfolding changed done_to deed_of
-  changed-well (Native d n) r t = IsWellMade-native_register (with_native g n) d (Some (native (length g.natives + 1)))
-      (IsWellMade-with_native g n w (leb-true n most_slots (and_parts (is_register d) (is_slots n) r).1) (leb-false g.limits.natives (length g.natives) t.room))
-      (was_made-native (with_native g n) (length g.natives + 1) _ (numbered-push g.natives _))
-  changed-well (Script d n) r t = IsWellMade-script_register (with_script g (plain_object (empty_slots n))) d (Some (object (length g.scripts + 1)))
-      (IsWellMade-with_script g (plain_object (empty_slots n)) w (ScriptFits-plain n (leb-true n most_slots (and_parts (is_register d) (is_slots n) r).1) g) (leb-false g.limits.scripts (length g.scripts) t.room))
-      (was_made-script (with_script g (plain_object (empty_slots n))) (length g.scripts + 1) (plain_object (empty_slots n)) (numbered-push g.scripts (plain_object (empty_slots n))))
-  changed-well (WeakMap d) r t = IsWellMade-script_register (with_script g weak_map) d (Some (object (length g.scripts + 1)))
-      (IsWellMade-with_script g weak_map w (ScriptFits-map g) (leb-false g.limits.scripts (length g.scripts) t.room))
-      (was_made-script (with_script g weak_map) (length g.scripts + 1) weak_map (numbered-push g.scripts weak_map))
-  changed-well (Proxy d s) r t = proxy-well g w d (register g (S s)) (script_register-made g w s) (leb-false g.limits.scripts (length g.scripts) t.room)
-  changed-well (CopyNative d s) r t = IsWellMade-native_register g d (register g (N s)) w (native_register-made g w s)
-  changed-well (CopyScript d s) r t = IsWellMade-script_register g d (register g (S s)) w (script_register-made g w s)
-  changed-well (Drop (N d)) r t = IsWellMade-native_register g d None w tt
-  changed-well (Drop (S d)) r t = IsWellMade-script_register g d None w tt
-  changed-well (Set d i s) r t = native_slot-well g w (register g (N d)) i (source g s) (native_register-made g w d) (source-made g w s)
-  changed-well (Get (N d) s i) r t = IsWellMade-native_register g d (slot_at (objects_of g) (N s) i) w (no_script-made g w (slot_at (objects_of g) (N s) i) (slot_at-made g w (N s) i) t.content)
-  changed-well (Get (S d) s i) r t = IsWellMade-script_register g d (slot_at (objects_of g) (N s) i) w (no_native-made g w (slot_at (objects_of g) (N s) i) (slot_at-made g w (N s) i) t.content)
-  changed-well (Move d i s j) r t = move-well g w (register g (N d)) i (register g (N s)) j (slot_at (objects_of g) (N s) j)
+  -- a script object made, which a register holds
+  object_made-well : (d : ℕ) (o : GraphScript) → ScriptFits g o → length g.scripts < g.limits.scripts →
+      IsWellMade (set_register (with_script g o) (S d) (Some (object (length g.scripts + 1))))
+  object_made-well d o fits room = IsWellMade-script_register (with_script g o) d (Some (object (length g.scripts + 1)))
+      (IsWellMade-with_script g o w fits room) (was_made-script (with_script g o) (length g.scripts + 1) o (numbered-push g.scripts o))
+
+  -- WHAT IS DONE LEAVES THE GRAPH WELL MADE.
+  done_to-well : (d : Deed) → MayBeDoneTo g d → IsWellMade (done_to g d)
+  unfolding done_to
+  done_to-well nothing_done m = w
+  done_to-well (native_made d n) m = IsWellMade-native_register (with_native g n) d (Some (native (length g.natives + 1)))
+      (IsWellMade-with_native g n w m.0 m.1) (was_made-native (with_native g n) (length g.natives + 1) _ (numbered-push g.natives _))
+  done_to-well (plain_made d n) m = object_made-well d (plain_object (empty_slots n)) (ScriptFits-plain n m.0 g) m.1
+  done_to-well (map_made d) m = object_made-well d weak_map (ScriptFits-map g) m
+  done_to-well (proxy_made d x) m = proxy-well g w d x m.0.made m.1
+  done_to-well (native_held d x) m = IsWellMade-native_register g d x w m.made
+  done_to-well (script_held d x) m = IsWellMade-script_register g d x w m.made
+  done_to-well (script_copied d x) m = IsWellMade-script_register g d x w m.made
+  done_to-well (native_stored d i x) m = native_slot-well g w (register g (N d)) i x (native_register-made g w d) m.made
+  done_to-well (slot_moved d i s j) m = move-well g w (register g (N d)) i (register g (N s)) j (slot_at (objects_of g) (N s) j)
       (native_register-made g w d) (native_register-made g w s) (slot_at-made g w (N s) j)
-  changed-well (Put d i s) r t = put-well g w (register g (S d)) i (source g (option_map S s)) (script_register-made g w d) (script_source-made g w s)
-  changed-well (Take d s i) r t = IsWellMade-script_register g d (slot_at (objects_of g) (S s) i) w (script_slot_at-made g w s i)
-  changed-well (Wrap d s) r t = IsWellMade-script_register (wrapped g (register g (N s))) d (reflector_of (register g (N s))) (wrapped-well g w (register g (N s)))
-      (wrapped-made g w (register g (N s)) (native_register-made g w s))
-  changed-well (Unwrap d s) r t = IsWellMade-native_register g d (native_of (register g (S s))) w (native_of-made g w (register g (S s)) (script_register-made g w s))
-  changed-well (Preserve s) r t = preserve-well g w (register g (S s)) (register-made g w (S s))
-  changed-well (SetEntry m k v) r t = set_entry-well g w (register g (S m)) (register g (S k)) (source g (option_map S v)) (map_register-made g w m t.kinds) (script_register-made g w k) (script_source-made g w v)
-  changed-well (GetEntry d m k) r t = IsWellMade-script_register g d (value_at (objects_of g) (register g (S m)) (register g (S k))) w (value_at-made g w (register g (S m)) (register g (S k)))
-  changed-well _ r t = w
+  done_to-well (script_stored x i y) m = put-well g w x i y m.0.made m.1.made
+  done_to-well (reflector_held d x) m = IsWellMade-script_register (wrapped g x) d (reflector_of x) (wrapped-well g w x) (wrapped-made g w x m.made)
+  done_to-well (reflector_preserved x) m = preserve-well g w x (OfSome-then (MadeScript g) (Made g) (MadeScript-made g) x m.made)
+  done_to-well (entry_written a k v) m = set_entry-well g w a k v m.is_map m.key.made m.value.made
+  done_to-well (object_exposed x) m = w
+
+  -- A command that is not refused leaves the graph well made.
+  changed-well : (c : Command) → IsTrue (in_range c) → IsTaken (objects_of g) c → IsWellMade (changed g c)
+  unfolding changed
+  changed-well c r t = done_to-well (deed_of (objects_of g) c) (may_be_done_to g w c r t)
 
   -- A STEP LEAVES THE GRAPH WELL MADE.
   pub step-well : (c : Command) → IsTrue (in_range c) → IsWellMade (step g c)

@@ -70,8 +70,10 @@ pub mod RoundsStand
 pub mod RepliesAlike
 pub mod Numbered
 pub mod GraphWrites
-pub mod GraphCommands
 pub mod GraphReads
+pub mod ReachedReads
+pub mod MayBeDoneTo
+pub mod GraphCommands
 pub mod Writing
 pub mod SlotsWritten
 pub mod EntriesWritten
@@ -80,7 +82,6 @@ pub mod NewObjects
 pub mod CascadeTakesOut
 pub mod Unseen
 pub mod Wrapping
-pub mod ReachedReads
 pub mod StepsAlike
 pub mod CommandsStand
 pub mod GraphLeads

@@ -11,6 +11,7 @@ use Rattle.cc_names.specs.Names.{is_script}
 use Rattle.cc_model.specs.declared.command.Command.{Command}
 use Rattle.cc_model.specs.Slots.{Slots}
 use Rattle.cc_model.specs.Checks.{Objects, slots_or_none, slots_at, slot_at, value_at, needed, lacks_object, is_map_in, has_wrong_object, has_no_slot, has_wrong_content, is_full, refusal_of, reply_if_taken}
+use Rattle.cc_model.specs.Deeds.{source_of, deed_of}
 use Rattle.cc_model.specs.Graph as graph
 use Rattle.cc_model.specs.Graph.{Graph}
 use Rattle.cc_model.specs.Reached.{Reached, held}
@@ -67,6 +68,16 @@ module _ (o p : Objects) (a : AreAlike o p) where
   pub reply_if_taken-alike : (c : Command) → reply_if_taken o c ≡ reply_if_taken p c
   unfolding reply_if_taken
   reply_if_taken-alike c = grind (arith, slot_at-alike)
+
+  -- a source gives the same
+  source_of-alike : (r : Option Reg) → source_of o r ≡ source_of p r
+  source_of-alike None = refl
+  source_of-alike (Some r) = a.register r
+
+  -- THE SAME IS DONE.
+  pub deed_of-alike : (c : Command) → deed_of o c ≡ deed_of p c
+  unfolding deed_of
+  deed_of-alike c = grind (arith, slot_at-alike, source_of-alike)
 
 module _ (h : Heap) (g : Graph) (s : StandsFor h g) where
   -- the registers hold the same
