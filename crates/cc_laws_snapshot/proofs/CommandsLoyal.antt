@@ -1,8 +1,7 @@
--- EACH COMMAND THAT IS NOT REFUSED IS A LOYAL CHANGE.
-use Rattle.std.proofs.Common.{◌≡◌, ℕ, ◌+◌, ◌<◌, ◌≤◌, List, ◌++◌, length, Option, Some, None, refl, sym, ◌∙◌, subst, inl, arith, option_map, slice_index_or}
+-- EACH COMMAND THAT IS NOT REFUSED IS A LOYAL CHANGE: whatever it comes to is.
+use Rattle.std.proofs.Common.{◌≡◌, ℕ, ◌+◌, ◌<◌, ◌≤◌, List, ◌++◌, length, Option, Some, None, refl, sym, ◌∙◌, subst, inl, arith, slice_index_or}
 use Rattle.std.specs.Prelude.{IsTrue}
 use Rattle.std.specs.Option.{option_to_list}
-use Rattle.std.proofs.lemmas.Bool.{ltb-true, leb-false}
 use Rattle.cc_lists.specs.Members.{Among}
 use Rattle.cc_names.specs.declared.name.Name.{Name}
 use Rattle.cc_names.specs.declared.register.Reg.TheVariants.{N, S}
@@ -10,15 +9,14 @@ use Rattle.cc_names.specs.declared.kind.Kind.TheVariants.{Plain, Map}
 use Rattle.cc_names.specs.Names.{native}
 use Rattle.cc_names.specs.Sizes.{bank_length, most_slots}
 use Rattle.cc_model.specs.declared.command.Command.{Command}
-use Rattle.cc_model.specs.declared.command.Command.TheVariants.{Native, Script, WeakMap, Proxy, CopyNative, CopyScript, Drop, Set, Get, Move, Put, Take, Wrap, Unwrap, Preserve, SetEntry, GetEntry, Expose}
 use Rattle.cc_model.specs.Slots.{contents}
-use Rattle.cc_model.specs.Ranges.{in_range, is_register, is_slots}
-use Rattle.cc_model.specs.Checks.{slot_at, slots_at, value_at, native_of, reflector_of}
-use Rattle.cc_model.specs.Heap.{Heap, HeapNative, Outcome, native_at, register, set_register, change_native, with_native_slot, source, objects_of, preserve}
+use Rattle.cc_model.specs.Ranges.{in_range}
+use Rattle.cc_model.specs.Checks.{slots_at, reflector_of}
+use Rattle.cc_model.specs.Deeds.{Deed, nothing_done, native_made, plain_made, map_made, proxy_made, native_held, script_held, script_copied, native_stored, slot_moved, script_stored, reflector_held, reflector_preserved, entry_written, object_exposed, deed_of}
+use Rattle.cc_model.specs.Heap.{Heap, HeapNative, Outcome, native_at, register, set_register, change_native, with_native_slot, objects_of}
 use Rattle.cc_model.specs.View.{view, ReachedIn}
 use Rattle.cc_model.specs.Cascade.{take_up, let_go}
-use Rattle.cc_model.specs.Exposure.{exposed}
-use Rattle.cc_model.specs.Effects.{effects, put_in_register, hold_native, store_native, with_native, make_native, hold_script, make_object, make_proxy, wrapped, set_entry, put_in_script}
+use Rattle.cc_model.specs.Effects.{done_in, effects, hold_native, store_native, with_native, make_native, wrapped}
 use Rattle.cc_model.specs.WellFormed.{native_names, names_there}
 use Rattle.cc_laws_heap.specs.Sound.{IsSound, numbers_of}
 use Rattle.cc_laws_heap.proofs.Natives.{IsWellFormed-distinct}
@@ -26,9 +24,10 @@ use Rattle.cc_laws_heap.proofs.HoldsTheSame.{HoldsTheSame-take_up, native_names-
 use Rattle.cc_laws_heap.proofs.Owning.{IsIn, take_up-sound}
 use Rattle.cc_laws_heap.proofs.Writes.{contents-at, native_register-sound, native_slot-sound}
 use Rattle.cc_laws_heap.proofs.MadeSound.{with_native-sound}
-use Rattle.cc_laws_heap.proofs.Holding.{IsIn-natives, IsIn-no_script, native_register-there, script_register-there, source-there, slot_at-there, native_of-there}
+use Rattle.cc_laws_heap.proofs.Holding.{IsIn-natives}
 use Rattle.cc_laws_heap.proofs.NativeCommands.{IsIn-take_up, IsIn-made, HasSlot, HasSlot-take_up, put_in_slot-written, names_there-take_up}
-use Rattle.cc_laws_heap.proofs.CommandsSound.{below-first, few-slots, moved-slots}
+use Rattle.cc_laws_heap.proofs.MayBeDone.{MayBeDone, may_be_done}
+use Rattle.cc_laws_heap.proofs.CommandsSound.{done_in-sound}
 use Rattle.cc_laws_heap.proofs.Taken.{IsTaken}
 use Rattle.cc_laws_heap.proofs.ScriptsKept.{native-no_script}
 use Rattle.cc_laws_snapshot.specs.Losing.{IsLoyal}
@@ -48,11 +47,6 @@ hold_native-loyal {owned} h d x room there s =
     handed-loyal owned (register (take_up h x) (N d)) h (set_register (take_up h x) (N d) x) s.well_formed
     (native_register-sound owned (take_up h x) d x room (IsIn-take_up h x x there) taken)
     (Hands-register h (take_up h x) d x enough (TakesUp-take_up h x) (λ i m. inl (subst (λ xs. Among (native i) xs) names m)))
-
--- a native register is emptied
-drop_native-loyal : {owned : List ℕ} (h : Heap) (d : ℕ) → d < bank_length → IsSound owned h → IsLoyal (view h) (view (put_in_register h d None).heap)
-unfolding hold_native
-drop_native-loyal h d room s = hold_native-loyal h d None room (λ y m. absurd m) s
 
 -- a native is made
 pub make_native-loyal : {owned : List ℕ} (h : Heap) (d n : ℕ) → d < bank_length → n ≤ most_slots → h.natives_made < h.limits.natives → IsSound owned h →
@@ -95,39 +89,32 @@ store_native-loyal {owned} h d i x there room s = subst (λ (o : Outcome). IsLoy
 pub still-loyal : {owned : List ℕ} (h g : Heap) → IsSound owned h → IsSound owned g → Still h g → IsLoyal (view h) (view g)
 still-loyal {owned} h g s t k = handed-loyal owned None h g s.well_formed t (Hands-still h g k)
 
+-- a deed that leaves natives as they are is loyal
+still_done-loyal : {owned : List ℕ} (h : Heap) (d : Deed) → IsSound owned h → MayBeDone h d → Still h (done_in h d).heap → IsLoyal (view h) (view (done_in h d).heap)
+still_done-loyal h d s m k = still-loyal h (done_in h d).heap s (done_in-sound h d s m) k
+
+-- WHAT IS DONE IS A LOYAL CHANGE.
+done_in-loyal : {owned : List ℕ} (h : Heap) (d : Deed) → IsSound owned h → MayBeDone h d → IsLoyal (view h) (view (done_in h d).heap)
+unfolding done_in
+done_in-loyal h nothing_done s m = still_done-loyal h nothing_done s m (Still-refl h)
+done_in-loyal h (native_made d n) s m = make_native-loyal h d n m.register m.few m.room s
+done_in-loyal h (plain_made d n) s m = still_done-loyal h (plain_made d n) s m (Still-make_object h d Plain n None)
+done_in-loyal h (map_made d) s m = still_done-loyal h (map_made d) s m (Still-make_object h d Map 0 None)
+done_in-loyal h (proxy_made d x) s m = still_done-loyal h (proxy_made d x) s m (Still-make_proxy h d x)
+done_in-loyal h (native_held d x) s m = hold_native-loyal h d x m.0 m.1 s
+done_in-loyal h (script_held d x) s m = still_done-loyal h (script_held d x) s m (Still-hold_script h d x)
+done_in-loyal h (script_copied d x) s m = still_done-loyal h (script_copied d x) s m (Still-script_register h d x)
+done_in-loyal h (native_stored d i x) s m = store_native-loyal h d i x m.0.there m.1 s
+done_in-loyal h (slot_moved d i q j) s m = move_slot-loyal h d i q j m.0 m.1 s
+done_in-loyal h (script_stored x i y) s m = still_done-loyal h (script_stored x i y) s m
+    (Still-put_in_script h x i y (λ k n. native-no_script h k s.well_formed (m.0.there (native k) n)))
+done_in-loyal {owned} h (reflector_held d x) s m = handed-loyal owned None h (set_register (wrapped h x) (S d) (reflector_of x)) s.well_formed
+    (done_in-sound h (reflector_held d x) s m) (Hands-wrapped h d x (λ j n. m.held (native j) n))
+done_in-loyal h (reflector_preserved x) s m = still_done-loyal h (reflector_preserved x) s m (Still-preserve h x)
+done_in-loyal h (entry_written m k v) s t = still_done-loyal h (entry_written m k v) s t (Still-set_entry h m k v)
+done_in-loyal h (object_exposed x) s m = still_done-loyal h (object_exposed x) s m (Still-exposed h x)
+
 -- A command that is not refused is a loyal change.
-pub effects-loyal : {owned : List ℕ} (h : Heap) (c : Command) → IsSound owned h → IsTrue (in_range c) → IsTaken (objects_of h) c → IsSound owned (effects h c).heap →
-    IsLoyal (view h) (view (effects h c).heap)
+pub effects-loyal : {owned : List ℕ} (h : Heap) (c : Command) → IsSound owned h → IsTrue (in_range c) → IsTaken (objects_of h) c → IsLoyal (view h) (view (effects h c).heap)
 unfolding effects
-effects-loyal {owned} h (Native d n) s r t u = make_native-loyal h d n (below-first d (is_slots n) r) (few-slots n (is_register d) r)
-    (leb-false h.limits.natives h.natives_made t.room) s
-effects-loyal {owned} h (Script d n) s r t u = still-loyal h (make_object h d Plain n None) s u (Still-make_object h d Plain n None)
-effects-loyal {owned} h (WeakMap d) s r t u = still-loyal h (make_object h d Map 0 None) s u (Still-make_object h d Map 0 None)
-effects-loyal {owned} h (Proxy d q) s r t u = still-loyal h (make_proxy h d (register h (S q))) s u (Still-make_proxy h d (register h (S q)))
-effects-loyal {owned} h (CopyNative d q) s r t u = hold_native-loyal h d (register h (N q)) (below-first d (is_register q) r) (native_register-there h q s.well_formed) s
-effects-loyal {owned} h (CopyScript d q) s r t u = still-loyal h (set_register h (S d) (register h (S q))) s u (Still-script_register h d (register h (S q)))
-effects-loyal {owned} h (Drop (N d)) s r t u = drop_native-loyal h d (ltb-true d bank_length r) s
-effects-loyal {owned} h (Drop (S d)) s r t u = still-loyal h (set_register h (S d) None) s u (Still-script_register h d None)
-effects-loyal {owned} h (Set d i q) s r t u = store_native-loyal h d i (source h q) (source-there h q s.well_formed)
-    (leb-false (length (slots_at (objects_of h) (N d))) i t.slot) s
-effects-loyal {owned} h (Get (N d) q i) s r t u = hold_native-loyal h d (slot_at (objects_of h) (N q) i) (below-first d (is_register q) r)
-    (IsIn-no_script h (slot_at (objects_of h) (N q) i) s.well_formed (slot_at-there h (N q) i s.well_formed) t.content) s
-effects-loyal {owned} h (Get (S d) q i) s r t u = still-loyal h (hold_script h d (slot_at (objects_of h) (N q) i)) s u
-    (Still-hold_script h d (slot_at (objects_of h) (N q) i))
-effects-loyal {owned} h (Move d i q j) s r t u = let slots = moved-slots h d i q j t.slot in move_slot-loyal h d i q j slots.0 slots.1 s
-effects-loyal {owned} h (Put d i q) s r t u = still-loyal h (put_in_script h (register h (S d)) i (source h (option_map S q))) s u
-    (Still-put_in_script h (register h (S d)) i (source h (option_map S q))
-    (λ k m. native-no_script h k s.well_formed (script_register-there h d s.well_formed (native k) m)))
-effects-loyal {owned} h (Take d q i) s r t u = still-loyal h (hold_script h d (slot_at (objects_of h) (S q) i)) s u
-    (Still-hold_script h d (slot_at (objects_of h) (S q) i))
-effects-loyal {owned} h (Wrap d q) s r t u = handed-loyal owned None h (set_register (wrapped h (register h (N q))) (S d) (reflector_of (register h (N q)))) s.well_formed u
-    (Hands-wrapped h d (register h (N q)) (λ j m. contents-at h.native_registers q (native j) m))
-effects-loyal {owned} h (Unwrap d q) s r t u = hold_native-loyal h d (native_of (register h (S q))) (below-first d (is_register q) r)
-    (native_of-there h (register h (S q)) s.well_formed (script_register-there h q s.well_formed)) s
-effects-loyal {owned} h (Preserve q) s r t u = still-loyal h (preserve h (register h (S q))) s u (Still-preserve h (register h (S q)))
-effects-loyal {owned} h (SetEntry m k v) s r t u = still-loyal h (set_entry h (register h (S m)) (register h (S k)) (source h (option_map S v))) s u
-    (Still-set_entry h (register h (S m)) (register h (S k)) (source h (option_map S v)))
-effects-loyal {owned} h (GetEntry d m k) s r t u = still-loyal h (hold_script h d (value_at (objects_of h) (register h (S m)) (register h (S k)))) s u
-    (Still-hold_script h d (value_at (objects_of h) (register h (S m)) (register h (S k))))
-effects-loyal {owned} h (Expose q i) s r t u = still-loyal h (exposed h (slot_at (objects_of h) (N q) i)) s u (Still-exposed h (slot_at (objects_of h) (N q) i))
-effects-loyal {owned} h _ s r t u = still-loyal h h s u (Still-refl h)
+effects-loyal h c s r t = done_in-loyal h (deed_of (objects_of h) c) s (may_be_done h c s r t)

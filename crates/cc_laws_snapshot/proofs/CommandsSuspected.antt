@@ -20,4 +20,4 @@ pub effects-suspected : {owned : List ℕ} (h : Heap) (c : Command) (candidates 
 effects-suspected {owned} h c candidates s i e =
     let taken : IsTaken (objects_of h) c = IsTaken-from (objects_of h) c e in
     let sound : IsSound owned (effects h c).heap = effects-sound h c s i taken in
-    loyal-suspected h (effects h c).heap candidates s.well_formed sound.well_formed (effects-loyal h c s i taken sound)
+    loyal-suspected h (effects h c).heap candidates s.well_formed sound.well_formed (effects-loyal h c s i taken)
