@@ -7,6 +7,7 @@ pub mod Draining
 pub mod Rounds
 pub mod UnitsEnd
 pub mod Replies
+pub mod NoDeeds
 pub mod Opened
 pub mod Derivations
 pub mod PathsFollow

@@ -1,5 +1,5 @@
 -- What each command that passes its checks does to the heaps, in its order.
-use Rattle.std.specs.Prelude.{ℕ, ◌+◌, Bool, true, false, not, [], ◌∷◌, ◌++◌, Option, Some, None, is_none, option_map}
+use Rattle.std.specs.Prelude.{ℕ, ◌+◌, Bool, true, false, not, [], ◌∷◌, ◌++◌, Option, Some, None, is_none}
 use Rattle.cc_names.specs.declared.name.Name.{Name}
 use Rattle.cc_names.specs.declared.name.Name.TheVariants as name
 use Rattle.cc_names.specs.declared.register.Reg.TheVariants.{N, S}
@@ -13,7 +13,7 @@ use Rattle.cc_model.specs.Slots.{empty_slots, reflector_slots}
 use Rattle.cc_model.specs.Entries.{with_entry, without_entry}
 use Rattle.cc_model.specs.Checks.{slot_at, value_at, reflector_of}
 use Rattle.cc_model.specs.Deeds.{Deed, nothing_done, native_made, plain_made, map_made, proxy_made, native_held, script_held, script_copied, native_stored, slot_moved, script_stored, reflector_held, reflector_preserved, entry_written, object_exposed, deed_of}
-use Rattle.cc_model.specs.Heap.{Heap, Outcome, silently, register, objects_of, source, delegate_at, has_reflector, set_register, set_slot, preserve, touch}
+use Rattle.cc_model.specs.Heap.{Heap, Outcome, silently, register, objects_of, delegate_at, has_reflector, set_register, set_slot, preserve, touch}
 use Rattle.cc_model.specs.Cascade.{add_ref, take_up, let_go}
 use Rattle.cc_model.specs.Exposure.{exposed}
 

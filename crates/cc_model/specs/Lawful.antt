@@ -6,7 +6,7 @@ use Rattle.cc_names.specs.declared.name.Name.{Name}
 use Rattle.cc_names.specs.declared.register.Reg.TheVariants.{N, S}
 use Rattle.cc_names.specs.Names.{same_name, is_native, natives_in}
 use Rattle.cc_model.specs.declared.command.Command.{Command}
-use Rattle.cc_model.specs.declared.command.Command.TheVariants.{Nothing, Native, Script, WeakMap, Proxy, SetEntry, Wrap, Why, Slice, Collect, Gc, Census}
+use Rattle.cc_model.specs.declared.command.Command.TheVariants.{Native, Script, WeakMap, Proxy, SetEntry, Wrap}
 use Rattle.cc_model.specs.declared.item.Refusal.TheVariants.{NoMemory, Long, Line}
 use Rattle.cc_model.specs.declared.item.Reply.{Reply}
 use Rattle.cc_model.specs.declared.item.Reply.TheVariants.{Refused, Census as counted}
@@ -14,6 +14,7 @@ use Rattle.cc_model.specs.declared.item.Event.{Event}
 use Rattle.cc_model.specs.declared.item.Event.TheVariants.{Unlinked, Freed, Abandoned}
 use Rattle.cc_model.specs.Answers.{Answer, no_answer, replying, listing}
 use Rattle.cc_model.specs.Asks.{Ask, long, bad, taken}
+use Rattle.cc_model.specs.Mutating.{takes_memory_to_say, silence, path, census, whole, Class, says, does, runs as runs_some, collects_scripts, class_of, is_units, is_script_collection}
 use Rattle.cc_model.specs.Checks.{refusal_of, value_at, reflector_of}
 use Rattle.cc_model.specs.Graph.{Graph, empty_graph, register, objects_of, step, reply_to}
 use Rattle.cc_model.specs.Reached.{Reached}
@@ -48,18 +49,25 @@ abbrev pub is_listed : List Name → Option Name → Bool
 is_listed names None = false
 is_listed names (Some x) = has same_name names x
 
--- the commands that may want memory: `wset` for a new entry alone, `wrap` where its reflector is not listed
+-- the commands of the mutator that may want memory: `wset` for a new entry alone, `wrap` where its reflector is not listed
+abbrev pub deed_may_want_memory : State → Command → Bool
+deed_may_want_memory s (Native d n) = true
+deed_may_want_memory s (Script d n) = true
+deed_may_want_memory s (WeakMap d) = true
+deed_may_want_memory s (Proxy d r) = true
+deed_may_want_memory s (SetEntry m k (Some v)) = is_none (value_at (objects_of s.graph) (register s.graph (S m)) (register s.graph (S k)))
+deed_may_want_memory s (Wrap d n) = not (is_listed s.listed (reflector_of (register s.graph (N n))))
+deed_may_want_memory s _ = false
+
+abbrev pub class_may_want_memory : State → Command → Class → Bool
+class_may_want_memory s c (says q) = takes_memory_to_say q
+class_may_want_memory s c does = deed_may_want_memory s c
+class_may_want_memory s c (runs_some u) = true
+class_may_want_memory s c collects_scripts = false
+
+-- the commands that may want memory
 abbrev pub may_want_memory : State → Command → Bool
-may_want_memory s (Native d n) = true
-may_want_memory s (Script d n) = true
-may_want_memory s (WeakMap d) = true
-may_want_memory s (Proxy d r) = true
-may_want_memory s (Why x) = true
-may_want_memory s (Slice u) = true
-may_want_memory s Collect = true
-may_want_memory s (SetEntry m k (Some v)) = is_none (value_at (objects_of s.graph) (register s.graph (S m)) (register s.graph (S k)))
-may_want_memory s (Wrap d n) = not (is_listed s.listed (reflector_of (register s.graph (N n))))
-may_want_memory s _ = false
+may_want_memory s c = class_may_want_memory s c (class_of c)
 
 -- want of memory, where the graph gives no refusal
 pub record WantsMemory (s : State) (c : Command) (reply : Reply) : Type 0 where
@@ -73,9 +81,7 @@ RepliesWith s c reply = (reply ≡ reply_to s.graph c) ⊎ WantsMemory s c reply
 -- The second clause: a refused ask has no events, but an abandoned collection
 
 abbrev pub runs_units : Command → Bool
-runs_units (Slice u) = true
-runs_units Collect = true
-runs_units _ = false
+runs_units c = is_units (class_of c)
 
 abbrev pub is_refused : Reply → Bool
 is_refused (Refused refusal) = true
@@ -88,8 +94,7 @@ is_abandoning c reply = runs_units c && is_without_memory reply
 -- The third and fourth: what is freed or unlinked is listed, and no root reaches it after the ask
 
 abbrev pub is_gc : Command → Bool
-is_gc Gc = true
-is_gc _ = false
+is_gc c = is_script_collection (class_of c)
 
 -- script objects are freed under `gc` alone
 abbrev pub may_free : Command → Name → Bool
@@ -129,10 +134,13 @@ runs [] = 0
 runs (i ∷ []) = 1
 runs (i ∷ j ∷ js) = break_between i j + runs (j ∷ js)
 
--- `collect` may end two collections, so its numbers are at most two rising runs
+-- a whole collection may end another one first, so its numbers are at most two rising runs
+abbrev pub runs_in : Class → ℕ
+runs_in (runs_some whole) = 2
+runs_in _ = 1
+
 abbrev pub runs_allowed : Command → ℕ
-runs_allowed Collect = 2
-runs_allowed _ = 1
+runs_allowed c = runs_in (class_of c)
 
 -- The fifth: where an abandonment stands
 
@@ -185,11 +193,15 @@ census_of names = listing (census_order names) (counted (length names))
 abbrev pub Explains : Graph → Name → Answer → Type 0
 Explains g x a = (a ≡ why_of (leads_made g) x) ⊎ (a ≡ replying [] (Refused NoMemory))
 
+-- what is told has its own form: nothing, the listed names, or a way; all else is answered by events and a reply
+abbrev pub AnswersClass : State → Command → Answer → Class → Type 0
+AnswersClass s c a (says silence) = a ≡ no_answer
+AnswersClass s c a (says census) = a ≡ census_of s.listed
+AnswersClass s c a (says (path x)) = Explains s.graph x a
+AnswersClass s c a _ = (a.listed ≡ []) × (a.steps ≡ []) × ReplyAnswers s c a a.reply
+
 abbrev pub AnswersTaken : State → Command → Answer → Type 0
-AnswersTaken s Nothing a = a ≡ no_answer
-AnswersTaken s Census a = a ≡ census_of s.listed
-AnswersTaken s (Why x) a = Explains s.graph x a
-AnswersTaken s c a = (a.listed ≡ []) × (a.steps ≡ []) × ReplyAnswers s c a a.reply
+AnswersTaken s c a = AnswersClass s c a (class_of c)
 
 abbrev pub AnswersAsk : State → Ask → Answer → Type 0
 AnswersAsk s long a = a ≡ replying [] (Refused Long)

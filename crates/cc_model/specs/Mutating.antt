@@ -13,6 +13,13 @@ pub data Saying : Type 0 where
   path : Name → Saying
   census : Saying
 
+-- a way to an object is found out in memory
+abbrev pub takes_memory_to_say : Saying → Bool
+takes_memory_to_say silence = false
+takes_memory_to_say version = false
+takes_memory_to_say (path x) = true
+takes_memory_to_say census = false
+
 -- units of collections: so many, or those of a whole one
 pub data Running : Type 0 where
   so_many : ℕ → Running
@@ -40,6 +47,18 @@ is_deed (says q) = false
 is_deed does = true
 is_deed (runs u) = false
 is_deed collects_scripts = false
+
+abbrev pub is_units : Class → Bool
+is_units (says q) = false
+is_units does = false
+is_units (runs u) = true
+is_units collects_scripts = false
+
+abbrev pub is_script_collection : Class → Bool
+is_script_collection (says q) = false
+is_script_collection does = false
+is_script_collection (runs u) = false
+is_script_collection collects_scripts = true
 
 -- THE COMMANDS OF THE MUTATOR: those that do a deed
 abbrev pub is_applied : Command → Bool

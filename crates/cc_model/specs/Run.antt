@@ -10,7 +10,7 @@ use Rattle.cc_model.specs.declared.item.Reply.{Reply}
 use Rattle.cc_model.specs.declared.item.Reply.TheVariants.{Done, Refused, Census as counted}
 use Rattle.cc_model.specs.declared.item.Event.{Event}
 use Rattle.cc_model.specs.Answers.{Answer, no_answer, replying, listing, text_of_answers}
-use Rattle.cc_model.specs.Mutating.{Saying, silence, version, path, census, Running, so_many, whole, Class, says, does, runs, collects_scripts, class_of}
+use Rattle.cc_model.specs.Mutating.{takes_memory_to_say, Saying, silence, version, path, census, Running, so_many, whole, Class, says, does, runs, collects_scripts, class_of}
 use Rattle.cc_model.specs.Asks.{Ask, long, bad, taken, asks_of}
 use Rattle.cc_model.specs.Checks.{refusal_of, reply_if_taken}
 use Rattle.cc_model.specs.Heap.{Heap, Outcome, objects_of}
@@ -34,16 +34,16 @@ with_answer_used m takes = elim takes [ true ↦ record m { memory = later_answe
 abbrev pub with_effects : Machine → Reply → Outcome → Turn
 with_effects m reply o = answering (record m { heap = o.heap }) o.events reply
 
--- memory is asked only by a command that takes some
-abbrev pub if_granted : Machine → Command → Bool → Turn
-if_granted m c takes = elim (takes && not (next_answer m.memory)) [
+-- memory is asked only where some is taken, and where it says no, nothing is done
+abbrev pub if_granted : Machine → Bool → (Machine → Turn) → Turn
+if_granted m takes done = elim (takes && not (next_answer m.memory)) [
   | true ↦ answering (with_answer_used m takes) [] (Refused NoMemory)
-  | false ↦ with_effects (with_answer_used m takes) (reply_if_taken (objects_of m.heap) c) (effects m.heap c)
+  | false ↦ done (with_answer_used m takes)
 ]
 
 abbrev pub unless_refused : Machine → Command → Option Refusal → Turn
 unless_refused m c (Some refusal) = answering m [] (Refused refusal)
-unless_refused m c None = if_granted m c (takes_memory m.heap c)
+unless_refused m c None = if_granted m (takes_memory m.heap c) (λ n. with_effects n (reply_if_taken (objects_of m.heap) c) (effects m.heap c))
 
 -- A COMMAND OF THE MUTATOR: refused, refused memory, or done
 unfoldable pub mutate : Machine → Command → Turn
@@ -61,25 +61,16 @@ after_gc d = answering d.machine d.events Done
 abbrev pub census_names : Heap → List Name
 census_names h = map (λ n. native n.number) h.natives ++ map (λ o. o.name) h.scripts
 
-abbrev pub take_census : Machine → List Name → Turn
-take_census m names = record { machine = m; answer = listing names (counted (length names)) }
+-- what is said of the heaps: of a way to an object, how the registers reach it
+abbrev pub said : Heap → Saying → Answer
+said h silence = no_answer
+said h version = replying [] Done
+said h (path x) = why_of (leads_in h) x
+said h census = listing (census_names h) (counted (length (census_names h)))
 
--- how the registers reach an object, or that there is no memory to find it out
-abbrev pub explain : Machine → Name → Turn
-explain m x = elim (next_answer m.memory) [
-  | true ↦ record { machine = with_answer_used m true; answer = why_of (leads_in m.heap) x }
-  | false ↦ answering (with_answer_used m true) [] (Refused NoMemory)
-]
-
-abbrev pub say_nothing : Machine → Turn
-say_nothing m = record { machine = m; answer = no_answer }
-
--- what is said, which leaves the heaps and the running collection
+-- SOMETHING SAID: the heaps and the running collection stay as they are
 abbrev pub say : Machine → Saying → Turn
-say m silence = say_nothing m
-say m version = answering m [] Done
-say m (path x) = explain m x
-say m census = take_census m (census_names m.heap)
+say m q = if_granted m (takes_memory_to_say q) (λ n. record { machine = n; answer = said m.heap q })
 
 -- units of collections
 abbrev pub run_units : Machine → Running → UnitsDone

@@ -1,0 +1,56 @@
+-- A COMMAND THAT DOES NO DEED is in range, passes its checks, takes no memory as a deed, and leaves the graph and the listed names.
+use Rattle.std.proofs.Common.{◌≡◌, true, false, List, Option, None, ◌∙◌, ap, arith}
+use Rattle.cc_names.specs.declared.name.Name.{Name}
+use Rattle.cc_model.specs.declared.command.Command.{Command}
+use Rattle.cc_model.specs.declared.item.Reply.{Reply}
+use Rattle.cc_model.specs.declared.item.Reply.TheVariants.{Done}
+use Rattle.cc_model.specs.Ranges.{in_range}
+use Rattle.cc_model.specs.Mutating.{is_deed, class_of}
+use Rattle.cc_model.specs.Checks.{Objects, refusal_of, reply_if_taken, refused_or, reply_of}
+use Rattle.cc_model.specs.Deeds.{nothing_done, deed_of}
+use Rattle.cc_model.specs.Graph.{Graph, objects_of, done_to, changed, unless_refused, step}
+use Rattle.cc_model.specs.Heap.{Heap}
+use Rattle.cc_model.specs.Effects.{takes_memory}
+use Rattle.cc_model.specs.Listed.{after_reply}
+use Rattle.cc_model.specs.Lawful.{graph_after}
+
+module _ (c : Command) (none : is_deed (class_of c) ≡ false) where
+  -- it names no register that is out of range
+  pub no_deed-in_range : in_range c ≡ true
+  no_deed-in_range = grind arith
+
+  -- no check refuses it
+  pub no_deed-allowed : (o : Objects) → refusal_of o c ≡ None
+  unfolding refusal_of
+  no_deed-allowed o = grind arith
+
+  -- what is not refused is done
+  no_deed-done : (o : Objects) → reply_if_taken o c ≡ Done
+  unfolding reply_if_taken
+  no_deed-done o = grind arith
+
+  -- its reply is `= ok`, where it is answered as a deed is
+  pub no_deed-reply : (o : Objects) → reply_of o c ≡ Done
+  no_deed-reply o = ap (λ r. refused_or r (reply_if_taken o c)) (no_deed-allowed o) ∙ no_deed-done o
+
+  -- as a deed it takes no memory
+  pub no_deed-takes : (h : Heap) → takes_memory h c ≡ false
+  no_deed-takes h = grind arith
+
+  -- its deed is none
+  no_deed-nothing : (o : Objects) → deed_of o c ≡ nothing_done
+  unfolding deed_of
+  no_deed-nothing o = grind arith
+
+  -- the graph takes no step
+  pub no_deed-leaves : (g : Graph) → step g c ≡ g
+  unfolding changed done_to
+  no_deed-leaves g = ap (λ r. unless_refused r g (changed g c)) (no_deed-allowed (objects_of g)) ∙ ap (done_to g) (no_deed-nothing (objects_of g))
+
+  -- whatever is replied
+  pub no_deed-graph : (g : Graph) (reply : Option Reply) → graph_after g c reply ≡ g
+  no_deed-graph g reply = grind (arith, no_deed-leaves)
+
+  -- nothing is listed for it
+  pub no_deed-lists : (names : List Name) (reply : Option Reply) → after_reply names c reply ≡ names
+  no_deed-lists names reply = grind arith
