@@ -23,8 +23,11 @@ pub record Turn : Type 0 where
   pub machine : Machine
   pub answer : Answer
 
+abbrev pub turn_of : Machine → Answer → Turn
+turn_of m a = record { machine = m; answer = a }
+
 abbrev pub answering : Machine → List Event → Reply → Turn
-answering m events reply = record { machine = m; answer = replying events reply }
+answering m events reply = turn_of m (replying events reply)
 
 -- Commands of the mutator
 
@@ -62,17 +65,17 @@ abbrev pub census_names : Heap → List Name
 census_names h = map (λ n. native n.number) h.natives ++ map (λ o. o.name) h.scripts
 
 abbrev pub take_census : Machine → List Name → Turn
-take_census m names = record { machine = m; answer = listing names (counted (length names)) }
+take_census m names = turn_of m (listing names (counted (length names)))
 
 -- how the registers reach an object, or that there is no memory to find it out
 abbrev pub explain : Machine → Name → Turn
 explain m x = elim (next_answer m.memory) [
-  | true ↦ record { machine = with_answer_used m true; answer = why_of (leads_in m.heap) x }
+  | true ↦ turn_of (with_answer_used m true) (why_of (leads_in m.heap) x)
   | false ↦ answering (with_answer_used m true) [] (Refused NoMemory)
 ]
 
 abbrev pub say_nothing : Machine → Turn
-say_nothing m = record { machine = m; answer = no_answer }
+say_nothing m = turn_of m no_answer
 
 -- what is said, which leaves the heaps and the running collection
 abbrev pub say : Machine → Saying → Turn
