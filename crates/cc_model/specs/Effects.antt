@@ -12,7 +12,7 @@ use Rattle.cc_model.specs.Slots.{reflector_slots}
 use Rattle.cc_model.specs.Entries.{with_entry, without_entry}
 use Rattle.cc_model.specs.Checks.{slot_at, value_at, reflector_of}
 use Rattle.cc_model.specs.Deeds.{Deed, nothing_done, native_made, plain_made, map_made, proxy_made, native_held, script_held, script_copied, native_stored, slot_moved, script_stored, reflector_held, reflector_preserved, entry_written, object_exposed, deed_of}
-use Rattle.cc_model.specs.Heap.{Heap, Outcome, silently, new_script, next_native, register, objects_of, delegate_at, has_reflector, set_register, set_slot, preserve, touch}
+use Rattle.cc_model.specs.Heap.{Heap, Outcome, silently, new_script, native_to_make, register, objects_of, delegate_at, has_reflector, set_register, set_slot, preserve, touch}
 use Rattle.cc_model.specs.Cascade.{add_ref, take_up, let_go}
 use Rattle.cc_model.specs.Exposure.{exposed}
 
@@ -55,7 +55,7 @@ hold_script h d x = set_register (exposed h x) (S d) x
 -- a native with the next number, count 1, in the buffer without the purple mark
 abbrev pub with_native : Heap → ℕ → Heap
 with_native h n = touch (record h {
-  natives = h.natives ++ next_native h n ∷ [];
+  natives = h.natives ++ native_to_make h n ∷ [];
   natives_made = h.natives_made + 1;
 }) (h.natives_made + 1)
 

@@ -74,8 +74,8 @@ empty_heap limits = record {
 }
 
 -- the native that is made next
-abbrev pub next_native : Heap → ℕ → HeapNative
-next_native h n = new_native (h.natives_made + 1) n
+abbrev pub native_to_make : Heap → ℕ → HeapNative
+native_to_make h n = new_native (h.natives_made + 1) n
 
 -- the heaps after something was done, and what was told meanwhile
 pub record Outcome : Type 0 where
