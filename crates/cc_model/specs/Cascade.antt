@@ -6,7 +6,7 @@ use Rattle.cc_names.specs.Names.{native, natives_in}
 use Rattle.cc_model.specs.declared.item.Event.{Event}
 use Rattle.cc_model.specs.declared.item.Event.TheVariants.{Freed}
 use Rattle.cc_model.specs.Slots.{contents}
-use Rattle.cc_model.specs.Heap.{Heap, HeapNative, Outcome, silently, native_at, change_native, suspect, touch, forget}
+use Rattle.cc_model.specs.Heap.{Heap, HeapNative, Outcome, outcome_of, silently, native_at, change_native, suspect, touch, forget}
 
 -- one more reference to native k, which then stands in the buffer without the purple mark
 abbrev pub add_ref : Heap → ℕ → Heap
@@ -20,6 +20,9 @@ pub record Draining : Type 0 where
   pub heap : Heap
   pub queue : List ℕ
   pub events : List Event
+
+abbrev pub draining_at : Heap → List ℕ → List Event → Draining
+draining_at h queue events = record { heap = h; queue = queue; events = events }
 
 -- the count of native k falls to a number other than zero: it is suspected
 abbrev pub lowered : Draining → ℕ → Draining
@@ -73,7 +76,7 @@ drain zero d = d
 drain (suc n) d = elim d.queue [ [] ↦ d | k ∷ ks ↦ drain n (free_front d k ks) ]
 
 abbrev pub at_rest : Heap → Draining
-at_rest h = record { heap = h; queue = []; events = [] }
+at_rest h = draining_at h [] []
 
 -- one reference to native k given up, and the queue drained: as many steps as natives suffice
 unfoldable pub drained : Heap → ℕ → Draining
@@ -81,7 +84,7 @@ drained h k = drain (length h.natives) (give_up (at_rest h) k)
 
 -- THE CASCADE: what giving up one reference to native k does
 abbrev pub cascade : Heap → ℕ → Outcome
-cascade h k = record { heap = (drained h k).heap; events = (drained h k).events }
+cascade h k = outcome_of (drained h k).heap (drained h k).events
 
 -- a reference to what a register or slot is to hold: natives alone are counted
 abbrev pub take_up : Heap → Option Name → Heap

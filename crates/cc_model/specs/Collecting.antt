@@ -18,8 +18,11 @@ pub record Machine : Type 0 where
   pub snapshot : Option Snapshot
   pub memory : List Bool
 
+abbrev pub machine_at : Heap → Option Snapshot → List Bool → Machine
+machine_at h s memory = record { heap = h; snapshot = s; memory = memory }
+
 abbrev pub empty_machine : Allowance → List Bool → Machine
-empty_machine limits memory = record { heap = empty_heap limits; snapshot = None; memory = memory }
+empty_machine limits memory = machine_at (empty_heap limits) None memory
 
 -- an answer of memory; where the list has ended, memory is there
 abbrev pub next_answer : List Bool → Bool
@@ -38,19 +41,19 @@ pub record UnitsDone : Type 0 where
   pub events : List Event
   pub progress : Progress
 
+-- what units came to
+abbrev pub units_came : Machine → List Event → Progress → UnitsDone
+units_came m events progress = record { machine = m; events = events; progress = progress }
+
 abbrev pub no_units : Machine → UnitsDone
-no_units m = record { machine = m; events = []; progress = went_on }
+no_units m = units_came m [] went_on
 
 -- memory is asked only where the unit may be refused
 abbrev pub memory_after : Machine → List Bool
 memory_after m = elim (may_be_refused m.heap m.snapshot) [ true ↦ later_answers m.memory | false ↦ m.memory ]
 
 abbrev pub with_unit : Machine → List Event → UnitDone → UnitsDone
-with_unit m events u = record {
-  machine = record { heap = u.heap; snapshot = u.snapshot; memory = memory_after m };
-  events = events ++ u.events;
-  progress = u.progress;
-}
+with_unit m events u = units_came (record m { heap = u.heap; snapshot = u.snapshot; memory = memory_after m }) (events ++ u.events) u.progress
 
 abbrev pub one_unit : Machine → List Event → UnitsDone
 one_unit m events = with_unit m events (unit m.heap m.snapshot (next_answer m.memory))

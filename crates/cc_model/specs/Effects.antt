@@ -5,15 +5,14 @@ use Rattle.cc_names.specs.declared.name.Name.TheVariants as name
 use Rattle.cc_names.specs.declared.register.Reg.TheVariants.{N, S}
 use Rattle.cc_names.specs.declared.kind.Kind.{Kind}
 use Rattle.cc_names.specs.declared.kind.Kind.TheVariants.{Plain, Reflector, Map, Proxy as proxy_kind}
-use Rattle.cc_names.specs.declared.kind.Colour.TheVariants.{Black}
 use Rattle.cc_names.specs.Names.{native, object, reflector}
 use Rattle.cc_model.specs.declared.command.Command.{Command}
 use Rattle.cc_model.specs.declared.command.Command.TheVariants.{Native, Script, WeakMap, Proxy, Wrap, SetEntry}
-use Rattle.cc_model.specs.Slots.{empty_slots, reflector_slots}
+use Rattle.cc_model.specs.Slots.{reflector_slots}
 use Rattle.cc_model.specs.Entries.{with_entry, without_entry}
 use Rattle.cc_model.specs.Checks.{slot_at, value_at, reflector_of}
 use Rattle.cc_model.specs.Deeds.{Deed, nothing_done, native_made, plain_made, map_made, proxy_made, native_held, script_held, script_copied, native_stored, slot_moved, script_stored, reflector_held, reflector_preserved, entry_written, object_exposed, deed_of}
-use Rattle.cc_model.specs.Heap.{Heap, Outcome, silently, register, objects_of, delegate_at, has_reflector, set_register, set_slot, preserve, touch}
+use Rattle.cc_model.specs.Heap.{Heap, Outcome, silently, new_script, native_to_make, register, objects_of, delegate_at, has_reflector, set_register, set_slot, preserve, touch}
 use Rattle.cc_model.specs.Cascade.{add_ref, take_up, let_go}
 use Rattle.cc_model.specs.Exposure.{exposed}
 
@@ -56,7 +55,7 @@ hold_script h d x = set_register (exposed h x) (S d) x
 -- a native with the next number, count 1, in the buffer without the purple mark
 abbrev pub with_native : Heap → ℕ → Heap
 with_native h n = touch (record h {
-  natives = h.natives ++ record { number = h.natives_made + 1; slots = empty_slots n; preserved = false; count = 1 } ∷ [];
+  natives = h.natives ++ native_to_make h n ∷ [];
   natives_made = h.natives_made + 1;
 }) (h.natives_made + 1)
 
@@ -66,7 +65,7 @@ make_native h d n = put_in_register (with_native h n) d (Some (native (h.natives
 
 -- a black script object
 abbrev pub with_script : Heap → Name → Kind → ℕ → Option Name → Heap
-with_script h x kind n d = record h { scripts = h.scripts ++ record { name = x; kind = kind; slots = empty_slots n; delegate = d; colour = Black } ∷ [] }
+with_script h x kind n d = record h { scripts = h.scripts ++ new_script x kind n d ∷ [] }
 
 -- one with the next number
 abbrev pub with_object : Heap → Kind → ℕ → Option Name → Heap

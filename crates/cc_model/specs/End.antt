@@ -69,6 +69,9 @@ pub record UnitDone : Type 0 where
   pub events : List Event
   pub progress : Progress
 
+abbrev pub unit_came : Heap → Option Snapshot → List Event → Progress → UnitDone
+unit_came h s events progress = record { heap = h; snapshot = s; events = events; progress = progress }
+
 abbrev pub some_are : {X : Type 0} → List X → Bool
 some_are [] = false
 some_are (x ∷ xs) = true
@@ -93,13 +96,13 @@ heap_given_back h (Some s) = give_back s.candidates h
 
 -- the snapshot is dropped
 abbrev pub abandoned : Heap → Option Snapshot → UnitDone
-abandoned h s = record { heap = heap_given_back h s; snapshot = None; events = Abandoned ∷ []; progress = refused }
+abandoned h s = unit_came (heap_given_back h s) None (Abandoned ∷ []) refused
 
 abbrev pub ending : Outcome → UnitDone
-ending o = record { heap = o.heap; snapshot = None; events = o.events; progress = at_end }
+ending o = unit_came o.heap None o.events at_end
 
 abbrev pub going_on : Heap → Snapshot → UnitDone
-going_on h s = record { heap = h; snapshot = Some s; events = []; progress = went_on }
+going_on h s = unit_came h (Some s) [] went_on
 
 abbrev pub node_or_end : Heap → Snapshot → Option Name → UnitDone
 node_or_end h s None = ending (take_away (white_natives h s) h)

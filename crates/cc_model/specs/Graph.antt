@@ -22,6 +22,10 @@ pub record GraphNative : Type 0 where
   pub preserved : Bool
   pub reflector : Option Slots
 
+-- a native as it is made, with n empty slots
+abbrev pub new_graph_native : ℕ → GraphNative
+new_graph_native n = record { slots = empty_slots n; preserved = false; reflector = None }
+
 -- a script object with a number of its own
 pub data GraphScript : Type 0 where
   plain_object : Slots → GraphScript
@@ -182,7 +186,7 @@ set_entry g None k v = g
 
 -- a native with n empty slots made
 abbrev pub with_native : Graph → ℕ → Graph
-with_native g n = record g { natives = g.natives ++ record { slots = empty_slots n; preserved = false; reflector = None } ∷ [] }
+with_native g n = record g { natives = g.natives ++ new_graph_native n ∷ [] }
 
 -- a script object made
 abbrev pub with_script : Graph → GraphScript → Graph

@@ -1,5 +1,5 @@
 -- THE TWO HEAPS AS LISTS, and how one thing in them is read and written.
-use Rattle.std.specs.Prelude.{ℕ, Bool, true, false, not, ◌==◌, List, [], ◌∷◌, ◌++◌, map, filter, find, Option, Some, None, is_some, option_map, option_and_then, slice_set, slice_index_or, if◌then◌else◌}
+use Rattle.std.specs.Prelude.{ℕ, ◌+◌, Bool, true, false, not, ◌==◌, List, [], ◌∷◌, ◌++◌, map, filter, find, Option, Some, None, is_some, option_map, option_and_then, slice_set, slice_index_or, if◌then◌else◌}
 use Rattle.cc_names.specs.Allowance.{Allowance}
 use Rattle.cc_names.specs.declared.name.Name.{Name}
 use Rattle.cc_names.specs.declared.name.Name.TheVariants as name
@@ -35,6 +35,18 @@ pub record Buffered : Type 0 where
   pub number : ℕ
   pub purple : Bool
 
+-- a native as it is made, with n empty slots: its maker holds the one reference to it
+abbrev pub new_native : ℕ → ℕ → HeapNative
+new_native number n = record { number = number; slots = empty_slots n; preserved = false; count = 1 }
+
+-- a script object as it is made: black, with n empty slots
+abbrev pub new_script : Name → Kind → ℕ → Option Name → HeapScript
+new_script x kind n its_delegate = record { name = x; kind = kind; slots = empty_slots n; delegate = its_delegate; colour = Black }
+
+-- a native in the buffer with a mark
+abbrev pub buffered_as : ℕ → Bool → Buffered
+buffered_as number purple = record { number = number; purple = purple }
+
 -- natives by rising number, script objects in order of making, entries in the order in which they were first set;
 -- a native has a reflector where one of its name is among the script objects
 pub record Heap : Type 0 where
@@ -61,13 +73,20 @@ empty_heap limits = record {
   limits = limits;
 }
 
+-- the native that is made next
+abbrev pub native_to_make : Heap → ℕ → HeapNative
+native_to_make h n = new_native (h.natives_made + 1) n
+
 -- the heaps after something was done, and what was told meanwhile
 pub record Outcome : Type 0 where
   pub heap : Heap
   pub events : List Event
 
+abbrev pub outcome_of : Heap → List Event → Outcome
+outcome_of h events = record { heap = h; events = events }
+
 abbrev pub silently : Heap → Outcome
-silently h = record { heap = h; events = [] }
+silently h = outcome_of h []
 
 -- what was told before stands in front
 abbrev pub after : List Event → Outcome → Outcome
@@ -189,7 +208,7 @@ preserve h None = h
 
 -- native k with a mark: it keeps its place, or goes last
 abbrev pub with_mark : Bool → ℕ → List Buffered → List Buffered
-with_mark purple k [] = record { number = k; purple = purple } ∷ []
+with_mark purple k [] = buffered_as k purple ∷ []
 with_mark purple k (b ∷ bs) = elim (b.number == k) [ true ↦ record b { purple = purple } ∷ bs | false ↦ b ∷ with_mark purple k bs ]
 
 -- in the buffer with the purple mark

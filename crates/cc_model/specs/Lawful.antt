@@ -26,8 +26,11 @@ pub record State : Type 0 where
   pub graph : Graph
   pub listed : List Name
 
+abbrev pub state_of : Graph → List Name → State
+state_of g names = record { graph = g; listed = names }
+
 abbrev pub start : Allowance → State
-start limits = record { graph = empty_graph limits; listed = [] }
+start limits = state_of (empty_graph limits) []
 
 abbrev pub is_without_memory : Reply → Bool
 is_without_memory (Refused NoMemory) = true
@@ -41,7 +44,7 @@ graph_after g c (Some reply) = elim (is_without_memory reply) [ true ↦ g | fal
 abbrev pub next : State → Ask → Answer → State
 next s long a = s
 next s bad a = s
-next s (taken c) a = record { graph = graph_after s.graph c a.reply; listed = listed s.listed c a.events a.reply }
+next s (taken c) a = state_of (graph_after s.graph c a.reply) (listed s.listed c a.events a.reply)
 
 -- The first clause: the reply
 

@@ -23,8 +23,11 @@ pub record Turn : Type 0 where
   pub machine : Machine
   pub answer : Answer
 
+abbrev pub turn_of : Machine → Answer → Turn
+turn_of m a = record { machine = m; answer = a }
+
 abbrev pub answering : Machine → List Event → Reply → Turn
-answering m events reply = record { machine = m; answer = replying events reply }
+answering m events reply = turn_of m (replying events reply)
 
 -- Commands of the mutator
 
@@ -70,7 +73,7 @@ said h census = listing (census_names h) (counted (length (census_names h)))
 
 -- SOMETHING SAID: the heaps and the running collection stay as they are
 abbrev pub say : Machine → Saying → Turn
-say m q = if_granted m (takes_memory_to_say q) (λ n. record { machine = n; answer = said m.heap q })
+say m q = if_granted m (takes_memory_to_say q) (λ n. turn_of n (said m.heap q))
 
 -- units of collections
 abbrev pub run_units : Machine → Running → UnitsDone

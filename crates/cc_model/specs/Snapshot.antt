@@ -32,6 +32,9 @@ pub record Snapshot : Type 0 where
   pub references : List (Name × Name)
   pub mappings : List Mapping
 
+abbrev pub snapshot_by : List ℕ → List Node → List (Name × Name) → List Mapping → Snapshot
+snapshot_by candidates nodes references mappings = record { candidates = candidates; nodes = nodes; references = references; mappings = mappings }
+
 abbrev pub node_names : Snapshot → List Name
 node_names s = map (λ n. n.name) s.nodes
 

@@ -9,7 +9,7 @@ use Rattle.cc_model.specs.Slots.{contents, from_to}
 use Rattle.cc_model.specs.Entries.{Joint, joints}
 use Rattle.cc_model.specs.Heap.{Heap, HeapNative, native_at, is_gray_in}
 use Rattle.cc_model.specs.Places.{places_of_native, places_in}
-use Rattle.cc_model.specs.Snapshot.{NodeState, untraversed, gone, traversed, Node, Mapping, Snapshot}
+use Rattle.cc_model.specs.Snapshot.{NodeState, untraversed, gone, traversed, Node, Mapping, Snapshot, snapshot_by}
 
 -- Begin
 
@@ -47,7 +47,7 @@ new_node x = record { name = x; state = untraversed }
 
 -- A SNAPSHOT BEGUN
 abbrev pub begun : Heap → Snapshot
-begun h = record { candidates = candidates_of h; nodes = map new_node (first_names h); references = []; mappings = mappings_of h }
+begun h = snapshot_by (candidates_of h) (map new_node (first_names h)) [] (mappings_of h)
 
 -- and the heaps after it
 abbrev pub with_empty_buffer : Heap → Heap
