@@ -13,11 +13,13 @@ use Rattle.cc_model.specs.declared.item.Reply.{Reply}
 use Rattle.cc_model.specs.declared.item.Reply.TheVariants.{Done}
 use Rattle.cc_model.specs.Answers.{Answer}
 use Rattle.cc_model.specs.Asks.{Ask, taken}
-use Rattle.cc_model.specs.Graph.{changed}
+use Rattle.cc_model.specs.Checks.{Objects}
+use Rattle.cc_model.specs.Deeds.{deed_of}
+use Rattle.cc_model.specs.Graph.{changed, done_to, objects_of}
 use Rattle.cc_model.specs.Lawful.{IsLawful, IsLawfulFrom, State, census_of, next, start}
 use Rattle.cc_model.specs.Quiet.{IsQuiet, IsQuietFrom, Row, after_gc, nothing_yet, row_after, row_after_collect}
 use Rattle.cc_made.specs.Ending.{LeavesNothing}
-use Rattle.cc_made.specs.Asked.{fills_of_eight, tail_asks}
+use Rattle.cc_made.specs.Asked.{writes_of_eight, tail_asks}
 use Rattle.cc_made.proofs.Registers.{HasEmptied, drop-done, left-or-changed, next-kept, next-native-emptied, next-script-emptied, none-filled, none-reached}
 
 -- what is left of a lawful and quiet transcript: these registers are empty, and these asks are answered
@@ -27,14 +29,14 @@ pub record IsLeft (natives scripts : ℕ) (row : Row) (asks : List Ask) (answers
   pub lawful : IsLawfulFrom state asks answers
   pub quiet : IsQuietFrom row state asks answers
 
--- asks that fill the first eight registers alone
-pub after-asks : (asks later : List Ask) (answers : List Answer) (row : Row) → list_all fills_of_eight asks ≡ true →
+-- asks that write the first eight registers alone
+pub after-asks : (asks later : List Ask) (answers : List Answer) (row : Row) → ((o : Objects) → list_all (writes_of_eight o) asks ≡ true) →
     IsLeft 0 0 row (asks ++ later) answers → (now : Row) × IsLeft 0 0 now later (drop (length asks) answers)
 after-asks [] later answers row all l = (row, l)
 after-asks (ask ∷ asks) later [] row all l = absurd l.lawful
-after-asks (ask ∷ asks) later (a ∷ answers) row all l = after-asks asks later answers (row_after row ask a) (and_parts _ _ all).1 (record {
+after-asks (ask ∷ asks) later (a ∷ answers) row all l = after-asks asks later answers (row_after row ask a) (λ o. (and_parts _ _ (all o)).1) (record {
   state = next l.state ask a;
-  emptied = next-kept l.state ask a (and_parts _ _ all).0 l.emptied;
+  emptied = next-kept l.state ask a (and_parts _ _ (all (objects_of l.state.graph))).0 l.emptied;
   lawful = l.lawful.1;
   quiet = l.quiet.1;
 })
@@ -116,7 +118,7 @@ collection-kept s c a left e = left-or-changed (HasEmptied 8 8) s.graph c a.repl
 -- THE LAST CENSUS is that of nothing, where the collection before it was not given up
 pub last-census : (swept collected swept_again census : Answer) →
     IsLeft 8 8 nothing_yet last_asks (swept ∷ collected ∷ swept_again ∷ census ∷ []) → collected.reply ≡ Some Done → census ≡ census_of []
-unfolding changed
+unfolding changed done_to deed_of
 last-census swept collected swept_again census l done =
     let first = next l.state (taken Gc) swept in
     let second = next first (taken Collect) collected in
@@ -128,8 +130,8 @@ last-census swept collected swept_again census l done =
     let none : third.listed ≡ [] = none-listed third.listed (λ x among. none-reached third.graph emptied x ((quiet.1.0 x).0 among)) in
     l.lawful.1.1.1.0 ∙ ap census_of none
 
--- THE END OF A MADE SCRIPT, behind asks that fill the first eight registers alone
-pub ends : (limits : Allowance) (asks : List Ask) (count : ℕ) (answers : List Answer) → list_all fills_of_eight asks ≡ true → length asks ≡ count →
+-- THE END OF A MADE SCRIPT, behind asks that write the first eight registers alone
+pub ends : (limits : Allowance) (asks : List Ask) (count : ℕ) (answers : List Answer) → ((o : Objects) → list_all (writes_of_eight o) asks ≡ true) → length asks ≡ count →
     IsLawful limits (asks ++ tail_asks) answers → IsQuiet limits (asks ++ tail_asks) answers → LeavesNothing count answers
 ends limits asks count answers all many lawful quiet = λ swept collected swept_again census are done.
     let begun : IsLeft 0 0 nothing_yet (asks ++ tail_asks) answers = record {

@@ -4,11 +4,13 @@ use Rattle.std.specs.List.{All, list_all}
 use Rattle.std.proofs.lemmas.Bool.{and_parts, false≢true, leb-true}
 use Rattle.std.proofs.lemmas.List.Folds.{list_all-append, list_all-map}
 use Rattle.cc_model.specs.Asks.{Ask, ask_of, asks_from, asks_of, command_of, dialect_after}
+use Rattle.cc_model.specs.Checks.{Objects}
+use Rattle.cc_model.specs.Deeds.{deed_of}
 use Rattle.cc_model.proofs.Dialects.{ask_of-start, asks_from-one}
 use Rattle.cc_model.specs.declared.dialect.Dialect.TheVariants.{Start, One}
 use Rattle.cc_model.specs.Lines.{lines_from as cut_from, lines_of}
 use Rattle.rand_pcg.specs.Lcg.{Lcg}
-use Rattle.cc_made.specs.Asked.{fills_of_eight, is_command, tail_asks}
+use Rattle.cc_made.specs.Asked.{writes_of_eight, is_command, tail_asks}
 use Rattle.cc_made.specs.Forms.{forms}
 use Rattle.cc_made.specs.Made.{lines_from, made_line, script_of, tail}
 use Rattle.cc_made.proofs.Passing.{all-made, form_passes, passes-made}
@@ -79,9 +81,9 @@ pub commands-made : (count : ℕ) (words : Lcg) → list_all is_command (map (as
 unfolding command_of
 commands-made = asks-pass is_command refl refl
 
-pub registers-made : (count : ℕ) (words : Lcg) → list_all fills_of_eight (map (ask_of One) (lines_from count words)) ≡ true
-unfolding command_of
-registers-made = asks-pass fills_of_eight refl refl
+pub registers-made : (o : Objects) (count : ℕ) (words : Lcg) → list_all (writes_of_eight o) (map (ask_of One) (lines_from count words)) ≡ true
+unfolding command_of deed_of
+registers-made o = asks-pass (writes_of_eight o) refl refl
 
 tail-asks : map (ask_of One) tail ≡ tail_asks
 unfolding command_of
@@ -120,9 +122,9 @@ asks-made count words = ap (asks_from Start) (cut-script (lines_from count words
 pub each-short : (count : ℕ) (words : Lcg) → All (λ line. length line ≤ 13) (lines_from count words)
 each-short count words = λ k d within. leb-true _ _ (passes-at is_short (lines_from count words) k d within (all-made is_short refl refl count words))
 
--- what stands before the tail fills the first eight registers alone
-pub drawn-fill : (count : ℕ) (words : Lcg) → list_all fills_of_eight (map (ask_of One) (drawn_lines count words)) ≡ true
-drawn-fill count words =
-    let all : list_all fills_of_eight (map (ask_of One) (drawn_lines count words) ++ tail_asks) ≡ true =
-    ap (list_all fills_of_eight) (sym (tail-made count words)) ∙ registers-made count words in
-    (and_parts _ _ (sym (list_all-append fills_of_eight (map (ask_of One) (drawn_lines count words)) tail_asks) ∙ all)).0
+-- what stands before the tail writes the first eight registers alone
+pub drawn-fill : (count : ℕ) (words : Lcg) (o : Objects) → list_all (writes_of_eight o) (map (ask_of One) (drawn_lines count words)) ≡ true
+drawn-fill count words o =
+    let all : list_all (writes_of_eight o) (map (ask_of One) (drawn_lines count words) ++ tail_asks) ≡ true =
+    ap (list_all (writes_of_eight o)) (sym (tail-made count words)) ∙ registers-made o count words in
+    (and_parts _ _ (sym (list_all-append (writes_of_eight o) (map (ask_of One) (drawn_lines count words)) tail_asks) ∙ all)).0

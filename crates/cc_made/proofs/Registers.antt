@@ -10,17 +10,18 @@ use Rattle.cc_names.specs.declared.register.Reg.{Reg}
 use Rattle.cc_names.specs.declared.register.Reg.TheVariants.{N, S}
 use Rattle.cc_names.specs.Sizes.{bank_length}
 use Rattle.cc_model.specs.declared.command.Command.{Command}
-use Rattle.cc_model.specs.declared.command.Command.TheVariants.{Nothing, Version2, Native, Script, WeakMap, Proxy, CopyNative, CopyScript, Drop, Set, Get, Move, Put, Take, Wrap, Unwrap, Preserve, SetEntry, GetEntry, Expose, Why, Slice, Collect, Gc, Census}
+use Rattle.cc_model.specs.declared.command.Command.TheVariants.{Drop}
 use Rattle.cc_model.specs.declared.item.Refusal.{Refusal}
 use Rattle.cc_model.specs.declared.item.Reply.{Reply}
 use Rattle.cc_model.specs.Answers.{Answer}
 use Rattle.cc_model.specs.Asks.{Ask, long, bad, taken}
 use Rattle.cc_model.specs.Checks.{refusal_of, reply_if_taken}
-use Rattle.cc_model.specs.Graph.{Graph, GraphNative, GraphScript, proxy, changed, empty_graph, objects_of, preserve, register, set_entry, set_native, set_register, set_script, set_slot, step, unless_refused, with_proxy, with_script, wrapped}
+use Rattle.cc_model.specs.Deeds.{Deed, nothing_done, native_made, plain_made, map_made, proxy_made, native_held, script_held, script_copied, native_stored, slot_moved, script_stored, reflector_held, reflector_preserved, entry_written, object_exposed, deed_of}
+use Rattle.cc_model.specs.Graph.{Graph, GraphNative, GraphScript, proxy, done_to, changed, empty_graph, objects_of, preserve, register, set_entry, set_native, set_register, set_script, set_slot, step, unless_refused, with_proxy, with_script, wrapped}
 use Rattle.cc_model.specs.Slots.{empty_slots}
 use Rattle.cc_model.specs.Lawful.{AnswersTaken, ReplyAnswers, State, graph_after, is_without_memory, next}
 use Rattle.cc_model.specs.Reached.{Reached, held, edge, value, key}
-use Rattle.cc_made.specs.Asked.{filled_by, fills_of_eight, is_of_eight}
+use Rattle.cc_made.specs.Asked.{written_by, writes_of_eight, is_of_eight}
 
 -- the first registers of each bank, so many of them, and all from the eighth on are empty
 pub record HasEmptied (natives scripts : ℕ) (g : Graph) : Type 0 where
@@ -89,16 +90,16 @@ kept a b g h s e = record {
   in_scripts = λ r i. ap (λ l. get_or l r None) s.scripts ∙ e.in_scripts r i;
 }
 
--- one of the eight is filled
-filled : (g h : Graph) (r : Reg) (x : Option Name) → SameBanks g h → is_of_eight (Some r) ≡ true → HasEmptied 0 0 g → HasEmptied 0 0 (set_register h r x)
-filled g h (N d) x s low e =
+-- one of the eight is written
+written : (g h : Graph) (r : Reg) (x : Option Name) → SameBanks g h → is_of_eight (Some r) ≡ true → HasEmptied 0 0 g → HasEmptied 0 0 (set_register h r x)
+written g h (N d) x s low e =
     let below : d < 8 = ltb-true _ _ low in
     record {
       in_natives = λ r i. get_or-set_other h.native_registers d r x None (λ same. ⊎_elim (λ none. omega (arith, none)) (λ far. omega (arith, far, same, below)) i)
           ∙ (kept 0 0 g h s e).in_natives r i;
       in_scripts = (kept 0 0 g h s e).in_scripts;
     }
-filled g h (S d) x s low e =
+written g h (S d) x s low e =
     let below : d < 8 = ltb-true _ _ low in
     record {
       in_natives = (kept 0 0 g h s e).in_natives;
@@ -114,21 +115,10 @@ set-none (x ∷ xs) zero (suc j) h = h (λ e. omega (arith, e))
 set-none (x ∷ xs) (suc i) zero h = h (λ e. omega (arith, e))
 set-none (x ∷ xs) (suc i) (suc j) h = set-none xs i j (λ other. h (λ e. other (omega (arith, e))))
 
--- a proxy fills one of the eight, where its register holds something
+-- a proxy that is made writes one of the eight, where its register holds something
 proxy-kept : (g : Graph) (d : ℕ) (x : Option Name) → is_of_eight (Some (S d)) ≡ true → HasEmptied 0 0 g → HasEmptied 0 0 (with_proxy g d x)
 proxy-kept g d None low e = e
-proxy-kept g d (Some x) low e = filled g (with_script (preserve g (Some x)) (proxy x)) (S d) _ (proxy-banks g x) low e
-
--- one is emptied
-emptied : (g : Graph) (r : Reg) → HasEmptied 0 0 g → HasEmptied 0 0 (set_register g r None)
-emptied g (N d) e = record {
-  in_natives = λ r i. set-none g.native_registers d r (λ other. e.in_natives r i);
-  in_scripts = e.in_scripts;
-}
-emptied g (S d) e = record {
-  in_natives = e.in_natives;
-  in_scripts = λ r i. set-none g.script_registers d r (λ other. e.in_scripts r i);
-}
+proxy-kept g d (Some x) low e = written g (with_script (preserve g (Some x)) (proxy x)) (S d) _ (proxy-banks g x) low e
 
 -- the next one is emptied
 before-next : (a r : ℕ) → (r < suc a) ⊎ (8 ≤ r) → (r ≡ a → ⊥) → (r < a) ⊎ (8 ≤ r)
@@ -146,34 +136,29 @@ next-script-emptied a b g e = record {
   in_scripts = λ r i. set-none g.script_registers b r (λ other. e.in_scripts r (before-next b r i other));
 }
 
--- a command that fills one of the eight, or none
-changed-kept : (g : Graph) (c : Command) → is_of_eight (filled_by c) ≡ true → HasEmptied 0 0 g → HasEmptied 0 0 (changed g c)
+-- a deed that writes one of the eight, or none
+done_to-kept : (g : Graph) (d : Deed) → is_of_eight (written_by d) ≡ true → HasEmptied 0 0 g → HasEmptied 0 0 (done_to g d)
+unfolding done_to
+done_to-kept g nothing_done low e = e
+done_to-kept g (native_made d n) low e = written g _ (N d) _ (record { natives = refl; scripts = refl }) low e
+done_to-kept g (plain_made d n) low e = written g _ (S d) _ (record { natives = refl; scripts = refl }) low e
+done_to-kept g (map_made d) low e = written g _ (S d) _ (record { natives = refl; scripts = refl }) low e
+done_to-kept g (proxy_made d x) low e = proxy-kept g d x low e
+done_to-kept g (native_held d x) low e = written g g (N d) x (same g) low e
+done_to-kept g (script_held d x) low e = written g g (S d) x (same g) low e
+done_to-kept g (script_copied d x) low e = written g g (S d) x (same g) low e
+done_to-kept g (native_stored d i x) low e = kept 0 0 g _ (slot-banks g _ i _) e
+done_to-kept g (slot_moved d i s j) low e = kept 0 0 g _ (banks-then g _ _ (slot-banks g _ j _) (slot-banks _ _ i _)) e
+done_to-kept g (script_stored x i y) low e = kept 0 0 g _ (banks-then g _ _ (preserve-banks g _) (slot-banks _ _ i _)) e
+done_to-kept g (reflector_held d x) low e = written g _ (S d) _ (wrapped-banks g _) low e
+done_to-kept g (reflector_preserved x) low e = kept 0 0 g _ (preserve-banks g _) e
+done_to-kept g (entry_written m k v) low e = kept 0 0 g _ (entry-banks g _ _ _) e
+done_to-kept g (object_exposed x) low e = e
+
+-- a command that writes one of the eight, or none
+changed-kept : (g : Graph) (c : Command) → is_of_eight (written_by (deed_of (objects_of g) c)) ≡ true → HasEmptied 0 0 g → HasEmptied 0 0 (changed g c)
 unfolding changed
-changed-kept g (Native d n) low e = filled g _ (N d) _ (record { natives = refl; scripts = refl }) low e
-changed-kept g (Script d n) low e = filled g _ (S d) _ (record { natives = refl; scripts = refl }) low e
-changed-kept g (WeakMap d) low e = filled g _ (S d) _ (record { natives = refl; scripts = refl }) low e
-changed-kept g (Proxy d s) low e = proxy-kept g d (register g (S s)) low e
-changed-kept g (CopyNative d s) low e = filled g g (N d) _ (same g) low e
-changed-kept g (CopyScript d s) low e = filled g g (S d) _ (same g) low e
-changed-kept g (Drop r) low e = emptied g r e
-changed-kept g (Set d i r) low e = kept 0 0 g _ (slot-banks g _ i _) e
-changed-kept g (Move d i s j) low e = kept 0 0 g _ (banks-then g _ _ (slot-banks g _ j _) (slot-banks _ _ i _)) e
-changed-kept g (Get r s i) low e = filled g g r _ (same g) low e
-changed-kept g (Put d i s) low e = kept 0 0 g _ (banks-then g _ _ (preserve-banks g _) (slot-banks _ _ i _)) e
-changed-kept g (Take d s i) low e = filled g g (S d) _ (same g) low e
-changed-kept g (Wrap d s) low e = filled g _ (S d) _ (wrapped-banks g _) low e
-changed-kept g (Unwrap d s) low e = filled g g (N d) _ (same g) low e
-changed-kept g (Preserve s) low e = kept 0 0 g _ (preserve-banks g _) e
-changed-kept g (SetEntry m k v) low e = kept 0 0 g _ (entry-banks g _ _ _) e
-changed-kept g (GetEntry d m k) low e = filled g g (S d) _ (same g) low e
-changed-kept g (Expose s i) low e = e
-changed-kept g Nothing low e = e
-changed-kept g Version2 low e = e
-changed-kept g (Why x) low e = e
-changed-kept g (Slice u) low e = e
-changed-kept g Collect low e = e
-changed-kept g Gc low e = e
-changed-kept g Census low e = e
+changed-kept g c low e = done_to-kept g (deed_of (objects_of g) c) low e
 
 -- after a reply the graph is as it was, or as the command changes it
 pub left-or-changed : (P : Graph → Type 0) (g : Graph) (c : Command) (reply : Option Reply) → P g → P (changed g c) → P (graph_after g c reply)
@@ -188,20 +173,26 @@ left-or-changed P g c (Some reply) left new = go (is_without_memory reply)
     go true = left
     go false = stepped (refusal_of (objects_of g) c)
 
--- no ask of a made script fills another
-pub next-kept : (s : State) (ask : Ask) (a : Answer) → fills_of_eight ask ≡ true → HasEmptied 0 0 s.graph → HasEmptied 0 0 (next s ask a).graph
+-- no ask of a made script writes another
+pub next-kept : (s : State) (ask : Ask) (a : Answer) → writes_of_eight (objects_of s.graph) ask ≡ true → HasEmptied 0 0 s.graph → HasEmptied 0 0 (next s ask a).graph
 next-kept s long a low e = e
 next-kept s bad a low e = e
 next-kept s (taken c) a low e = left-or-changed (HasEmptied 0 0) s.graph c a.reply e (changed-kept s.graph c low e)
 
+-- what is let go leaves its register empty
+changed-drop : (g : Graph) (r : Reg) → changed g (Drop r) ≡ set_register g r None
+unfolding changed done_to deed_of
+changed-drop g (N d) = refl
+changed-drop g (S d) = refl
+
 -- a register that is let go is emptied: that wants no memory, and is not refused
 pub drop-done : (s : State) (r : Reg) (a : Answer) → AnswersTaken s (Drop r) a → graph_after s.graph (Drop r) a.reply ≡ set_register s.graph r None
-unfolding changed refusal_of reply_if_taken
+unfolding refusal_of reply_if_taken
 drop-done s r a answered = go a.reply answered.2
   where
     go : (reply : Option Reply) → ReplyAnswers s (Drop r) a reply → graph_after s.graph (Drop r) reply ≡ set_register s.graph r None
     go None p = absurd p
-    go (Some reply) p = ⊎_elim (λ e. ap (λ y. graph_after s.graph (Drop r) (Some y)) e) (λ wants. absurd (false≢true wants.command_may)) p.replies
+    go (Some reply) p = ⊎_elim (λ e. ap (λ y. graph_after s.graph (Drop r) (Some y)) e ∙ changed-drop s.graph r) (λ wants. absurd (false≢true wants.command_may)) p.replies
 
 -- a register is one of the eight or beyond them
 near-or-far : (r : ℕ) → (r < 8) ⊎ (8 ≤ r)

@@ -2,9 +2,10 @@
 use Rattle.std.specs.Prelude.{Bool, true, false, List, [], ◌∷◌, Option, Some, None, nat_lt}
 use Rattle.cc_names.specs.declared.register.Reg.{Reg}
 use Rattle.cc_names.specs.declared.register.Reg.TheVariants.{N, S}
-use Rattle.cc_model.specs.declared.command.Command.{Command}
-use Rattle.cc_model.specs.declared.command.Command.TheVariants.{Nothing, Version2, Why, Native, Script, WeakMap, Proxy, CopyNative, CopyScript, Drop, Get, Take, Wrap, Unwrap, GetEntry, Collect, Gc, Census}
+use Rattle.cc_model.specs.declared.command.Command.TheVariants.{Nothing, Version2, Why, Drop, Collect, Gc, Census}
 use Rattle.cc_model.specs.Asks.{Ask, long, bad, taken}
+use Rattle.cc_model.specs.Checks.{Objects}
+use Rattle.cc_model.specs.Deeds.{Deed, native_made, plain_made, map_made, proxy_made, native_held, script_held, script_copied, reflector_held, deed_of}
 
 -- a command: no line that is too long or not in the grammar, none that is blank, no comment, and none that asks for a version
 abbrev pub is_command : Ask → Bool
@@ -15,20 +16,17 @@ is_command (taken (Why x)) = false
 is_command (taken Version2) = false
 is_command (taken c) = true
 
--- the register that a command fills where it is taken
-abbrev pub filled_by : Command → Option Reg
-filled_by (Native d n) = Some (N d)
-filled_by (Script d n) = Some (S d)
-filled_by (WeakMap d) = Some (S d)
-filled_by (Proxy d s) = Some (S d)
-filled_by (CopyNative d s) = Some (N d)
-filled_by (CopyScript d s) = Some (S d)
-filled_by (Get r s i) = Some r
-filled_by (Take d s i) = Some (S d)
-filled_by (Wrap d s) = Some (S d)
-filled_by (Unwrap d s) = Some (N d)
-filled_by (GetEntry d m k) = Some (S d)
-filled_by c = None
+-- the register that a deed writes
+abbrev pub written_by : Deed → Option Reg
+written_by (native_made d n) = Some (N d)
+written_by (plain_made d n) = Some (S d)
+written_by (map_made d) = Some (S d)
+written_by (proxy_made d x) = Some (S d)
+written_by (native_held d x) = Some (N d)
+written_by (script_held d x) = Some (S d)
+written_by (script_copied d x) = Some (S d)
+written_by (reflector_held d x) = Some (S d)
+written_by _ = None
 
 -- one of the eight that the tail empties, or none
 abbrev pub is_of_eight : Option Reg → Bool
@@ -36,11 +34,11 @@ is_of_eight None = true
 is_of_eight (Some (N r)) = nat_lt r 8
 is_of_eight (Some (S r)) = nat_lt r 8
 
--- an ask that fills no other
-abbrev pub fills_of_eight : Ask → Bool
-fills_of_eight long = true
-fills_of_eight bad = true
-fills_of_eight (taken c) = is_of_eight (filled_by c)
+-- an ask that writes no other, where these are the objects
+abbrev pub writes_of_eight : Objects → Ask → Bool
+writes_of_eight o long = true
+writes_of_eight o bad = true
+writes_of_eight o (taken c) = is_of_eight (written_by (deed_of o c))
 
 -- what the tail asks
 abbrev pub tail_asks : List Ask

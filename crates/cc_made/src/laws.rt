@@ -5,10 +5,11 @@ ghost use Rattle.std.specs.List.{list_all};
 ghost use Rattle.cc_names.specs.Allowance.{Allowance};
 ghost use Rattle.cc_model.specs.Answers.{Answer};
 ghost use Rattle.cc_model.specs.Asks.{Ask, asks_of};
+ghost use Rattle.cc_model.specs.Checks.{Objects};
 ghost use Rattle.cc_model.specs.Lawful.{IsLawful};
 ghost use Rattle.cc_model.specs.Lines.{lines_of};
 ghost use Rattle.cc_model.specs.Quiet.{IsQuiet};
-ghost use Rattle.cc_made.specs.Asked.{fills_of_eight, is_command, tail_asks};
+ghost use Rattle.cc_made.specs.Asked.{writes_of_eight, is_command, tail_asks};
 ghost use Rattle.cc_made.specs.Ending.{LeavesNothing};
 ghost use Rattle.cc_made.specs.Known.{four_of_the_greatest, thirty_of_111, three_of_seven};
 ghost use Rattle.cc_made.specs.Made.{made_lines, made_script, tail};
@@ -24,11 +25,12 @@ pub fn made_scripts_are_cut_into_their_lines()
 {}
 
 /// Each line of a made script asks a command: none is blank, a comment, too long or not in the grammar, and none asks for
-/// a version, so the script is of version 1. They fill the first eight registers of each bank alone; and the last twenty empty these, collect, and take a census.
+/// a version, so the script is of version 1. They write the first eight registers of each bank alone, whatever the
+/// objects are. The last twenty empty these, collect, and take a census.
 pub fn made_scripts_ask_commands()
     ensures many { (seed count : ℕ) → length (asks_of (made_script seed count)) ≡ count + 20 }
     ensures commands { (seed count : ℕ) → IsTrue (list_all is_command (asks_of (made_script seed count))) }
-    ensures registers { (seed count : ℕ) → IsTrue (list_all fills_of_eight (asks_of (made_script seed count))) }
+    ensures registers { (objects : Objects) (seed count : ℕ) → IsTrue (list_all (writes_of_eight objects) (asks_of (made_script seed count))) }
     ensures tail { (seed count : ℕ) → (asks : List Ask) × (asks_of (made_script seed count) ≡ asks ++ tail_asks) }
 {}
 
