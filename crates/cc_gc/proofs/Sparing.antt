@@ -13,7 +13,6 @@ use Rattle.cc_model.specs.View.{view, ReachedIn}
 use Rattle.cc_model.specs.WellFormed.{IsWellFormed, names_there}
 use Rattle.cc_model.specs.StandsFor.{Shape, native_shape, shape_at, shape_of_held_script}
 use Rattle.cc_model.proofs.Joints.{derive-joint, derived-by_joints, gives-joint, joint-cases}
-use Rattle.cc_laws_heap.specs.Freeing.{Uncounted}
 use Rattle.cc_laws_heap.proofs.Face.{IsOf, shape_at-native, shape_at-script}
 use Rattle.cc_laws_snapshot.proofs.Face.{reached-there}
 use Rattle.cc_gc.specs.Sparing.{KeepsWhatIsReached, IsUnreached, SparesWhatIsReached}
@@ -37,17 +36,13 @@ no_more-reached h k t = derived-by_joints (view k).registers (view k).edges (joi
 
 -- Shapes
 
--- the shape of a native without its count
-abbrev shape_of_uncounted : Uncounted → Shape
-shape_of_uncounted u = native_shape u.slots u.preserved
-
 -- a native that is as it was, but for its count, has its shape
 pub native-shape : (h k : Heap) → IsWellFormed h → IsWellFormed k → (n : HeapNative) → Among n k.natives → IsOf h n →
     shape_at k (native n.number) ≡ shape_at h (native n.number)
 native-shape h k w v n m p =
     shape_at-native k v n m
-    ∙ (ap (λ (u : Uncounted). Some (shape_of_uncounted u)) (sym p.2)
-    ∙ (sym (shape_at-native h w p.0 p.1) ∙ ap (λ (u : Uncounted). shape_at h (native u.number)) p.2))
+    ∙ (ap (λ (u : HeapNative). Some (shape_of_held_native u)) (sym p.2)
+    ∙ (sym (shape_at-native h w p.0 p.1) ∙ ap (λ (u : HeapNative). shape_at h (native u.number)) p.2))
 
 -- a script object that is as it was has its shape
 pub script-shape : (h k : Heap) → IsWellFormed h → IsWellFormed k → (o p : HeapScript) → Among o h.scripts → Among p k.scripts →

@@ -10,15 +10,15 @@ use Rattle.cc_model.specs.Slots.{Slots}
 use Rattle.cc_model.specs.Heap.{Heap, HeapNative, Outcome, native_at, silently, after, change_native, with_native_slot, set_slot}
 use Rattle.cc_model.specs.Cascade.{add_ref, cascade, let_go}
 use Rattle.cc_model.specs.End.{empty_slot, empty_each, slots_now, unlink}
-use Rattle.cc_laws_heap.specs.Freeing.{Uncounted, uncounted, is_none_of}
+use Rattle.cc_laws_heap.specs.Freeing.{uncounted, is_none_of}
 use Rattle.cc_laws_heap.proofs.Face.{HoldsTheSame-add_ref, TakesOut, TakesOut-cascade, TakesOut-let_go}
 
-module _ (Q : Uncounted → Type 0) where
+module _ (Q : HeapNative → Type 0) where
   abbrev pub IsOfEach : List HeapNative → Type 0
   IsOfEach ns = (n : HeapNative) → Among n ns → Q (uncounted n)
 
   -- counts aside the natives are among those of before
-  pub each-alike : (ns ms : List HeapNative) → ((u : Uncounted) → Among u (map uncounted ms) → Among u (map uncounted ns)) → IsOfEach ns → IsOfEach ms
+  pub each-alike : (ns ms : List HeapNative) → ((u : HeapNative) → Among u (map uncounted ms) → Among u (map uncounted ns)) → IsOfEach ns → IsOfEach ms
   each-alike ns ms inside all n m =
       let f = Among-map_cases uncounted ns (uncounted n) (inside (uncounted n) (Among-map uncounted n ms m)) in
       subst Q f.2 (all f.0 f.1)
@@ -43,14 +43,14 @@ module _ (Q : Uncounted → Type 0) where
       (λ n m. changed_where-either (λ o. Q (uncounted o)) (λ n. n.number == k) f n (λ e. keeps n (all n m)) (all n m))
 
   -- What holds after a slot is emptied, and after a preservation ends
-  module _ (emptied : (u : Uncounted) (i : ℕ) → Q u → Q (record u { slots = set u.slots i None })) where
+  module _ (emptied : (u : HeapNative) (i : ℕ) → Q u → Q (record u { slots = set u.slots i None })) where
     each-empty_each : (k i : ℕ) (xs : Slots) (o : Outcome) → IsOfEach o.heap.natives → IsOfEach (empty_each k i xs o).heap.natives
     each-empty_each k i [] o all = all
     each-empty_each k i (x ∷ xs) o all = each-empty_each k (suc i) xs (after o.events (empty_slot o.heap k i x))
         (each-let_go (set_slot o.heap (Some (native k)) i None) x
         (each-changed o.heap k (with_native_slot i None) (λ n. emptied (uncounted n) i) all))
 
-    pub each-unlink : ((u : Uncounted) → Q u → Q (record u { preserved = false })) → (h : Heap) (k : ℕ) → IsOfEach h.natives → IsOfEach (unlink h k).heap.natives
+    pub each-unlink : ((u : HeapNative) → Q u → Q (record u { preserved = false })) → (h : Heap) (k : ℕ) → IsOfEach h.natives → IsOfEach (unlink h k).heap.natives
     unfolding unlink
     each-unlink ended h k all = each-changed (empty_each k 0 (slots_now (native_at h k)) (silently h)).heap k (λ n. record n { preserved = false })
         (λ n. ended (uncounted n)) (each-empty_each k 0 (slots_now (native_at h k)) (silently h) all)

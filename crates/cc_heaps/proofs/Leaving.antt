@@ -21,7 +21,7 @@ use Rattle.cc_model.specs.Effects.{hold_native, make_native, with_native}
 use Rattle.cc_model.specs.WellFormed.{IsWellFormed, native_names, script_names, names_there}
 use Rattle.cc_model.proofs.Tellings.{Tells-nil, TellsEvents-trans}
 use Rattle.cc_laws_heap.specs.Sound.{IsSound, numbers_of}
-use Rattle.cc_laws_heap.specs.Freeing.{Uncounted, uncounted, is_none_of, Frees}
+use Rattle.cc_laws_heap.specs.Freeing.{uncounted, is_none_of, Frees}
 use Rattle.cc_laws_heap.proofs.Face.{HoldsTheSame-take_up, IsIn, IsIn-made, IsIn-natives, IsIn-take_up, contents-at-of_writes as contents-at, let_go-frees, let_go-gone, names_there-alike, names_there-take_up, native-there, native_names-change, native_register-sound, native_slot-sound, take_up-sound, times-among, times-append, with_native-sound}
 use Rattle.cc_laws_snapshot.proofs.Face.{reached-there}
 use Rattle.cc_heaps.specs.Keyed.{Keyed, IsInOrder, left_with}
@@ -48,7 +48,7 @@ module _ (m : Heap) (y : Option Name) (ks : List ℕ) (f : Frees m ks (let_go m 
       (subst (Among (uncounted n.0)) f.natives (Among-map uncounted n.0 (let_go m y).heap.natives n.1)) in
       let v = Among-map_cases uncounted m.natives (uncounted n.0) u in
       Among-left x (native_names m) (script_names m)
-      (subst (λ z. Among z (native_names m)) (ap (λ (n : Uncounted). native n.number) v.2 ∙ n.2) (Among-map (λ (n : HeapNative). native n.number) v.0 m.natives v.1)))
+      (subst (λ z. Among z (native_names m)) (ap (λ (n : HeapNative). native n.number) v.2 ∙ n.2) (Among-map (λ (n : HeapNative). native n.number) v.0 m.natives v.1)))
       (λ r. Among-right x (native_names m) (script_names m) (subst (λ os. Among x (map (λ o. o.name) os)) f.beside.scripts r))
       (Among-append x (native_names (let_go m y).heap) (script_names (let_go m y).heap) i)
 
@@ -59,7 +59,7 @@ module _ (m : Heap) (y : Option Name) (ks : List ℕ) (f : Frees m ks (let_go m 
       let there : Among (uncounted n) (map uncounted (let_go m y).heap.natives) =
       subst (Among (uncounted n)) (sym f.natives) (Among-filter (is_none_of ks) (uncounted n) (map uncounted m.natives) (Among-map uncounted n m.natives i) t) in
       let v = Among-map_cases uncounted (let_go m y).heap.natives (uncounted n) there in
-      inl (subst (λ z. Among z (native_names (let_go m y).heap)) (ap (λ (n : Uncounted). native n.number) v.2) (Among-map (λ (n : HeapNative). native n.number) v.0 (let_go m y).heap.natives v.1)))
+      inl (subst (λ z. Among z (native_names (let_go m y).heap)) (ap (λ (n : HeapNative). native n.number) v.2) (Among-map (λ (n : HeapNative). native n.number) v.0 (let_go m y).heap.natives v.1)))
       (λ e. inr (Among-map native n.number ks (has-among ◌==◌ number-exact ks n.number (listed (has ◌==◌ ks n.number) e))))
       (cases_Bool (is_none_of ks (uncounted n)))
     where

@@ -9,7 +9,6 @@ use Rattle.cc_model.specs.Slots.{Slots, contents}
 use Rattle.cc_model.specs.Heap.{Heap, HeapNative, native_at, with_native_slot, change_native, set_preserved}
 use Rattle.cc_model.specs.Cascade.{add_ref, cascade}
 use Rattle.cc_model.specs.End.{unlink}
-use Rattle.cc_laws_heap.specs.Freeing.{Uncounted}
 use Rattle.cc_counted.specs.Counts.{Counts, key_left, reflectors_left}
 use Rattle.cc_script.specs.Objects.{Object}
 use Rattle.cc_heaps.specs.declared.heaps.Heaps.TheInside.{Inside}
@@ -45,7 +44,7 @@ reflectors-left objects h (Some k ∷ keys) = go (is_some (native_at h k)) (refl
 -- What natives hold
 
 -- a native, its count aside, holds what is there
-abbrev pub HoldsThere : List Object → Uncounted → Type 0
+abbrev pub HoldsThere : List Object → HeapNative → Type 0
 HoldsThere objects u = (x : Name) → Among x (contents u.slots) → IsHeldThere objects x
 
 each-held : (objects : List Object) (ns : List HeapNative) → AreHeldThere objects ns → IsOfEach (HoldsThere objects) ns
@@ -60,7 +59,7 @@ HoldsThere-set : (objects : List Object) (slots : Slots) (i : ℕ) (y : Option N
 HoldsThere-set objects slots i y new old x m = ⊎_elim (new x) (old x) (Among-flat_map_set option_to_list slots i y x m)
 
 module _ (objects : List Object) (g : Heap) (held : AreHeldThere objects g.natives) where
-  abbrev Q : Uncounted → Type 0
+  abbrev Q : HeapNative → Type 0
   Q = HoldsThere objects
 
   pub held-add_ref : (k : ℕ) → AreHeldThere objects (add_ref g k).natives

@@ -22,7 +22,6 @@ use Rattle.cc_model.specs.Cascade.{cascade}
 use Rattle.cc_model.specs.Sweep.{without_script}
 use Rattle.cc_model.specs.Sweep as model
 use Rattle.cc_model.specs.WellFormed.{native_names}
-use Rattle.cc_laws_heap.specs.Freeing.{Uncounted}
 use Rattle.cc_laws_heap.proofs.Face.{named-member, same_name-sym}
 use Rattle.cc_counted.specs.Counts.{Counts, number_at, number_or_none, the_number, key_left, left_with, reflectors_left}
 use Rattle.cc_counted.specs.Counts as counts
@@ -77,7 +76,7 @@ module _ (p : Inside) (scripts : AreScripts p.scripts) where
 
 -- What holds of each native
 
-module _ (Q : Uncounted → Type 0) (first : Counts) where
+module _ (Q : HeapNative → Type 0) (first : Counts) where
   each-let_go : (c : Counts) (key : Option ℕ) → IsOfEach Q c.natives → IsOfEach Q (let_native_go first c key).counts.natives
   each-let_go c None all = all
   each-let_go c (Some q) all = each-cascade Q (counts.heap_of c) (the_number first q) all

@@ -12,7 +12,7 @@ use Rattle.cc_model.specs.Cascade.{let_go}
 use Rattle.cc_model.specs.Places.{places_of_native}
 use Rattle.cc_model.specs.View.{view, ReachedIn, native_edges, script_edges}
 use Rattle.cc_model.specs.WellFormed.{IsWellFormed, names_there}
-use Rattle.cc_laws_heap.specs.Freeing.{Frees, SameBeside, Uncounted, is_none_of, uncounted}
+use Rattle.cc_laws_heap.specs.Freeing.{Frees, SameBeside, is_none_of, uncounted}
 use Rattle.cc_laws_heap.specs.Sound.{IsSound}
 use Rattle.cc_laws_heap.proofs.Face.{IsOf, IsWellFormed-distinct, let_go-frees, let_go-sound, named-found, native-there, native_at-member, native_at-number, native_at-there}
 use Rattle.cc_laws_snapshot.proofs.Face.{native-edge, native_edges-alike, reached-kept}
@@ -41,7 +41,7 @@ module _ (h : Heap) (m : ℕ) (sound : IsSound (m ∷ []) h) where
       let start : native n.number ≡ x = ap (λ (p : Name × Name). p.0) (Among-map_cases (from_to (native n.number)) (contents (places_of_native n)) (x, y) e).2 in
       let o = named-found left n.number (native-there left n.number well (subst (λ z. Among z (names_there left)) (sym start) there)) in
       let p = of o.0 (native_at-there left n.number o.0 o.1) in
-      let number : p.0.number ≡ n.number = ap (λ (u : Uncounted). u.number) p.2 ∙ native_at-number left n.number o.0 o.1 in
+      let number : p.0.number ≡ n.number = ap (λ (u : HeapNative). u.number) p.2 ∙ native_at-number left n.number o.0 o.1 in
       let distinct = IsWellFormed-distinct h sound.well_formed in
       let both : Some p.0 ≡ Some n = sym (native_at-member h distinct p.0 p.1) ∙ (ap (native_at h) number ∙ native_at-member h distinct n i) in
       let edges : native_edges n ≡ native_edges o.0 = native_edges-alike n o.0 (ap uncounted (sym (some-same both)) ∙ p.2) in

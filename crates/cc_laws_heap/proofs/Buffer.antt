@@ -3,13 +3,13 @@ use Rattle.std.proofs.Common.{◌≡◌, ℕ, ◌+◌, ◌≤◌, Bool, true, fa
 use Rattle.std.specs.List.{filter}
 use Rattle.std.proofs.lemmas.Bool.{eqb-true, eq-eqb, ne_eqb, not-true}
 use Rattle.cc_lists.proofs.Counting.{count_by-cons}
-use Rattle.cc_model.specs.Heap.{Buffered, with_mark}
+use Rattle.cc_model.specs.Heap.{Buffered, with_mark, buffered_as}
 use Rattle.cc_lists.proofs.Searching.{count_by-kept, count_by-dropped}
 use Rattle.cc_laws_heap.specs.Balance.{has_place, places}
 
 -- a native that was marked stands there once
 pub places-with_mark_same : (m : Bool) (k : ℕ) (bs : List Buffered) → places k bs ≤ 1 → places k (with_mark m k bs) ≡ 1
-places-with_mark_same m k [] few = rw (count_by-cons (has_place k) (record { number = k; purple = m }) [], eq-eqb k k refl) refl
+places-with_mark_same m k [] few = rw (count_by-cons (has_place k) (buffered_as k m) [], eq-eqb k k refl) refl
 places-with_mark_same m k (b ∷ bs) few = go (places-with_mark_same m k bs) (b.number == k) refl
   where
     go : (places k bs ≤ 1 → places k (with_mark m k bs) ≡ 1) → (c : Bool) → (b.number == k) ≡ c →
@@ -23,7 +23,7 @@ places-with_mark_same m k (b ∷ bs) few = go (places-with_mark_same m k bs) (b.
 
 -- any other as often as before
 pub places-with_mark_other : (m : Bool) (k j : ℕ) (bs : List Buffered) → ¬ (j ≡ k) → places j (with_mark m k bs) ≡ places j bs
-places-with_mark_other m k j [] d = rw (count_by-cons (has_place j) (record { number = k; purple = m }) [], ne_eqb k j (λ e. d (sym e))) refl
+places-with_mark_other m k j [] d = rw (count_by-cons (has_place j) (buffered_as k m) [], ne_eqb k j (λ e. d (sym e))) refl
 places-with_mark_other m k j (b ∷ bs) d = go (places-with_mark_other m k j bs d) (b.number == k)
   where
     go : places j (with_mark m k bs) ≡ places j bs → (c : Bool) →

@@ -9,7 +9,7 @@ use Rattle.cc_model.specs.Cascade.{at_rest, cascade}
 use Rattle.cc_model.specs.WellFormed.{IsWellFormed, native_names}
 use Rattle.cc_model.specs.Counts.{refs_to}
 use Rattle.cc_laws_heap.specs.Sound.{IsSound}
-use Rattle.cc_laws_heap.specs.Freeing.{Frees, Uncounted, uncounted, SameBeside}
+use Rattle.cc_laws_heap.specs.Freeing.{Frees, uncounted, SameBeside}
 use Rattle.cc_laws_heap.proofs.Natives.{native_at-there, native_at-named, native_at-member, named-found, IsWellFormed-distinct}
 use Rattle.cc_laws_heap.proofs.Beside.{SameBeside-is}
 use Rattle.cc_laws_heap.proofs.Counted.{IsCounted-referred, IsSound-counted, IsSound-from_counted}
@@ -62,7 +62,7 @@ IsBalanced-at_rest owned h s = record {
 
 -- steady heaps are sound that are a part of well formed ones: natives whose numbers pass a test, and the same beside
 pub IsSound-steady : (owned : List ℕ) (h g : Heap) (p : ℕ → Bool) → IsWellFormed h →
-    map uncounted g.natives ≡ filter (λ (u : Uncounted). p u.number) (map uncounted h.natives) → SameBeside h g → IsSteady owned g → IsSound owned g
+    map uncounted g.natives ≡ filter (λ (u : HeapNative). p u.number) (map uncounted h.natives) → SameBeside h g → IsSteady owned g → IsSound owned g
 IsSound-steady owned h g p w natives beside b = IsSound-from_counted owned g well_formed b.counts above
   where
     is_whole : g ≡ record h { natives = g.natives; buffer = g.buffer }

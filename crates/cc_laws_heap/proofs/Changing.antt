@@ -1,6 +1,6 @@
 -- HEAPS GO ON FOLLOWING A GRAPH where the shapes of objects change alike in both, where something is left out that nothing
 -- reaches, and where registers are written alike.
-use Rattle.std.proofs.Common.{arith, ◌≡◌, ℕ, false, map, length, Option, Some, None, option_map, refl, sym, ◌∙◌, ap, subst, inl, inr, ◌⊎◌, ⊎_elim}
+use Rattle.std.proofs.Common.{arith, ◌≡◌, ℕ, false, map, length, Option, Some, option_map, refl, sym, ◌∙◌, ap, subst, inl, inr, ◌⊎◌, ⊎_elim}
 use Rattle.std.specs.Prelude.{IsTrue}
 use Rattle.cc_lists.specs.Members.{Among}
 use Rattle.cc_lists.proofs.Members.{Among-map, Among-map_cases}
@@ -11,7 +11,7 @@ use Rattle.cc_model.specs.Checks.{slots_or_none}
 use Rattle.cc_model.specs.Graph.{Graph}
 use Rattle.cc_model.specs.Heap.{Heap, HeapNative, HeapScript}
 use Rattle.cc_model.specs.StandsFor.{Shape, shape_in, shape_of_held_native, shape_of_held_script, IsEmptied}
-use Rattle.cc_laws_heap.specs.Freeing.{Uncounted, uncounted, SameBeside}
+use Rattle.cc_laws_heap.specs.Freeing.{uncounted, SameBeside}
 use Rattle.cc_laws_heap.proofs.Shapes.{edges_of_shape, IsOfNone}
 use Rattle.cc_laws_heap.proofs.GraphParts.{with_registers}
 use Rattle.cc_laws_heap.proofs.Following.{NativeFollows, AreObjects, AreEntries, Follows}
@@ -169,7 +169,7 @@ pub Follows-left : (P : Name → Type 0) (h k : Heap) (g : Graph) → Leaves h k
 Follows-left P h k g l t = grind (arith, Follows-changed, option_map-same, IsChange-unchanged)
 
 -- natives that are the same but for their counts, or are left out
-pub Leaves-uncounted : (h k : Heap) → ((u : Uncounted) → Among u (map uncounted k.natives) → Among u (map uncounted h.natives)) → SameBeside h k → Leaves h k
+pub Leaves-uncounted : (h k : Heap) → ((u : HeapNative) → Among u (map uncounted k.natives) → Among u (map uncounted h.natives)) → SameBeside h k → Leaves h k
 Leaves-uncounted h k natives b = record {
   beside = record {
     native_registers = b.native_registers;
@@ -182,13 +182,10 @@ Leaves-uncounted h k natives b = record {
   objects = record {
     natives = λ n i.
         let m = Among-map_cases uncounted h.natives (uncounted n) (natives (uncounted n) (Among-map uncounted n k.natives i)) in
-        (m.0, m.1, ap (λ (u : Uncounted). u.number) m.2, ap shape_of_uncounted (sym m.2));
+        (m.0, m.1, ap (λ (u : HeapNative). u.number) m.2, ap shape_of_held_native (sym m.2));
     scripts = λ o i. (o, subst (Among o) b.scripts i, refl, refl);
   };
 }
-  where
-    shape_of_uncounted : Uncounted → Shape
-    shape_of_uncounted u = record { slots = Some u.slots; delegate = None; preserved = u.preserved }
 
 -- Registers
 

@@ -15,7 +15,7 @@ use Rattle.cc_model.specs.Deeds.{Deed, nothing_done, native_made, plain_made, ma
 use Rattle.cc_model.specs.Slots.{reflector_slots, contents}
 use Rattle.cc_model.specs.Ranges.{in_range}
 use Rattle.cc_model.specs.Checks.{slots_at, reflector_of}
-use Rattle.cc_model.specs.Heap.{Heap, HeapScript, Outcome, set_register, objects_of, preserve, has_reflector}
+use Rattle.cc_model.specs.Heap.{Heap, HeapScript, Outcome, set_register, objects_of, preserve, has_reflector, new_script}
 use Rattle.cc_model.specs.Exposure.{exposed}
 use Rattle.cc_model.specs.Effects.{done_in, effects, touched, taken_out, hold_native, put_in_slot, store_native, move_slot, make_native, make_object, with_reflector, wrapped, put_in_script, set_entry, make_proxy}
 use Rattle.cc_model.specs.WellFormed.{IsWellFormed, script_names}
@@ -25,7 +25,6 @@ use Rattle.cc_laws_heap.specs.Sound.{IsSound}
 use Rattle.cc_lists.proofs.ListWrites.{each-push}
 use Rattle.cc_laws_heap.proofs.Making.{contents-empty_none}
 use Rattle.cc_laws_heap.proofs.Holding.{has_reflector-none}
-use Rattle.cc_laws_heap.proofs.ScriptCommands.{blank}
 use Rattle.cc_laws_heap.proofs.Taken.{IsTaken}
 use Rattle.cc_laws_heap.proofs.Coloured.{AreColoured, IsColoured}
 use Rattle.cc_laws_heap.proofs.ColourChanges.{IsHeldBlack, AreColoured-register, AreColoured-slot, AreColoured-push, exposed-coloured, exposed-black}
@@ -45,19 +44,19 @@ exposed_register-coloured h d x c = AreColoured-register (exposed h x).scripts (
 -- Script objects
 
 -- a blank object holds its delegate alone
-pub blank-holds : (x : Name) (kind : Kind) (n : ℕ) (d : Option Name) (y : Name) → Among y (contents (script_places_of (blank x kind n d))) → d ≡ Some y
-blank-holds x kind n d y m = ⊎_elim (λ s. absurd (contents-empty_none n y s)) (λ e. e) (script_place-cases (blank x kind n d) y m)
+pub blank-holds : (x : Name) (kind : Kind) (n : ℕ) (d : Option Name) (y : Name) → Among y (contents (script_places_of (new_script x kind n d))) → d ≡ Some y
+blank-holds x kind n d y m = ⊎_elim (λ s. absurd (contents-empty_none n y s)) (λ e. e) (script_place-cases (new_script x kind n d) y m)
 
 -- a black script object with a new name and a black delegate goes last, and a script register holds it
 blank-coloured : (h : Heap) (d : ℕ) (x : Name) (kind : Kind) (n : ℕ) (its_delegate : Option Name) → ¬ (Among x (script_names h)) →
     IsHeldBlack h.scripts its_delegate → IsColoured h →
-    AreColoured (h.scripts ++ blank x kind n its_delegate ∷ []) (slice_set h.script_registers d (Some x))
-blank-coloured h d x kind n its_delegate unknown black c = AreColoured-register (h.scripts ++ blank x kind n its_delegate ∷ []) h.script_registers d (Some x)
-    (each-push (λ o. Among o.name (x ∷ []) → o.colour ≡ Black) h.scripts (blank x kind n its_delegate)
+    AreColoured (h.scripts ++ new_script x kind n its_delegate ∷ []) (slice_set h.script_registers d (Some x))
+blank-coloured h d x kind n its_delegate unknown black c = AreColoured-register (h.scripts ++ new_script x kind n its_delegate ∷ []) h.script_registers d (Some x)
+    (each-push (λ o. Among o.name (x ∷ []) → o.colour ≡ Black) h.scripts (new_script x kind n its_delegate)
     (λ o m i. absurd (unknown (⊎_elim (λ e. subst (λ z. Among z (script_names h)) (sym e)
     (Among-map (λ (p : HeapScript). p.name) o h.scripts m)) (λ t. absurd t) i)))
     (λ i. refl))
-    (AreColoured-push h.scripts h.script_registers (blank x kind n its_delegate) refl
+    (AreColoured-push h.scripts h.script_registers (new_script x kind n its_delegate) refl
     (λ o m i. black o m (subst (λ y. Among o.name (option_to_list y)) (sym (blank-holds x kind n its_delegate o.name i)) (inl refl))) c)
 
 -- a plain object, a weak map or a proxy is made black

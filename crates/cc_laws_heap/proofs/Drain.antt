@@ -7,7 +7,7 @@ use Rattle.cc_model.specs.Heap.{Heap, HeapNative, native_at}
 use Rattle.cc_model.specs.Cascade.{Draining, give_up, give_up_each, natives_of_slots, told_free, free_front, at_rest, drained, cascade}
 use Rattle.cc_model.specs.Counts.{times}
 use Rattle.cc_model.proofs.Draining.{drained-empties}
-use Rattle.cc_laws_heap.specs.Freeing.{Uncounted, uncounted}
+use Rattle.cc_laws_heap.specs.Freeing.{uncounted}
 use Rattle.cc_lists.proofs.Filtering.{length-filter-less}
 use Rattle.cc_lists.proofs.Searching.{filter-map}
 use Rattle.cc_laws_heap.proofs.Natives.{native_at-there, native_at-number}
@@ -23,7 +23,7 @@ length-others : (ns ms : List HeapNative) (k : ℕ) → map uncounted ms ≡ map
     length (filter (λ n. not (has_number k n)) ms) ≡ length (filter (λ n. not (has_number k n)) ns)
 length-others ns ms k e = sym (length-uncounted ms) ∙ (ap (λ us. length (filter others us)) e ∙ length-uncounted ns)
   where
-    others : Uncounted → Bool
+    others : HeapNative → Bool
     others u = not (u.number == k)
 
     length-uncounted : (xs : List HeapNative) → length (filter others (map uncounted xs)) ≡ length (filter (λ n. not (has_number k n)) xs)

@@ -12,7 +12,7 @@ use Rattle.cc_model.specs.End.{empty_slot, empty_each}
 use Rattle.cc_model.specs.Lawful.{unlinked_in, unlinked_numbers}
 use Rattle.cc_model.specs.WellFormed.{native_names}
 use Rattle.cc_laws_heap.specs.Sound.{IsSound, numbers_of}
-use Rattle.cc_laws_heap.specs.Freeing.{Uncounted, uncounted, Frees}
+use Rattle.cc_laws_heap.specs.Freeing.{uncounted, Frees}
 use Rattle.cc_laws_heap.specs.Stages.{stage, Done, Ending}
 use Rattle.cc_laws_heap.specs.Stages.Done.{nothing, followed, besides}
 use Rattle.cc_laws_heap.specs.Stages.Ending.{emptied}
@@ -62,7 +62,7 @@ frees-stays : (h : Heap) (ks : List ℕ) (o : Outcome) → Frees h ks o → HasD
 frees-stays h ks o f d k n e there =
     let m = named-found o.heap k there in
     let i = IsOf-frees h ks o f m.0 (native_at-there o.heap k m.0 m.1) in
-    let number : i.0.number ≡ k = ap (λ (u : Uncounted). u.number) i.2 ∙ native_at-number o.heap k m.0 m.1 in
+    let number : i.0.number ≡ k = ap (λ (u : HeapNative). u.number) i.2 ∙ native_at-number o.heap k m.0 m.1 in
     let found : native_at h k ≡ Some i.0 = subst (λ j. native_at h j ≡ Some i.0) number (native_at-member h d i.0 i.1) in
     let both : Some n ≡ Some i.0 = sym e ∙ found in
     let same : n ≡ i.0 = cc in
@@ -102,7 +102,7 @@ module _ (ks owned : List ℕ) (h : Heap) (k : ℕ) (taken : Among k ks) (own : 
           ∙ (ap (λ js. js ++ unlinked_numbers next.events) e.unlinks_none ∙ (ap unlinked_numbers f.1.told ∙ (TellsOf-freed f.0).unlinked_told));
       held = stays.0;
       found = stays.1;
-      slots = ap (λ (u : Uncounted). u.slots) (sym stays.2) ∙ (ap (λ slots. set slots i None) e.slots ∙ front-set i x xs);
+      slots = ap (λ (u : HeapNative). u.slots) (sym stays.2) ∙ (ap (λ slots. set slots i None) e.slots ∙ front-set i x xs);
     },
   )
     where

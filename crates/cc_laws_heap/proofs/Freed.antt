@@ -6,9 +6,9 @@ use Rattle.std.proofs.lemmas.List.{map-append}
 use Rattle.cc_names.specs.Names.{native}
 use Rattle.cc_model.specs.declared.item.Event.{Event}
 use Rattle.cc_model.specs.declared.item.Event.TheVariants.{Freed}
-use Rattle.cc_model.specs.Heap.{Heap, Outcome, native_at, silently}
+use Rattle.cc_model.specs.Heap.{Heap, HeapNative, Outcome, native_at, silently, outcome_of}
 use Rattle.cc_model.specs.Cascade.{Draining, give_up_each, natives_of_slots, told_free, free_front, at_rest}
-use Rattle.cc_laws_heap.specs.Freeing.{Uncounted, uncounted, is_none_of, SameBeside, Frees}
+use Rattle.cc_laws_heap.specs.Freeing.{uncounted, is_none_of, SameBeside, Frees}
 use Rattle.cc_lists.proofs.Searching.{filter-true, filter-map, filter-filter}
 use Rattle.cc_lists.proofs.Numbers.{eqb-sym}
 use Rattle.cc_laws_heap.proofs.Beside.{SameBeside-refl, SameBeside-trans}
@@ -16,14 +16,14 @@ use Rattle.cc_laws_heap.proofs.DrainingAlike.{IsAlike, IsAlike-give_up_each}
 
 -- the heaps and what was told so far
 abbrev pub outcome : Draining → Outcome
-outcome d = record { heap = d.heap; events = d.events }
+outcome d = outcome_of d.heap d.events
 
 -- what is told of a native that was freed
 abbrev pub freed_event : ℕ → Event
 freed_event k = Freed (native k)
 
 -- to be none of a list and one more is to be none of the list, and not that one
-is_none_of-push : (ks : List ℕ) (k : ℕ) (u : Uncounted) → is_none_of (ks ++ k ∷ []) u ≡ (is_none_of ks u && not (u.number == k))
+is_none_of-push : (ks : List ℕ) (k : ℕ) (u : HeapNative) → is_none_of (ks ++ k ∷ []) u ≡ (is_none_of ks u && not (u.number == k))
 is_none_of-push [] k u = grind (arith, eqb-sym)
 is_none_of-push (i ∷ js) k u = grind (arith, is_none_of-push js k u)
 
@@ -53,7 +53,7 @@ TakesOut-free_front h told d k ks f = record {
   beside = SameBeside-trans h d.heap (free_front d k ks).heap f.beside beside;
 }
   where
-    others : Uncounted → Bool
+    others : HeapNative → Bool
     others u = not (u.number == k)
 
     held : List ℕ

@@ -9,7 +9,7 @@ use Rattle.cc_model.specs.Checks.{slots_at}
 use Rattle.cc_model.specs.Heap.{Heap, HeapNative, HeapScript, native_at, slots_in, register, objects_of}
 use Rattle.cc_model.specs.Cascade.{add_ref, take_up}
 use Rattle.cc_model.specs.WellFormed.{native_names, script_names, names_there}
-use Rattle.cc_laws_heap.specs.Freeing.{Uncounted, uncounted, SameBeside}
+use Rattle.cc_laws_heap.specs.Freeing.{uncounted, SameBeside}
 use Rattle.cc_lists.proofs.Searching.{find-map}
 use Rattle.cc_laws_heap.proofs.Natives.{uncounted-change}
 use Rattle.cc_laws_heap.proofs.Beside.{SameBeside-with, SameBeside-refl}
@@ -38,10 +38,10 @@ HoldsTheSame-take_up h x = grind (arith, HoldsTheSame-add_ref, HoldsTheSame-refl
 module _ (h g : Heap) (a : HoldsTheSame h g) where
   -- the same natives are there
   pub native_names-alike : native_names g ≡ native_names h
-  native_names-alike = named g ∙ (ap (λ us. map (λ (u : Uncounted). native u.number) us) a.natives ∙ sym (named h))
+  native_names-alike = named g ∙ (ap (λ us. map (λ (u : HeapNative). native u.number) us) a.natives ∙ sym (named h))
     where
-      named : (f : Heap) → native_names f ≡ map (λ (u : Uncounted). native u.number) (map uncounted f.natives)
-      named f = sym (map-map (λ (u : Uncounted). native u.number) uncounted f.natives)
+      named : (f : Heap) → native_names f ≡ map (λ (u : HeapNative). native u.number) (map uncounted f.natives)
+      named f = sym (map-map (λ (u : HeapNative). native u.number) uncounted f.natives)
 
   -- the same script objects are there
   pub script_names-alike : script_names g ≡ script_names h
@@ -57,13 +57,13 @@ module _ (h g : Heap) (a : HoldsTheSame h g) where
 
   -- natives have the same slots
   native_slots-alike : (k : ℕ) → option_map (λ (n : HeapNative). n.slots) (native_at g k) ≡ option_map (λ (n : HeapNative). n.slots) (native_at h k)
-  native_slots-alike k = found g ∙ (ap (λ us. option_map (λ (u : Uncounted). u.slots) (find (λ (u : Uncounted). u.number == k) us)) a.natives ∙ sym (found h))
+  native_slots-alike k = found g ∙ (ap (λ us. option_map (λ (u : HeapNative). u.slots) (find (λ (u : HeapNative). u.number == k) us)) a.natives ∙ sym (found h))
     where
-      slots : (o : Option HeapNative) → option_map (λ (n : HeapNative). n.slots) o ≡ option_map (λ (u : Uncounted). u.slots) (option_map uncounted o)
+      slots : (o : Option HeapNative) → option_map (λ (n : HeapNative). n.slots) o ≡ option_map (λ (u : HeapNative). u.slots) (option_map uncounted o)
       slots o = grind arith
 
       found : (f : Heap) → option_map (λ (n : HeapNative). n.slots) (native_at f k) ≡
-          option_map (λ (u : Uncounted). u.slots) (find (λ (u : Uncounted). u.number == k) (map uncounted f.natives))
+          option_map (λ (u : HeapNative). u.slots) (find (λ (u : HeapNative). u.number == k) (map uncounted f.natives))
       found f = grind (arith, find-map)
 
   -- objects have the same slots

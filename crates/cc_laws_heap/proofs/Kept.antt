@@ -9,7 +9,7 @@ use Rattle.cc_model.specs.Slots.{Slots, contents}
 use Rattle.cc_model.specs.Entries.{Entry, is_entry_of}
 use Rattle.cc_model.specs.Heap.{Heap, HeapNative, HeapScript, Buffered}
 use Rattle.cc_model.specs.WellFormed.{IsWellFormed, IsRising, HasMembers, FitsName, native_names, script_names, names_there, is_proxy_kind}
-use Rattle.cc_laws_heap.specs.Freeing.{Uncounted, uncounted}
+use Rattle.cc_laws_heap.specs.Freeing.{uncounted}
 use Rattle.cc_laws_heap.specs.Balance.{places}
 use Rattle.cc_lists.proofs.ListWrites.{changed_where, changed_where-either, each-map, map-kept}
 
@@ -103,7 +103,7 @@ abbrev pub with_natives : Heap → (HeapNative → HeapNative) → List Buffered
 with_natives h f bs = record h { natives = map f h.natives; buffer = bs }
 
 -- a native as it may be: it holds no more slots than it may, in them what is there; its reflector is there where it is preserved
-pub record NativeFits (h : Heap) (u : Uncounted) : Type 0 where
+pub record NativeFits (h : Heap) (u : HeapNative) : Type 0 where
   pub slots : length u.slots ≤ most_slots
   pub contents : (x : Name) → Among x (contents u.slots) → Among x (names_there h)
   pub preserved : u.preserved ≡ true → Among (reflector u.number) (script_names h)

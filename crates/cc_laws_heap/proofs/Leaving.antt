@@ -15,7 +15,7 @@ use Rattle.cc_model.specs.Heap.{Heap, HeapNative, Buffered, Outcome, native_at, 
 use Rattle.cc_model.specs.Cascade.{add_ref, removed}
 use Rattle.cc_model.specs.WellFormed.{native_names}
 use Rattle.cc_model.specs.Counts.{times}
-use Rattle.cc_laws_heap.specs.Freeing.{Uncounted, uncounted, is_none_of, SameBeside, Frees}
+use Rattle.cc_laws_heap.specs.Freeing.{uncounted, is_none_of, SameBeside, Frees}
 use Rattle.cc_laws_heap.specs.Ending.{freed_in, freed_numbers}
 use Rattle.cc_laws_heap.specs.Stages.{Stage, Done, Ending}
 use Rattle.cc_lists.proofs.Searching.{filter-true, filter-map, filter-filter}
@@ -103,7 +103,7 @@ Leave-frees h ks o f = record {
   beside = f.beside;
 }
   where
-    number : Uncounted → ℕ
+    number : HeapNative → ℕ
     number u = u.number
 
 -- where the same numbers are there, nothing has left

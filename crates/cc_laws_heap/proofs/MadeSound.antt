@@ -10,7 +10,7 @@ use Rattle.cc_lists.proofs.Counting.{count_by-cons, count_by-append}
 use Rattle.cc_names.specs.declared.name.Name.{Name}
 use Rattle.cc_names.specs.Names.{reflector, same_name, behind}
 use Rattle.cc_names.specs.Sizes.{most_slots}
-use Rattle.cc_model.specs.Heap.{Heap, HeapNative, HeapScript, native_at}
+use Rattle.cc_model.specs.Heap.{Heap, HeapNative, HeapScript, native_at, native_to_make}
 use Rattle.cc_model.specs.Effects.{with_native}
 use Rattle.cc_model.specs.Counts.{refs_to, times}
 use Rattle.cc_laws_heap.specs.Sound.{IsSound}
@@ -19,7 +19,7 @@ use Rattle.cc_laws_heap.proofs.References.{times-append, times-cons, times-cons_
 use Rattle.cc_laws_heap.proofs.Counted.{IsSound-counted, IsSound-from_counted}
 use Rattle.cc_laws_heap.specs.Balance.{IsCounted, count_of, count_at}
 use Rattle.cc_lists.proofs.ListWrites.{each-push}
-use Rattle.cc_laws_heap.proofs.Making.{contents-empty, new_native, native_names-made, IsWellFormed-with_native, with_script_last, IsNewScript, IsWellFormed-with_script}
+use Rattle.cc_laws_heap.proofs.Making.{contents-empty, native_names-made, IsWellFormed-with_native, with_script_last, IsNewScript, IsWellFormed-with_script}
 
 -- A native
 
@@ -32,8 +32,8 @@ module _ (owned : List ℕ) (h : Heap) (n : ℕ) (s : IsSound owned h) where
       absurd (omega arith)
 
   -- what is found at a number after a native was made
-  native_at-with_native : (j : ℕ) → native_at (with_native h n) j ≡ option_or (native_at h j) (find (λ m. m.number == j) (new_native h n ∷ []))
-  native_at-with_native j = find-append (λ (m : HeapNative). m.number == j) h.natives (new_native h n ∷ [])
+  native_at-with_native : (j : ℕ) → native_at (with_native h n) j ≡ option_or (native_at h j) (find (λ m. m.number == j) (native_to_make h n ∷ []))
+  native_at-with_native j = find-append (λ (m : HeapNative). m.number == j) h.natives (native_to_make h n ∷ [])
 
   -- the native that was made has count one
   count_at-new : count_at (with_native h n) (h.natives_made + 1) ≡ 1
@@ -54,7 +54,7 @@ module _ (owned : List ℕ) (h : Heap) (n : ℕ) (s : IsSound owned h) where
   with_native-sound few room = IsSound-from_counted ((h.natives_made + 1) ∷ owned) (with_native h n)
       (IsWellFormed-with_native h n s.well_formed few room)
       (λ j. ⊎_elim (same j) (other j) (eqb_tells j (h.natives_made + 1)))
-      (each-push (λ m. 1 ≤ m.count) h.natives (new_native h n) s.none_zero (omega arith))
+      (each-push (λ m. 1 ≤ m.count) h.natives (native_to_make h n) s.none_zero (omega arith))
     where
       made : ℕ
       made = h.natives_made + 1

@@ -12,7 +12,7 @@ use Rattle.cc_names.proofs.NameTests.{same_name-true}
 use Rattle.cc_names.specs.Sizes.{most_slots}
 use Rattle.cc_model.specs.Slots.{contents, empty_slots}
 use Rattle.cc_model.specs.Entries.{Entry}
-use Rattle.cc_model.specs.Heap.{Heap, HeapNative, HeapScript, Buffered, with_mark}
+use Rattle.cc_model.specs.Heap.{Heap, HeapNative, HeapScript, Buffered, with_mark, native_to_make}
 use Rattle.cc_model.specs.Effects.{with_native}
 use Rattle.cc_model.specs.WellFormed.{IsWellFormed, IsRising, HasMembers, FitsName, native_names, script_names, names_there, is_proxy_kind}
 use Rattle.cc_laws_heap.proofs.Rising.{IsRising-tail, IsRising-first, IsRising-cons}
@@ -53,12 +53,12 @@ places-with_mark m k bs once j = ⊎_elim
 
 -- the native that is made
 abbrev pub new_native : Heap → ℕ → HeapNative
-new_native h n = record { number = h.natives_made + 1; slots = empty_slots n; preserved = false; count = 1 }
+new_native h n = native_to_make h n
 
 module _ (h : Heap) (n : ℕ) (w : IsWellFormed h) where
   -- the names of natives after one was made
   native_names-is : native_names (with_native h n) ≡ native_names h ++ native (h.natives_made + 1) ∷ []
-  native_names-is = map_push (λ (m : HeapNative). native m.number) h.natives (new_native h n)
+  native_names-is = map_push (λ (m : HeapNative). native m.number) h.natives (native_to_make h n)
 
   -- what was there is there
   native_names-with_native : (x : Name) → Among x (native_names h) → Among x (native_names (with_native h n))
@@ -94,12 +94,12 @@ module _ (h : Heap) (n : ℕ) (w : IsWellFormed h) where
     native_registers = λ x m. native_names-with_native x (w.native_registers x m);
     script_registers = w.script_registers;
     registers = w.registers;
-    rising = subst IsRising (sym (map_push (λ (m : HeapNative). m.number) h.natives (new_native h n)))
+    rising = subst IsRising (sym (map_push (λ (m : HeapNative). m.number) h.natives (native_to_make h n)))
         (IsRising-push (map (λ m. m.number) h.natives) (h.natives_made + 1) w.rising numbers-below);
-    native_numbers = each-push (λ m. (1 ≤ m.number) × (m.number ≤ h.natives_made + 1)) h.natives (new_native h n)
+    native_numbers = each-push (λ m. (1 ≤ m.number) × (m.number ≤ h.natives_made + 1)) h.natives (native_to_make h n)
         (λ m i. let k = w.native_numbers m i in (k.0, omega (arith, k.1))) (omega arith, omega arith);
-    native_slots = each-push (λ m. length m.slots ≤ most_slots) h.natives (new_native h n) w.native_slots (subst (λ l. l ≤ most_slots) (sym (length-replicate n None)) few);
-    native_contents = λ m x i. each-push (λ m. (y : Name) → Among y (contents m.slots) → Among y (names_there (with_native h n))) h.natives (new_native h n)
+    native_slots = each-push (λ m. length m.slots ≤ most_slots) h.natives (native_to_make h n) w.native_slots (subst (λ l. l ≤ most_slots) (sym (length-replicate n None)) few);
+    native_contents = λ m x i. each-push (λ m. (y : Name) → Among y (contents m.slots) → Among y (names_there (with_native h n))) h.natives (native_to_make h n)
         (λ o i y j. names_there-with_native y (w.native_contents o y i j)) (λ y j. absurd (contents-empty_none n y j)) m i x;
     distinct = w.distinct;
     object_numbers = w.object_numbers;
@@ -109,7 +109,7 @@ module _ (h : Heap) (n : ℕ) (w : IsWellFormed h) where
     delegate_there = w.delegate_there;
     reflected = λ k m. native_names-with_native (native k) (w.reflected k m);
     preserved = each-push (λ m. m.preserved ≡ true → Among (reflector m.number) (script_names h))
-        h.natives (new_native h n) w.preserved (λ e. absurd (false≢true e));
+        h.natives (native_to_make h n) w.preserved (λ e. absurd (false≢true e));
     entries = λ e m. let k = w.entries e m in record { the_map = k.the_map; key = k.key; value = k.value; delegate = k.delegate };
     one_entry = w.one_entry;
     buffered = λ b m. ⊎_elim

@@ -14,7 +14,7 @@ use Rattle.cc_names.specs.Names.{native, object, reflector}
 use Rattle.cc_model.specs.Slots.{contents, empty_slots}
 use Rattle.cc_model.specs.Entries.{Entry}
 use Rattle.cc_model.specs.Graph as graph
-use Rattle.cc_model.specs.Graph.{Graph, GraphNative, GraphScript, plain_object, weak_map, proxy, native_in, script_in, delegate_in, delegate_of_script}
+use Rattle.cc_model.specs.Graph.{Graph, GraphNative, GraphScript, plain_object, weak_map, proxy, native_in, script_in, delegate_in, delegate_of_script, new_graph_native}
 use Rattle.cc_model.specs.WellMade.{IsWellMade, was_made, is_made_script}
 use Rattle.cc_model.specs.Heap.{Heap, HeapNative, HeapScript, slots_of_kind}
 use Rattle.cc_model.specs.Effects as effects
@@ -60,10 +60,6 @@ last-cases xs y x m = ⊎_elim (λ l. inl l) (λ r. ⊎_elim (λ e. inr e) (λ n
 
 -- A native
 
--- the native that is made in the graph, and its name
-abbrev new_native : ℕ → GraphNative
-new_native n = record { slots = empty_slots n; preserved = false; reflector = None }
-
 -- the name of the native that is made next
 abbrev pub next_native : Graph → Name
 next_native g = native (length g.natives + 1)
@@ -75,7 +71,7 @@ IsMade-native P h g n w b = record {
   natives = λ m i. ⊎_elim (λ l. inl l) (λ e. inr (ap (λ (o : HeapNative). native o.number) (sym e) ∙ number, ap shape_of_held_native (sym e))) (last-cases h.natives _ m i);
   scripts = λ o i. inl i;
   others = others;
-  made = ap (option_map shape_of_native) (numbered-push g.natives (new_native n));
+  made = ap (option_map shape_of_native) (numbered-push g.natives (new_graph_native n));
   before = λ t i. let none : None ≡ Some t = sym (ap (option_map shape_of_native) (numbered-next g.natives)) ∙ i in absurd (cc);
   targets = λ y i. ⊎_elim (λ l. absurd (contents-empty_none n y l)) (λ r. absurd r) (Among-append y (contents (empty_slots n)) [] i);
   no_entry = unmade-no_entry g w (next_native g) unmade;
@@ -86,7 +82,7 @@ IsMade-native P h g n w b = record {
     native_registers = b.native_registers;
     script_registers = b.script_registers;
     limits = b.limits;
-    natives_made = omega (arith, b.natives_made, length-append g.natives (new_native n ∷ []));
+    natives_made = omega (arith, b.natives_made, length-append g.natives (new_graph_native n ∷ []));
     scripts_made = b.scripts_made;
   };
   heap_entries = refl;
@@ -105,16 +101,16 @@ IsMade-native P h g n w b = record {
     apart e = cc
 
     others : (z : Name) → z ≢ next_native g → shape_in (graph.with_native g n) z ≡ shape_in g z
-    others (name.Native k) d = ap (option_map shape_of_native) (numbered-push_other g.natives (new_native n) k.0 (λ e. d (ap native e)))
+    others (name.Native k) d = ap (option_map shape_of_native) (numbered-push_other g.natives (new_graph_native n) k.0 (λ e. d (ap native e)))
     others (name.Script k) d = refl
     others (name.Reflector k) d = ⊎_elim
         (λ t. same k.0 t.1)
-        (λ t. ap (option_and_then shape_of_reflector) (numbered-push_other g.natives (new_native n) k.0 t.1))
+        (λ t. ap (option_and_then shape_of_reflector) (numbered-push_other g.natives (new_graph_native n) k.0 t.1))
         (eqb_tells k.0 (length g.natives + 1))
       where
         same : (j : ℕ) → j ≡ length g.natives + 1 → option_and_then shape_of_reflector (native_in (graph.with_native g n) j) ≡ option_and_then shape_of_reflector (native_in g j)
         same j e = subst (λ i. option_and_then shape_of_reflector (native_in (graph.with_native g n) i) ≡ option_and_then shape_of_reflector (native_in g i)) (sym e)
-            (ap (option_and_then shape_of_reflector) (numbered-push g.natives (new_native n)) ∙ sym (ap (option_and_then shape_of_reflector) (numbered-next g.natives)))
+            (ap (option_and_then shape_of_reflector) (numbered-push g.natives (new_graph_native n)) ∙ sym (ap (option_and_then shape_of_reflector) (numbered-next g.natives)))
 
 -- A NATIVE MADE.
 pub Follows-native : (P : Name → Type 0) (h : Heap) (g : Graph) (n : ℕ) → IsWellMade g → Follows P h g →

@@ -15,7 +15,7 @@ use Rattle.cc_model.specs.Heap.{Heap, HeapNative, HeapScript, native_at}
 use Rattle.cc_model.specs.Cascade.{removed, natives_of_slots}
 use Rattle.cc_model.specs.WellFormed.{IsWellFormed, FitsName, native_names, script_names, names_there}
 use Rattle.cc_model.specs.Counts.{refs_to, slots_of_natives, times}
-use Rattle.cc_laws_heap.specs.Freeing.{Uncounted, uncounted, SameBeside}
+use Rattle.cc_laws_heap.specs.Freeing.{uncounted, SameBeside}
 use Rattle.cc_lists.proofs.Searching.{sum_by-taken_out}
 use Rattle.cc_lists.proofs.Numbers.{eqb-sym}
 use Rattle.cc_laws_heap.specs.Balance.{HasDistinctNumbers, has_number}
@@ -116,8 +116,8 @@ refs_to-there h k w some = ⊎_elim register
 -- Two heaps that are the same but for counts and buffers have the same references
 
 -- what natives hold is the same without their counts
-slots_of_natives-uncounted : (h : Heap) → slots_of_natives h ≡ flat_map (λ (u : Uncounted). contents u.slots) (map uncounted h.natives)
-slots_of_natives-uncounted h = sym (flat_map-map (λ (u : Uncounted). contents u.slots) uncounted h.natives)
+slots_of_natives-uncounted : (h : Heap) → slots_of_natives h ≡ flat_map (λ (u : HeapNative). contents u.slots) (map uncounted h.natives)
+slots_of_natives-uncounted h = sym (flat_map-map (λ (u : HeapNative). contents u.slots) uncounted h.natives)
 
 -- heaps that are the same but for counts and the buffer have the same references
 pub refs_to-alike : (h g : Heap) → SameBeside h g → map uncounted g.natives ≡ map uncounted h.natives → (k : ℕ) → refs_to g k ≡ refs_to h k

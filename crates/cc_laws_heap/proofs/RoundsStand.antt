@@ -9,12 +9,11 @@ use Rattle.cc_model.specs.Entries.{Entry, is_entry_of}
 use Rattle.cc_model.specs.Graph.{Graph}
 use Rattle.cc_model.specs.Reached.{Reached}
 use Rattle.cc_model.specs.WellMade.{IsWellMade}
-use Rattle.cc_model.specs.Heap.{Heap, HeapScript}
+use Rattle.cc_model.specs.Heap.{Heap, HeapNative, HeapScript}
 use Rattle.cc_model.specs.Colours.{marked}
 use Rattle.cc_model.specs.Sweep.{unmarked, sweep, collect_scripts}
-use Rattle.cc_model.specs.StandsFor.{Shape, native_shape, shape_in, shape_of_held_script, StandsFor}
+use Rattle.cc_model.specs.StandsFor.{shape_in, shape_of_held_script, StandsFor, shape_of_held_native}
 use Rattle.cc_laws_heap.specs.Sound.{IsSound}
-use Rattle.cc_laws_heap.specs.Freeing.{Uncounted}
 use Rattle.cc_laws_heap.proofs.EntryLists.{is_entry_of-parts}
 use Rattle.cc_laws_heap.proofs.ReachedAlike.{reached-there}
 use Rattle.cc_laws_heap.proofs.Following.{AreObjects, AreEntries, Follows, stands-follows}
@@ -29,16 +28,12 @@ use Rattle.cc_laws_heap.proofs.RoundParts.{value_in-filter, ArePart-filter, roun
 use Rattle.cc_laws_heap.proofs.ReachedMarked.{reached-not_unmarked}
 use Rattle.cc_laws_heap.proofs.CollectedColours.{collecting-keeps, collect_scripts-frees}
 
--- the shape of a native without its count
-abbrev shape_of_uncounted : Uncounted → Shape
-shape_of_uncounted u = native_shape u.slots u.preserved
-
 -- the objects that a round leaves have the shapes that they had
 round-leaves : {owned : List ℕ} (h : Heap) → IsSound owned h → HeapChanges unchanged h (sweep (marked h)).heap
 round-leaves h s = record {
   natives = λ n i.
       let f = round-natives h s n i in
-      (f.0, f.1, ap (λ (u : Uncounted). u.number) f.2, ap shape_of_uncounted (sym f.2));
+      (f.0, f.1, ap (λ (u : HeapNative). u.number) f.2, ap shape_of_held_native (sym f.2));
   scripts = λ o i.
       let f = round-scripts h o i in
       (f.0, f.1, ap (λ (p : HeapScript). p.name) f.2, ap shape_of_held_script (sym f.2));

@@ -9,13 +9,12 @@ use Rattle.cc_names.specs.declared.name.Name.TheVariants as name
 use Rattle.cc_names.specs.declared.register.Reg.TheVariants.{S}
 use Rattle.cc_names.specs.declared.kind.Kind.{Kind}
 use Rattle.cc_names.specs.declared.kind.Kind.TheVariants.{Reflector, Map, Proxy as proxy_kind}
-use Rattle.cc_names.specs.declared.kind.Colour.TheVariants.{Black}
 use Rattle.cc_names.specs.Names.{native, object, reflector, same_name, number_of}
 use Rattle.cc_names.proofs.NameTests.{same_name-true, same_name-refl}
 use Rattle.cc_model.specs.Slots.{empty_slots, reflector_slots}
 use Rattle.cc_model.specs.Entries.{entry, with_entry, Entry}
 use Rattle.cc_model.specs.Checks.{is_map_in, reflector_of}
-use Rattle.cc_model.specs.Heap.{Heap, HeapScript, script_at, slots_in, slots_of_script, slots_of_kind, set_register, objects_of, has_reflector, preserve, delegate_at}
+use Rattle.cc_model.specs.Heap.{Heap, HeapScript, script_at, slots_in, slots_of_script, slots_of_kind, set_register, objects_of, has_reflector, preserve, delegate_at, new_script}
 use Rattle.cc_model.specs.Cascade.{add_ref}
 use Rattle.cc_model.specs.Exposure.{exposed}
 use Rattle.cc_model.specs.Effects.{make_object, with_reflector, wrapped, set_entry, make_proxy}
@@ -35,7 +34,7 @@ use Rattle.cc_laws_heap.proofs.ScriptNames.{delegate_at-found}
 
 -- a black script object with empty slots
 abbrev pub blank : Name → Kind → ℕ → Option Name → HeapScript
-blank x kind n d = record { name = x; kind = kind; slots = empty_slots n; delegate = d; colour = Black }
+blank x kind n d = new_script x kind n d
 
 -- one name stands in a list where it is there
 IsIn-one : (names : List Name) (x : Name) → Among x names → IsIn names (Some x)
@@ -55,7 +54,7 @@ no_delegate h kind e = record { of_kind = sym e; there = λ y m. absurd m }
 module _ (h : Heap) (kind : Kind) (n : ℕ) (d : Option Name) (w : IsWellFormed h) (fits : FitsName (object (h.scripts_made + 1)) kind (empty_slots n))
     (its_delegate : IsDelegate h kind d) where
   -- an object with the next number may go last
-  pub IsNewScript-object : h.scripts_made < h.limits.scripts → IsNewScript h (blank (object (h.scripts_made + 1)) kind n d) (h.scripts_made + 1)
+  pub IsNewScript-object : h.scripts_made < h.limits.scripts → IsNewScript h (new_script (object (h.scripts_made + 1)) kind n d) (h.scripts_made + 1)
   IsNewScript-object room = record {
     unknown = λ m. let made : h.scripts_made + 1 ≤ h.scripts_made = (w.object_numbers (h.scripts_made + 1) m).1 in absurd (omega arith);
     fits = fits;
@@ -86,7 +85,7 @@ make_proxy-sound owned h d (Some x) there room s = make_object-sound owned (pres
 
 -- a native that is there, and has none, may get a reflector
 IsNewScript-reflector : (h : Heap) (k : ℕ) → IsWellFormed h → Among (native k) (native_names h) → has_reflector h k ≡ false →
-    IsNewScript (add_ref h k) (blank (reflector k) Reflector reflector_slots None) h.scripts_made
+    IsNewScript (add_ref h k) (new_script (reflector k) Reflector reflector_slots None) h.scripts_made
 IsNewScript-reflector h k w there none = record {
   unknown = has_reflector-none h k none;
   fits = refl;
@@ -103,7 +102,7 @@ IsNewScript-reflector h k w there none = record {
 -- A native gets a reflector, which refers to it.
 pub with_reflector-sound : (owned : List ℕ) (h : Heap) (k : ℕ) → Among (native k) (native_names h) → has_reflector h k ≡ false → IsSound owned h →
     IsSound owned (with_reflector h k)
-with_reflector-sound owned h k there none s = with_script-sound owned (add_ref h k) (blank (reflector k) Reflector reflector_slots None) h.scripts_made
+with_reflector-sound owned h k there none s = with_script-sound owned (add_ref h k) (new_script (reflector k) Reflector reflector_slots None) h.scripts_made
     (IsNewScript-reflector h k s.well_formed there none) (add_ref-sound owned h k there s)
 
 -- A native is wrapped, and a script register holds its reflector.
@@ -122,7 +121,7 @@ wrapped-sound owned h d (Some (name.Native k)) there s = go (has_reflector h k.0
         (exposed-sound owned h (Some (reflector k.0)) s)
     go false e = script_register-sound owned (with_reflector h k.0) d (Some (reflector k.0))
         (IsIn-one (script_names (with_reflector h k.0)) (reflector k.0)
-        (script_names-new_script h (blank (reflector k.0) Reflector reflector_slots None) h.scripts_made))
+        (script_names-new_script h (new_script (reflector k.0) Reflector reflector_slots None) h.scripts_made))
         (with_reflector-sound owned h k.0 (there (native k.0) (inl refl)) e s)
 
 -- Entries

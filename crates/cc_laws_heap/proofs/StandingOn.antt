@@ -12,7 +12,7 @@ use Rattle.cc_model.specs.End.{unlink}
 use Rattle.cc_model.specs.WellFormed.{IsWellFormed, native_names}
 use Rattle.cc_model.specs.StandsFor.{shape_in, shape_of_held_native, IsEmptied, StandsFor}
 use Rattle.cc_laws_heap.specs.Sound.{IsSound}
-use Rattle.cc_laws_heap.specs.Freeing.{Uncounted, uncounted, SameBeside}
+use Rattle.cc_laws_heap.specs.Freeing.{uncounted, SameBeside}
 use Rattle.cc_laws_heap.proofs.Natives.{named-member}
 use Rattle.cc_laws_heap.proofs.Cascades.{cascade-sound, cascade-frees}
 use Rattle.cc_laws_heap.proofs.HoldsTheSame.{HoldsTheSame-add_ref}
@@ -35,7 +35,7 @@ StandsOn h g n = IsOf h n ⊎ IsEmptiedOf h g n
 
 -- natives that are the same but for their counts have one name and one shape
 uncounted-name : (m n : HeapNative) → uncounted m ≡ uncounted n → native m.number ≡ native n.number
-uncounted-name m n e = ap (λ (u : Uncounted). native u.number) e
+uncounted-name m n e = ap (λ (u : HeapNative). native u.number) e
 
 uncounted-shape : (m n : HeapNative) → uncounted m ≡ uncounted n → shape_of_held_native m ≡ shape_of_held_native n
 uncounted-shape m n e = grind arith

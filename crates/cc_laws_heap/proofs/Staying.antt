@@ -10,7 +10,7 @@ use Rattle.cc_model.specs.Heap.{Heap, HeapNative, change_native, with_native_slo
 use Rattle.cc_model.specs.Cascade.{add_ref, lower}
 use Rattle.cc_model.specs.StandsFor.{IsEmptied}
 use Rattle.cc_laws_heap.specs.Balance.{has_number}
-use Rattle.cc_laws_heap.specs.Freeing.{Uncounted, uncounted}
+use Rattle.cc_laws_heap.specs.Freeing.{uncounted}
 use Rattle.cc_laws_heap.specs.Stages.{Stage, Done, Ending}
 use Rattle.cc_laws_heap.specs.Stages.Ending.{reordered, raised, unlinked, emptied, unpreserved}
 use Rattle.cc_laws_heap.proofs.Natives.{KeepsNumber, uncounted-change}
@@ -43,7 +43,7 @@ pub record ComesFrom (ks : List ℕ) (h : Heap) (n : HeapNative) : Type 0 where
 module _ (ks : List ℕ) where
   -- what is as it was
   from-of : (h : Heap) (n : HeapNative) → IsOf h n → ComesFrom ks h n
-  from-of h n i = record { was = i.0; there = i.1; number = ap (λ (u : Uncounted). u.number) i.2; same = λ d. i.2; empty = uncounted-emptied i.0 n i.2 }
+  from-of h n i = record { was = i.0; there = i.1; number = ap (λ (u : HeapNative). u.number) i.2; same = λ d. i.2; empty = uncounted-emptied i.0 n i.2 }
 
   -- what comes from heaps that come from others
   from-then : (h g : Heap) (n : HeapNative) → ((m : HeapNative) → Among m g.natives → ComesFrom ks h m) → ComesFrom ks g n → ComesFrom ks h n

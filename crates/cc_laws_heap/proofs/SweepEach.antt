@@ -12,7 +12,7 @@ use Rattle.cc_names.specs.declared.name.Name.TheVariants as name
 use Rattle.cc_names.specs.Names.{native, same_name, is_script}
 use Rattle.cc_names.proofs.NameTests.{same_name-refl}
 use Rattle.cc_model.specs.declared.item.Event.TheVariants.{Freed}
-use Rattle.cc_model.specs.Heap.{Heap, HeapScript, Outcome, after}
+use Rattle.cc_model.specs.Heap.{Heap, HeapScript, Outcome, after, outcome_of}
 use Rattle.cc_model.specs.Cascade.{cascade}
 use Rattle.cc_model.specs.Sweep.{without_script, sweep_one, sweep_each}
 use Rattle.cc_model.specs.WellFormed.{script_names}
@@ -84,7 +84,7 @@ TakesOut-sweep_one owned (name.Reflector k) xs h t =
     let f = cascade-frees_steady owned g k.0 steady in
     let named : (p : HeapScript) → Among p g.scripts → is_script p.name ≡ true =
     λ p m. t.named p (Among-filtered (λ (o : HeapScript). not (same_name o.name x)) p h.scripts m) in
-    let first : Outcome = record { heap = g; events = Freed x ∷ [] } in (
+    let first : Outcome = outcome_of g (Freed x ∷ []) in (
       (x ∷ []) ++ map native f.0,
       TakesOut-then h (x ∷ []) (map native f.0) first c (TakesOut-script h x refl there) (TakesOut-cascade g f.0 c named f.1),
       cascade-steady owned g k.0 steady,

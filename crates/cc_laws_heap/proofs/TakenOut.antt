@@ -12,11 +12,11 @@ use Rattle.cc_names.specs.declared.name.Name.{Name}
 use Rattle.cc_names.specs.declared.name.Name.TheVariants as name
 use Rattle.cc_names.specs.Names.{native, same_name, is_script}
 use Rattle.cc_model.specs.declared.item.Event.TheVariants.{Freed}
-use Rattle.cc_model.specs.Heap.{Heap, HeapScript, Outcome, silently, after}
+use Rattle.cc_model.specs.Heap.{Heap, HeapNative, HeapScript, Outcome, silently, after, outcome_of}
 use Rattle.cc_model.specs.WellFormed.{native_names, script_names, names_there}
 use Rattle.cc_model.specs.Counts.{times}
 use Rattle.cc_model.specs.Sweep.{without_script}
-use Rattle.cc_laws_heap.specs.Freeing.{Uncounted, uncounted, is_none_of, Frees}
+use Rattle.cc_laws_heap.specs.Freeing.{uncounted, is_none_of, Frees}
 use Rattle.cc_laws_heap.specs.Rounds.{is_not_among, FreesNames}
 use Rattle.cc_lists.proofs.Searching.{filter-true, filter-map}
 use Rattle.cc_laws_heap.proofs.References.{times-natives_in}
@@ -25,7 +25,7 @@ use Rattle.cc_laws_heap.proofs.ScriptNames.{script-other}
 use Rattle.cc_laws_heap.proofs.FreedNames.{filter-not_among, FreesNames-silently, FreesNames-then}
 
 -- the name of a native
-abbrev pub name_of_native : Uncounted → Name
+abbrev pub name_of_native : HeapNative → Name
 name_of_native u = native u.number
 
 -- the name of a script object
@@ -33,7 +33,7 @@ abbrev pub name_of_script : HeapScript → Name
 name_of_script o = o.name
 
 -- whether a native is none of a list of names
-abbrev pub is_native_left : List Name → Uncounted → Bool
+abbrev pub is_native_left : List Name → HeapNative → Bool
 is_native_left xs u = is_not_among xs (name_of_native u)
 
 -- whether a script object is none of a list of names
@@ -82,7 +82,7 @@ once-alone x y = grind (arith, count_by-cons)
 
 -- A script object that is there is told and taken out.
 pub TakesOut-script : (h : Heap) (x : Name) → is_script x ≡ true → Among x (script_names h) →
-    TakesOut h (x ∷ []) (record { heap = without_script h x; events = Freed x ∷ [] })
+    TakesOut h (x ∷ []) (outcome_of (without_script h x) (Freed x ∷ []))
 TakesOut-script h x s m = record {
   names = record {
     told = refl;

@@ -14,7 +14,7 @@ use Rattle.cc_model.specs.Slots.{contents}
 use Rattle.cc_model.specs.Heap.{Heap, HeapNative, Buffered}
 use Rattle.cc_model.specs.WellFormed.{IsRising, IsWellFormed, native_names, script_names, names_there}
 use Rattle.cc_model.specs.Counts.{refs_to}
-use Rattle.cc_laws_heap.specs.Freeing.{Uncounted, uncounted}
+use Rattle.cc_laws_heap.specs.Freeing.{uncounted}
 use Rattle.cc_lists.proofs.Searching.{filter-map}
 use Rattle.cc_laws_heap.proofs.Rising.{IsRising-filter}
 use Rattle.cc_laws_heap.proofs.References.{refs_to-register, refs_to-slot, refs_to-reflector}
@@ -23,7 +23,7 @@ use Rattle.cc_laws_heap.specs.Balance.{has_place, places}
 -- `ns` are natives of `h`, those whose numbers pass a test, with other counts; with the buffer `bs` all that is
 -- referred to, and all that is buffered, is there
 pub record IsPart (h : Heap) (p : ℕ → Bool) (ns : List HeapNative) (bs : List Buffered) : Type 0 where
-  pub natives : map uncounted ns ≡ filter (λ (u : Uncounted). p u.number) (map uncounted h.natives)
+  pub natives : map uncounted ns ≡ filter (λ (u : HeapNative). p u.number) (map uncounted h.natives)
   pub referred : (k : ℕ) → 1 ≤ refs_to (record h { natives = ns; buffer = bs }) k → Among (native k) (native_names (record h { natives = ns; buffer = bs }))
   pub buffered : (k : ℕ) → 1 ≤ places k bs → Among (native k) (native_names (record h { natives = ns; buffer = bs }))
   pub buffered_once : (k : ℕ) → places k bs ≤ 1
@@ -32,18 +32,18 @@ module _ (h : Heap) (p : ℕ → Bool) (ns : List HeapNative) (bs : List Buffere
   -- a native of the part is one of the whole, but for its count
   whole : (n : HeapNative) → Among n ns → (m : HeapNative) × Among m h.natives × (uncounted m ≡ uncounted n)
   whole n there =
-      let u : Among (uncounted n) (filter (λ (u : Uncounted). p u.number) (map uncounted h.natives)) = subst (Among (uncounted n)) part.natives (Among-map uncounted n ns there) in
-      Among-map_cases uncounted h.natives (uncounted n) (Among-filtered (λ (u : Uncounted). p u.number) (uncounted n) (map uncounted h.natives) u)
+      let u : Among (uncounted n) (filter (λ (u : HeapNative). p u.number) (map uncounted h.natives)) = subst (Among (uncounted n)) part.natives (Among-map uncounted n ns there) in
+      Among-map_cases uncounted h.natives (uncounted n) (Among-filtered (λ (u : HeapNative). p u.number) (uncounted n) (map uncounted h.natives) u)
 
   -- what holds for each native of the whole, and is not of counts, holds for each of the part
-  each : (P : Uncounted → Type 0) → ((m : HeapNative) → Among m h.natives → P (uncounted m)) → (n : HeapNative) → Among n ns → P (uncounted n)
+  each : (P : HeapNative → Type 0) → ((m : HeapNative) → Among m h.natives → P (uncounted m)) → (n : HeapNative) → Among n ns → P (uncounted n)
   each P all n there = let m = whole n there in subst P m.2 (all m.0 m.1)
 
   -- numbers that rise, rise in the part
   part-rises : IsRising (map (λ (n : HeapNative). n.number) h.natives) → IsRising (map (λ (n : HeapNative). n.number) ns)
   part-rises r = subst IsRising (sym same) (IsRising-filter p (map (λ (n : HeapNative). n.number) h.natives) r)
     where
-      number : Uncounted → ℕ
+      number : HeapNative → ℕ
       number u = u.number
 
       same : map (λ (n : HeapNative). n.number) ns ≡ filter p (map (λ (n : HeapNative). n.number) h.natives)

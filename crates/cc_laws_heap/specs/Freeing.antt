@@ -3,21 +3,15 @@ use Rattle.std.specs.Prelude.{◌≡◌, ℕ, ◌≤◌, ◌==◌, Bool, not, Li
 use Rattle.cc_lists.specs.Members.{Among, has}
 use Rattle.cc_names.specs.Names.{native}
 use Rattle.cc_model.specs.declared.item.Event.TheVariants.{Freed}
-use Rattle.cc_model.specs.Slots.{Slots}
 use Rattle.cc_model.specs.Heap.{Heap, HeapNative, Outcome}
 use Rattle.cc_model.specs.WellFormed.{native_names}
 use Rattle.cc_model.specs.Counts.{times}
 
 -- a native without its count
-pub record Uncounted : Type 0 where
-  pub number : ℕ
-  pub slots : Slots
-  pub preserved : Bool
+abbrev pub uncounted : HeapNative → HeapNative
+uncounted n = record n { count = 0 }
 
-abbrev pub uncounted : HeapNative → Uncounted
-uncounted n = record { number = n.number; slots = n.slots; preserved = n.preserved }
-
-abbrev pub is_none_of : List ℕ → Uncounted → Bool
+abbrev pub is_none_of : List ℕ → HeapNative → Bool
 is_none_of ks n = not (has (λ i j. i == j) ks n.number)
 
 -- but for the natives and the buffer two heaps are the same

@@ -14,10 +14,10 @@ use Rattle.cc_model.specs.Graph.{Graph, changed, step}
 use Rattle.cc_model.specs.Heap.{objects_of}
 use Rattle.cc_model.specs.Effects.{effects, takes_memory}
 use Rattle.cc_model.specs.Listed.{listed}
-use Rattle.cc_model.specs.Lawful.{State, next, graph_after, is_refused, is_without_memory}
+use Rattle.cc_model.specs.Lawful.{State, next, graph_after, is_refused, is_without_memory, state_of}
 use Rattle.cc_model.specs.Collecting.{Machine, later_answers}
 use Rattle.cc_model.specs.Derivations.{leads_in, why_of}
-use Rattle.cc_model.specs.Run.{Turn, answering, with_effects, mutate, explain}
+use Rattle.cc_model.specs.Run.{Turn, answering, with_effects, mutate, explain, turn_of}
 
 -- Whatever holds where the command is refused, where it wants memory and where it is done, holds of the turn.
 pub mutate-cases : (m : Machine) (c : Command) (P : Turn → Type 0) →

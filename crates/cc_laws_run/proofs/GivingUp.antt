@@ -14,7 +14,7 @@ use Rattle.cc_model.specs.WellFormed.{native_names}
 use Rattle.cc_model.specs.Snapshot.{Snapshot}
 use Rattle.cc_model.specs.Units.{candidates_of, with_empty_buffer}
 use Rattle.cc_model.specs.End.{Progress, went_on, at_end, refused, UnitDone, give_back, heap_given_back, granted, unit}
-use Rattle.cc_model.specs.Collecting.{Machine, UnitsDone, next_answer, one_unit, units_done, enough_units, finish_running, slice, collect}
+use Rattle.cc_model.specs.Collecting.{Machine, UnitsDone, next_answer, one_unit, units_done, enough_units, finish_running, slice, collect, units_came}
 use Rattle.cc_laws_heap.proofs.Kept.{with_buffer}
 use Rattle.cc_laws_snapshot.proofs.GivingBack.{given_back, given_back-purple, give_back-buffer}
 use Rattle.cc_laws_run.specs.Doomed.{candidates_now}
@@ -104,7 +104,7 @@ module _ (m : Machine) (es : List Event) where
 
   -- any number of them
   abbrev none_yet : UnitsDone
-  none_yet = record { machine = m; events = es; progress = went_on }
+  none_yet = units_came m es went_on
 
   units-come : (n : ℕ) → Comes (units_done n none_yet)
   units-come n = units_done-keep Comes one_unit-comes n none_yet

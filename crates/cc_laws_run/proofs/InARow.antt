@@ -4,8 +4,8 @@ use Rattle.cc_model.specs.Answers.{Answer}
 use Rattle.cc_model.specs.Asks.{Ask}
 use Rattle.cc_model.specs.Heap.{Heap}
 use Rattle.cc_model.specs.Snapshot.{Snapshot}
-use Rattle.cc_model.specs.Collecting.{Machine}
-use Rattle.cc_model.specs.Run.{Turn, do_ask, turns, machine_after}
+use Rattle.cc_model.specs.Collecting.{Machine, machine_at}
+use Rattle.cc_model.specs.Run.{Turn, do_ask, turns, machine_after, turn_of}
 use Rattle.cc_laws_run.specs.Memory.{with_memory, noes, noes_told, all_noes_told, SameMachine, IsDoneFor, AreDoneFor}
 use Rattle.cc_laws_run.proofs.UnitsUse.{noes-append}
 use Rattle.cc_laws_run.proofs.AsksUse.{TurnUse, ask-use}
@@ -23,8 +23,8 @@ machine_after-append m (x ∷ xs) ys = machine_after-append (do_ask m x).machine
 -- machines that are the same are so with the same answers of memory to come
 with_memory-same : (m n : Machine) (memory : List Bool) → SameMachine m n → with_memory m memory ≡ with_memory n memory
 with_memory-same m n memory same =
-    ap (λ (h : Heap). record { heap = h; snapshot = m.snapshot; memory = memory }) same.heap
-    ∙ ap (λ (s : Option Snapshot). record { heap = n.heap; snapshot = s; memory = memory }) same.snapshot
+    ap (λ (h : Heap). machine_at h m.snapshot memory) same.heap
+    ∙ ap (λ (s : Option Snapshot). machine_at n.heap s memory) same.snapshot
 
 -- asks done for one list of memory's answers, which says no as often as is told
 pub record OneList (m n : Machine) (asks : List Ask) (answers : List Answer) : Type 0 where
@@ -52,10 +52,10 @@ one_list-cons m k n ask asks a answers d o = record {
     told : noes u.used ≡ noes_told ask a
     told = u.said_no ∙ ap (noes_told ask) d.answer
 
-    turn : do_ask (with_memory m (u.used ++ o.memory)) ask ≡ record { machine = with_memory k o.memory; answer = a }
+    turn : do_ask (with_memory m (u.used ++ o.memory)) ask ≡ turn_of (with_memory k o.memory) a
     turn = u.any o.memory
-        ∙ (ap (λ (next : Machine). record { machine = next; answer = t.answer }) (with_memory-same t.machine k o.memory d.after)
-        ∙ ap (λ (b : Answer). record { machine = with_memory k o.memory; answer = b }) d.answer)
+        ∙ (ap (λ (next : Machine). turn_of next t.answer) (with_memory-same t.machine k o.memory d.after)
+        ∙ ap (λ (b : Answer). turn_of (with_memory k o.memory) b) d.answer)
 
 -- ONE LIST SERVES for asks that are each done for some list.
 pub one_list : (m n : Machine) (asks : List Ask) (answers : List Answer) → AreDoneFor m asks answers n → OneList m n asks answers

@@ -12,7 +12,6 @@ use Rattle.cc_model.specs.Snapshot.{Snapshot, white_natives}
 use Rattle.cc_model.specs.Fresh.{IsFresh, IsTraversed}
 use Rattle.cc_model.specs.End.{take_away}
 use Rattle.cc_laws_heap.specs.Sound.{IsSound}
-use Rattle.cc_laws_heap.specs.Freeing.{Uncounted}
 use Rattle.cc_laws_heap.proofs.TakingAway.{take_away-sound, taken-emptied, others-kept, take_away-leaves}
 use Rattle.cc_laws_heap.proofs.ViewEdges.{native_edges-are}
 use Rattle.cc_laws_heap.proofs.Making.{contents-empty_none}
@@ -51,7 +50,7 @@ module _ (h : Heap) (ks : List ℕ) (s : IsSound [] h) (there : (k : ℕ) → Am
         let number : f.0.number ≡ i = ap number_of f.2 in
         let apart : ¬ (Among f.0.number ks) = λ j. emptied-none f.0 (native i) y (taken-emptied h ks s there f.0 f.1 j) f.3 in
         let p = others-kept h ks s there f.0 f.1 apart in
-        let before : p.0.number ≡ f.0.number = ap (λ (u : Uncounted). u.number) p.2 in
+        let before : p.0.number ≡ f.0.number = ap (λ (u : HeapNative). u.number) p.2 in
         let reached : ReachedIn (view h) (native p.0.number) = ⊎_elim (λ r. r)
         (λ d. absurd (apart (subst (λ j. Among j ks) before (all p.0 p.1 d)))) (reached_cases (view h) (native p.0.number)) in
         reached-kept h end end-sound.well_formed take_away-keeps (native i) (subst (λ j. ReachedIn (view h) (native j)) (before ∙ number) reached)

@@ -5,7 +5,6 @@ use Rattle.cc_names.specs.declared.name.Name.{Name}
 use Rattle.cc_names.specs.Names.{native}
 use Rattle.cc_model.specs.Heap.{Heap, HeapNative}
 use Rattle.cc_model.specs.View.{View, view}
-use Rattle.cc_laws_heap.specs.Freeing.{Uncounted}
 use Rattle.cc_laws_heap.proofs.Leaving.{IsOf}
 use Rattle.cc_laws_run.proofs.TouchedViews.{Spares, Spares-entries}
 use Rattle.cc_laws_run.proofs.TouchedReads.{IsApart}
@@ -57,7 +56,7 @@ module _ (ds : List Name) (g : Heap) where
     scripts_made = omega (arith, l.scripts_made, b);
     members = λ n there m.
         let i = of n there m in
-        let j = l.members i.0 i.1 (subst (λ c. Among (native c) ds) (sym (ap (λ (u : Uncounted). u.number) i.2)) m) in
+        let j = l.members i.0 i.1 (subst (λ c. Among (native c) ds) (sym (ap (λ (u : HeapNative). u.number) i.2)) m) in
         (j.0, j.1, j.2 ∙ i.2);
   }
 

@@ -7,7 +7,7 @@ use Rattle.cc_model.specs.Heap.{Heap}
 use Rattle.cc_model.specs.Sweep.{collect_scripts}
 use Rattle.cc_model.specs.Snapshot.{Snapshot}
 use Rattle.cc_model.specs.End.{Progress, went_on, at_end, refused, UnitDone, unit, may_be_refused, abandoned, granted}
-use Rattle.cc_model.specs.Collecting.{Machine, next_answer, later_answers, UnitsDone, no_units, one_unit, units_done, enough_units, to_the_end, finish_running, slice, unless_stopped, collect, then_scripts, gc}
+use Rattle.cc_model.specs.Collecting.{Machine, next_answer, later_answers, UnitsDone, no_units, one_unit, units_done, enough_units, to_the_end, finish_running, slice, unless_stopped, collect, then_scripts, gc, units_came}
 use Rattle.cc_laws_run.specs.Memory.{with_memory, noes}
 use Rattle.cc_laws_run.proofs.Unabandoned.{abandonments, TellsNone, abandonments-append, take_away-none, collect_scripts-none}
 
@@ -82,16 +82,12 @@ unit_by-refusals h s answer = grind (arith, granted-refusals)
 
 -- A unit uses one answer of memory where it may be refused, and none elsewhere.
 unit-use : (m : Machine) (es : List Event) →
-    UnitsUse (λ memory. one_unit (with_memory m memory) es) (record { machine = m; events = es; progress = went_on }) (one_unit m es)
+    UnitsUse (λ memory. one_unit (with_memory m memory) es) (units_came m es went_on) (one_unit m es)
 unfolding unit
 unit-use m es = go (may_be_refused m.heap m.snapshot)
   where
     done : UnitDone → List Bool → UnitsDone
-    done u memory = record {
-      machine = record { heap = u.heap; snapshot = u.snapshot; memory = memory };
-      events = es ++ u.events;
-      progress = u.progress;
-    }
+    done u memory = units_came (record m { heap = u.heap; snapshot = u.snapshot; memory = memory }) (es ++ u.events) u.progress
 
     done_by : Bool → List Bool → UnitsDone
     done_by b memory = done (unit_by m.heap m.snapshot (b && not (next_answer memory))) (elim b [ true ↦ later_answers memory | false ↦ memory ])
@@ -99,7 +95,7 @@ unit-use m es = go (may_be_refused m.heap m.snapshot)
     told : (b : Bool) → abandonments (es ++ (unit_by m.heap m.snapshot b).events) + 0 ≡ abandonments es + refusals (unit_by m.heap m.snapshot b).progress
     told b = omega (arith, abandonments-append es (unit_by m.heap m.snapshot b).events, unit_by-told m.heap m.snapshot b)
 
-    go : (b : Bool) → UnitsUse (done_by b) (record { machine = m; events = es; progress = went_on }) (done_by b m.memory)
+    go : (b : Bool) → UnitsUse (done_by b) (units_came m es went_on) (done_by b m.memory)
     go true = record {
       used = next_answer m.memory ∷ [];
       any = λ more. refl;
@@ -123,14 +119,14 @@ unit-use m es = go (may_be_refused m.heap m.snapshot)
 
 -- units in a row, what was done before them by its parts
 units_from-use : (n : ℕ) (m : Machine) (es : List Event) (p : Progress) →
-    UnitsUse (λ memory. units_done n (record { machine = with_memory m memory; events = es; progress = p }))
-    (record { machine = m; events = es; progress = p }) (units_done n (record { machine = m; events = es; progress = p }))
+    UnitsUse (λ memory. units_done n (units_came (with_memory m memory) es p))
+    (units_came m es p) (units_done n (units_came m es p))
 unfolding units_done
 units_from-use (suc n) m es went_on =
     let d = one_unit m es in
-    uses-then (λ memory. one_unit (with_memory m memory) es) (units_done n) (record { machine = m; events = es; progress = went_on })
+    uses-then (λ memory. one_unit (with_memory m memory) es) (units_done n) (units_came m es went_on)
     d (units_done n d) (unit-use m es) (units_from-use n d.machine d.events d.progress)
-units_from-use _ m es x = uses-nothing (record { machine = m; events = es; progress = x })
+units_from-use _ m es x = uses-nothing (units_came m es x)
 
 -- UNITS USE A FRONT OF MEMORY'S ANSWERS.
 pub units-use : (n : ℕ) (d : UnitsDone) → UnitsUse (λ memory. units_done n (done_with d memory)) d (units_done n d)
@@ -156,12 +152,12 @@ finish_running-use m = go (is_some m.snapshot)
 
 -- those of a collection that begins after it, where that was not refused
 unless_stopped-use : (m : Machine) (es : List Event) (p : Progress) →
-    UnitsUse (λ memory. unless_stopped (record { machine = with_memory m memory; events = es; progress = p }))
-    (record { machine = m; events = es; progress = p }) (unless_stopped (record { machine = m; events = es; progress = p }))
-unless_stopped-use m es refused = uses-nothing (record { machine = m; events = es; progress = refused })
-unless_stopped-use m es went_on = to_the_end-use (record { machine = m; events = es; progress = went_on })
+    UnitsUse (λ memory. unless_stopped (units_came (with_memory m memory) es p))
+    (units_came m es p) (unless_stopped (units_came m es p))
+unless_stopped-use m es refused = uses-nothing (units_came m es refused)
+unless_stopped-use m es went_on = to_the_end-use (units_came m es went_on)
 unless_stopped-use m es at_end =
-    let u = to_the_end-use (record { machine = m; events = es; progress = went_on }) in
+    let u = to_the_end-use (units_came m es went_on) in
     record { used = u.used; any = u.any; said_no = u.said_no; told = u.told; ample = u.ample }
 
 -- those of a whole collection

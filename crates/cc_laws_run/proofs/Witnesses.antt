@@ -10,7 +10,7 @@ use Rattle.cc_names.specs.Names.{native, object, reflector, same_name}
 use Rattle.cc_names.proofs.NameTests.{same_name-exact}
 use Rattle.cc_model.specs.Asks.{asks_of}
 use Rattle.cc_model.specs.View.{View, ReachedIn, view, view_rules}
-use Rattle.cc_model.specs.Snapshot.{Snapshot, untraversed, traversed, IsWhite}
+use Rattle.cc_model.specs.Snapshot.{Snapshot, untraversed, traversed, IsWhite, snapshot_by}
 use Rattle.cc_model.specs.Units.{is_untraversed}
 use Rattle.cc_model.specs.Fresh.{node, IsLiving, IsTraversed, IsFresh}
 use Rattle.cc_model.specs.Suspected.{IsCovered, unreached_scripts}
@@ -57,12 +57,11 @@ abbrev pub half_collected : Machine
 half_collected = left_by half_collected_script
 
 abbrev pub half_collected_snapshot : Snapshot
-half_collected_snapshot = record {
-  candidates = 1 ∷ [];
-  nodes = node (native 1) (traversed (Some 1)) ∷ node (reflector 1) (traversed None) ∷ node (object 2) (traversed None) ∷ node (object 3) (traversed None) ∷ [];
-  references = (native 1, reflector 1) ∷ (reflector 1, native 1) ∷ (object 2, reflector 1) ∷ (object 3, reflector 1) ∷ [];
-  mappings = record { the_map = None; key = Some (reflector 1); value = object 2 } ∷ record { the_map = None; key = Some (object 2); value = object 3 } ∷ [];
-}
+half_collected_snapshot = snapshot_by
+    (1 ∷ [])
+    (node (native 1) (traversed (Some 1)) ∷ node (reflector 1) (traversed None) ∷ node (object 2) (traversed None) ∷ node (object 3) (traversed None) ∷ [])
+    ((native 1, reflector 1) ∷ (reflector 1, native 1) ∷ (object 2, reflector 1) ∷ (object 3, reflector 1) ∷ [])
+    (record { the_map = None; key = Some (reflector 1); value = object 2 } ∷ record { the_map = None; key = Some (object 2); value = object 3 } ∷ [])
 
 -- A script leaves it.
 pub half_collected-left : IsLeftByAScript half_collected

@@ -5,7 +5,7 @@ use Rattle.cc_lists.specs.Members.{Among}
 use Rattle.cc_lists.proofs.Members.{Among-map, Among-map_cases, Among-filter, Among-filtered, Among-passes}
 use Rattle.cc_names.specs.declared.name.Name.{Name}
 use Rattle.cc_names.specs.Names.{native, number_of}
-use Rattle.cc_model.specs.Heap.{Heap, Buffered, with_mark, suspect, forget}
+use Rattle.cc_model.specs.Heap.{Heap, Buffered, with_mark, suspect, forget, buffered_as}
 use Rattle.cc_model.specs.View.{view, buffered}
 use Rattle.cc_lists.proofs.Numbers.{at-each}
 use Rattle.cc_laws_snapshot.proofs.Marked.{purple-name, purple-place, with_mark-place}
@@ -31,7 +31,7 @@ buffer-from h b x m e = subst (λ z. Among z (view h).buffer) e (Among-map buffe
 
 -- who is suspected is purple
 pub suspect-purple : (h : Heap) (k : ℕ) → IsPurple (suspect h k) k
-suspect-purple h k = purple-from (suspect h k) (record { number = k; purple = true }) (with_mark-place true k h.buffer) refl
+suspect-purple h k = purple-from (suspect h k) (buffered_as k true) (with_mark-place true k h.buffer) refl
 
 -- who is purple stays so where another is marked
 pub marked-keeps_purple : (h : Heap) (m : Bool) (k i : ℕ) → ¬ (i ≡ k) → IsPurple h i → IsPurple (record h { buffer = with_mark m k h.buffer }) i

@@ -7,7 +7,7 @@ use Rattle.cc_lists.proofs.Members.{Among-map, Among-map_cases, Among-left, Amon
 use Rattle.cc_lists.proofs.Least.{derive-root, derive-along, derived-within}
 use Rattle.cc_names.specs.declared.name.Name.{Name}
 use Rattle.cc_names.specs.Names.{native}
-use Rattle.cc_model.specs.Heap.{Heap, HeapNative, Buffered, native_at, with_mark}
+use Rattle.cc_model.specs.Heap.{Heap, HeapNative, Buffered, native_at, with_mark, buffered_as}
 use Rattle.cc_model.specs.View.{View, view, buffered}
 use Rattle.cc_model.specs.Units.{candidates_of, with_empty_buffer}
 use Rattle.cc_model.specs.End.{give_back}
@@ -111,7 +111,7 @@ IsNameIn bs x = Among x (map buffered bs)
 -- a native that is suspected is purple
 suspected-purple : (k : ℕ) (bs : List Buffered) → IsPurpleName (with_mark true k bs) (native k)
 suspected-purple k bs =
-    purple-name (with_mark true k bs) (record { number = k; purple = true }) (with_mark-place true k bs) refl
+    purple-name (with_mark true k bs) (buffered_as k true) (with_mark-place true k bs) refl
 
 -- a purple name stays purple, or it is that of the native that is marked
 pub purple-stays : (m : Bool) (k : ℕ) (bs : List Buffered) (x : Name) → IsPurpleName bs x → (x ≡ native k) ⊎ IsPurpleName (with_mark m k bs) x

@@ -13,17 +13,16 @@ use Rattle.cc_names.specs.declared.register.Reg.TheVariants.{N}
 use Rattle.cc_names.specs.Names.{native, reflector}
 use Rattle.cc_model.specs.Slots.{contents}
 use Rattle.cc_model.specs.Entries.{rules_of}
-use Rattle.cc_model.specs.Heap.{Heap, HeapNative, native_at, register, set_register, change_native, with_native_slot, with_mark, touch}
+use Rattle.cc_model.specs.Heap.{Heap, HeapNative, native_at, register, set_register, change_native, with_native_slot, with_mark, touch, native_to_make}
 use Rattle.cc_model.specs.View.{view, buffered, ReachedIn}
 use Rattle.cc_model.specs.Cascade.{add_ref, take_up}
 use Rattle.cc_model.specs.Effects.{with_native}
 use Rattle.cc_model.specs.WellFormed.{native_names, script_names}
-use Rattle.cc_laws_heap.specs.Freeing.{Uncounted, uncounted}
+use Rattle.cc_laws_heap.specs.Freeing.{uncounted}
 use Rattle.cc_laws_heap.proofs.Natives.{native_names-change, native_at-number}
 use Rattle.cc_laws_heap.specs.Balance.{HasDistinctNumbers}
 use Rattle.cc_laws_heap.proofs.HoldsTheSame.{HoldsTheSame-add_ref}
 use Rattle.cc_laws_heap.specs.Sound.{numbers_of}
-use Rattle.cc_laws_heap.proofs.Making.{new_native}
 use Rattle.cc_laws_snapshot.proofs.BufferMarks.{IsPurple, marked-keeps_purple, marked-buffer}
 use Rattle.cc_laws_snapshot.proofs.SlotsWritten.{contents-written_there, contents-written_kept, numbers_of-there, slot_written-there, slot_written-kept}
 use Rattle.cc_laws_snapshot.proofs.Handing.{register-reached, Hands, edge-from_slot}
@@ -74,7 +73,7 @@ TakesUp-add_ref h k = record {
   slots = λ n i m c.
       let f = Among-map_cases uncounted (add_ref h k).natives (uncounted n)
       (subst (λ us. Among (uncounted n) us) (sym (HoldsTheSame-add_ref h k).natives) (Among-map uncounted n h.natives m)) in
-      inl (f.0, f.1, ap (λ (u : Uncounted). u.number) f.2, subst (λ s. Among (native i) (contents s)) (sym (ap (λ (u : Uncounted). u.slots) f.2)) c);
+      inl (f.0, f.1, ap (λ (u : HeapNative). u.number) f.2, subst (λ s. Among (native i) (contents s)) (sym (ap (λ (u : HeapNative). u.slots) f.2)) c);
   reflectors = λ i m. m;
   registers = refl;
   purple = touched-purple h k;
@@ -89,7 +88,7 @@ TakesUp-take_up h x = TakesUp-nothing h x
 -- a native made
 pub TakesUp-with_native : (h : Heap) (n : ℕ) → TakesUp h (with_native h n) (Some (native (h.natives_made + 1)))
 TakesUp-with_native h n = record {
-  slots = λ m j i c. inl (m, Among-left m h.natives (new_native h n ∷ []) i, refl, c);
+  slots = λ m j i c. inl (m, Among-left m h.natives (native_to_make h n ∷ []) i, refl, c);
   reflectors = λ i m. m;
   registers = refl;
   purple = touched-purple h (h.natives_made + 1);
@@ -100,7 +99,7 @@ TakesUp-with_native h n = record {
 pub made-living : (h : Heap) (n i : ℕ) → Among (native i) (native_names (with_native h n)) →
     Among (native i) (native_names h) ⊎ Among (native i) (native (h.natives_made + 1) ∷ [])
 made-living h n i m = Among-append (native i) (native_names h) (native (h.natives_made + 1) ∷ [])
-    (subst (λ xs. Among (native i) xs) (map_push (λ (o : HeapNative). native o.number) h.natives (new_native h n)) m)
+    (subst (λ xs. Among (native i) xs) (map_push (λ (o : HeapNative). native o.number) h.natives (native_to_make h n)) m)
 
 -- A native register written
 

@@ -10,7 +10,7 @@ use Rattle.cc_names.specs.declared.kind.Kind.TheVariants.{Reflector}
 use Rattle.cc_names.specs.Names.{native, object, reflector, same_name, is_script}
 use Rattle.cc_names.specs.Sizes.{bank_length, most_slots}
 use Rattle.cc_model.specs.Slots.{reflector_slots}
-use Rattle.cc_model.specs.Heap.{Heap, HeapScript, has_reflector, change_script, with_script_slot, set_preserved}
+use Rattle.cc_model.specs.Heap.{Heap, HeapScript, has_reflector, change_script, with_script_slot, set_preserved, new_script}
 use Rattle.cc_model.specs.View.{view, ReachedIn}
 use Rattle.cc_model.specs.Cascade.{add_ref}
 use Rattle.cc_model.specs.Exposure.{exposed}
@@ -20,7 +20,6 @@ use Rattle.cc_laws_heap.specs.Sound.{IsSound}
 use Rattle.cc_laws_heap.proofs.NativeCommands.{make_native-sound}
 use Rattle.cc_laws_heap.proofs.HoldsTheSame.{HoldsTheSame-add_ref, native_names-alike}
 use Rattle.cc_lists.proofs.ListWrites.{changed_where, changed_where-either, map-kept}
-use Rattle.cc_laws_heap.proofs.ScriptCommands.{blank}
 use Rattle.cc_laws_snapshot.specs.KindsSuspected.{IsSuspectedIn, IsReachedNative}
 use Rattle.cc_laws_snapshot.proofs.LoyalSuspected.{loyal-suspected}
 use Rattle.cc_laws_snapshot.proofs.Handing.{hands-loyal}
@@ -65,7 +64,7 @@ HasScriptNames-map h f e all x m = all x (subst (Among x) (map-kept (λ (o : Hea
 pub object_made-suspected : (h : Heap) (candidates : List ℕ) (d : ℕ) (kind : Kind) (n : ℕ) (its_delegate : Option Name) → IsWellFormed h →
     IsSuspectedIn h candidates → IsSuspectedIn (make_object h d kind n its_delegate) candidates
 object_made-suspected h candidates d kind n its_delegate w = still-suspected h (make_object h d kind n its_delegate) candidates w
-    (HasScriptNames-push h (make_object h d kind n its_delegate) (blank (object (h.scripts_made + 1)) kind n its_delegate) refl refl (HasScriptNames-well_formed h w))
+    (HasScriptNames-push h (make_object h d kind n its_delegate) (new_script (object (h.scripts_made + 1)) kind n its_delegate) refl refl (HasScriptNames-well_formed h w))
     (Still-make_object h d kind n its_delegate)
 
 -- A native gets a reference that is reached.
@@ -79,9 +78,9 @@ reference_added-suspected h candidates k w r = taken-suspected h (add_ref h k) (
 pub reflector_made-suspected : (h : Heap) (candidates : List ℕ) (k : ℕ) → IsWellFormed h → ReachedIn (view (with_reflector h k)) (native k) →
     IsSuspectedIn h candidates → IsSuspectedIn (with_reflector h k) candidates
 reflector_made-suspected h candidates k w r = taken-suspected h (add_ref h k) (with_reflector h k) candidates (Some (native k)) w
-    (HasScriptNames-push h (with_reflector h k) (blank (reflector k) Reflector reflector_slots None) refl refl (HasScriptNames-well_formed h w))
+    (HasScriptNames-push h (with_reflector h k) (new_script (reflector k) Reflector reflector_slots None) refl refl (HasScriptNames-well_formed h w))
     (TakesUp-add_ref h k) (native_names-alike h (add_ref h k) (HoldsTheSame-add_ref h k))
-    (Still-script_last (add_ref h k) (blank (reflector k) Reflector reflector_slots None) h.scripts_made)
+    (Still-script_last (add_ref h k) (new_script (reflector k) Reflector reflector_slots None) h.scripts_made)
     (λ j m. ⊎_elim (λ e. subst (ReachedIn (view (with_reflector h k))) e r) (λ b. absurd b) m)
 
 -- an exposure keeps names

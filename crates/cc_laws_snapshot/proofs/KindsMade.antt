@@ -10,7 +10,7 @@ use Rattle.cc_names.specs.declared.kind.Colour.TheVariants.{White, Gray, Black}
 use Rattle.cc_names.specs.Names.{native, object, reflector}
 use Rattle.cc_names.specs.Sizes.{bank_length, most_slots}
 use Rattle.cc_model.specs.Slots.{empty_slots, reflector_slots}
-use Rattle.cc_model.specs.Heap.{Heap, is_gray_colour, has_reflector}
+use Rattle.cc_model.specs.Heap.{Heap, is_gray_colour, has_reflector, new_script}
 use Rattle.cc_model.specs.View.{view}
 use Rattle.cc_model.specs.Effects.{make_native, make_object, with_reflector, wrapped}
 use Rattle.cc_model.specs.Exposure.{exposed}
@@ -20,7 +20,7 @@ use Rattle.cc_laws_heap.specs.Sound.{IsSound}
 use Rattle.cc_laws_heap.proofs.CommandsColours.{blank-holds, make_object-coloured}
 use Rattle.cc_laws_heap.proofs.Owning.{IsIn}
 use Rattle.cc_laws_heap.proofs.ScriptsKept.{exposed-sound}
-use Rattle.cc_laws_heap.proofs.ScriptCommands.{blank, make_object-sound, with_reflector-sound}
+use Rattle.cc_laws_heap.proofs.ScriptCommands.{make_object-sound, with_reflector-sound}
 use Rattle.cc_laws_heap.proofs.NativeCommands.{make_native-sound}
 use Rattle.cc_laws_heap.proofs.NativesKeepScripts.{SameScripts-coloured, make_native-scripts}
 use Rattle.cc_laws_heap.proofs.Coloured.{IsColoured, is_gray, names_with-there}
@@ -68,7 +68,7 @@ pub reflector_made-fresh : (owned : List ℕ) (h : Heap) (s : Snapshot) (k : ℕ
 reflector_made-fresh owned h s k sound there none =
     fresh-coloured h (with_reflector h k) sound.well_formed (with_reflector-sound owned h k there none sound).well_formed
     (with_reflector-gentle owned h k there sound)
-    (λ c. AreColoured-push h.scripts h.script_registers (blank (reflector k) Reflector reflector_slots None) refl
+    (λ c. AreColoured-push h.scripts h.script_registers (new_script (reflector k) Reflector reflector_slots None) refl
     (λ o m i. absurd (no_delegate (blank-holds (reflector k) Reflector reflector_slots None o.name i))) c) s
   where
     no_delegate : {x : Name} → None ≡ Some x → ⊥

@@ -6,7 +6,7 @@ use Rattle.cc_lists.specs.Members.{Among}
 use Rattle.cc_lists.proofs.Members.{Among-map, Among-map_cases, Among-filter, Among-filtered, Among-passes}
 use Rattle.cc_names.specs.declared.name.Name.{Name}
 use Rattle.cc_names.specs.Names.{native}
-use Rattle.cc_model.specs.Heap.{Buffered, with_mark}
+use Rattle.cc_model.specs.Heap.{Buffered, with_mark, buffered_as}
 use Rattle.cc_model.specs.View.{buffered}
 
 -- the names in a buffer
@@ -28,18 +28,18 @@ purple-place bs x m =
     (f.0, Among-filtered (λ (b : Buffered). b.purple) f.0 bs f.1, Among-passes (λ (b : Buffered). b.purple) f.0 bs f.1, f.2)
 
 -- a mark set has a place
-pub with_mark-place : (m : Bool) (k : ℕ) (bs : List Buffered) → Among (record { number = k; purple = m }) (with_mark m k bs)
+pub with_mark-place : (m : Bool) (k : ℕ) (bs : List Buffered) → Among (buffered_as k m) (with_mark m k bs)
 with_mark-place m k [] = inl refl
 with_mark-place m k (b ∷ bs) = go (with_mark-place m k bs) (b.number == k) refl
   where
-    go : Among (record { number = k; purple = m }) (with_mark m k bs) → (t : Bool) → (b.number == k) ≡ t →
-        Among (record { number = k; purple = m }) (elim t [ true ↦ record b { purple = m } ∷ bs | false ↦ b ∷ with_mark m k bs ])
-    go ih true e = inl (ap (λ (n : ℕ). record { number = n; purple = m }) (eqb-true b.number k e))
+    go : Among (buffered_as k m) (with_mark m k bs) → (t : Bool) → (b.number == k) ≡ t →
+        Among (buffered_as k m) (elim t [ true ↦ record b { purple = m } ∷ bs | false ↦ b ∷ with_mark m k bs ])
+    go ih true e = inl (ap (λ (n : ℕ). buffered_as n m) (eqb-true b.number k e))
     go ih false e = inr ih
 
 -- so the native that was marked is there
 pub with_mark-there : (m : Bool) (k : ℕ) (bs : List Buffered) → Among (native k) (names_in (with_mark m k bs))
-with_mark-there m k bs = Among-map buffered (record { number = k; purple = m }) (with_mark m k bs) (with_mark-place m k bs)
+with_mark-there m k bs = Among-map buffered (buffered_as k m) (with_mark m k bs) (with_mark-place m k bs)
 
 -- a place of the buffer stays, or it is that of the native that is marked
 pub with_mark-stays : (m : Bool) (k : ℕ) (bs : List Buffered) (b : Buffered) → Among b bs → (b.number ≡ k) ⊎ Among b (with_mark m k bs)

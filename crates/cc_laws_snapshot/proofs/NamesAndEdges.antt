@@ -10,7 +10,7 @@ use Rattle.cc_model.specs.Heap.{Heap, HeapNative}
 use Rattle.cc_model.specs.View.{view, counted, native_edges, script_edges}
 use Rattle.cc_model.specs.WellFormed.{native_names}
 use Rattle.cc_model.specs.Fresh.{IsLiving}
-use Rattle.cc_laws_heap.specs.Freeing.{Uncounted, uncounted}
+use Rattle.cc_laws_heap.specs.Freeing.{uncounted}
 use Rattle.cc_laws_heap.proofs.HoldsTheSame.{HoldsTheSame}
 use Rattle.cc_laws_snapshot.proofs.SoundView.{living-native}
 
@@ -32,13 +32,9 @@ living-of_named h x m =
 pub living-same : (h g : Heap) → native_names g ≡ native_names h → (x : Name) → IsLiving (view g) x → IsLiving (view h) x
 living-same h g e x l = living-of_named h x (subst (λ xs. Among x xs) e (named-of_living g x l))
 
--- the edges of a native, without its count
-abbrev uncounted_edges : Uncounted → List (Name × Name)
-uncounted_edges u = native_edges (record { number = u.number; slots = u.slots; preserved = u.preserved; count = 0 })
-
 -- heaps that differ in counts and the buffer alone have the same edges
 pub edges-alike : (h g : Heap) → HoldsTheSame h g → (view g).edges ≡ (view h).edges
 edges-alike h g a =
     let natives : flat_map native_edges g.natives ≡ flat_map native_edges h.natives =
-    sym (flat_map-map uncounted_edges uncounted g.natives) ∙ (ap (flat_map uncounted_edges) a.natives ∙ flat_map-map uncounted_edges uncounted h.natives) in
+    sym (flat_map-map native_edges uncounted g.natives) ∙ (ap (flat_map native_edges) a.natives ∙ flat_map-map native_edges uncounted h.natives) in
     ap (λ es. es ++ flat_map script_edges g.scripts) natives ∙ ap (λ os. flat_map native_edges h.natives ++ flat_map script_edges os) a.beside.scripts

@@ -16,7 +16,7 @@ use Rattle.cc_names.specs.Names.{native, reflector, same_name}
 use Rattle.cc_names.proofs.NameTests.{same_name-true}
 use Rattle.cc_model.proofs.Places.{native_edges-split, native_edges-count}
 use Rattle.cc_model.specs.Slots.{contents, from_to}
-use Rattle.cc_model.specs.Heap.{Heap, HeapNative, native_at, set_register, change_native, with_native_slot, set_preserved, preserve, with_mark}
+use Rattle.cc_model.specs.Heap.{Heap, HeapNative, native_at, set_register, change_native, with_native_slot, set_preserved, preserve, with_mark, native_to_make}
 use Rattle.cc_model.specs.Cascade.{add_ref, take_up}
 use Rattle.cc_model.specs.Effects.{with_native}
 use Rattle.cc_model.specs.View.{view, between, slot_edges, native_edges}
@@ -25,7 +25,7 @@ use Rattle.cc_laws_heap.proofs.Natives.{native_at-member, IsWellFormed-distinct}
 use Rattle.cc_laws_heap.specs.Balance.{has_number}
 use Rattle.cc_laws_heap.proofs.HoldsTheSame.{raise_native}
 use Rattle.cc_lists.proofs.ListWrites.{count_by-flat_map_set, Among-flat_map_set, each-push}
-use Rattle.cc_laws_heap.proofs.Making.{contents-empty_none, new_native}
+use Rattle.cc_laws_heap.proofs.Making.{contents-empty_none}
 use Rattle.cc_lists.proofs.CountsOf.{false-left, count_by-none}
 use Rattle.cc_laws_snapshot.proofs.Marked.{names_in, with_mark-there, with_mark-keeps}
 use Rattle.cc_laws_snapshot.proofs.GentleBut.{AreGentleBut, AreGentle, IsGentleBut-registers, AreGentle-refl}
@@ -180,25 +180,25 @@ preserve-gentle h _ pale = AreGentle-refl h
 
 module _ (h : Heap) (n : ℕ) where
   -- a native that was made holds nothing
-  new-holds_none : (e : Name × Name) → ¬ (Among e (native_edges (new_native h n)))
+  new-holds_none : (e : Name × Name) → ¬ (Among e (native_edges (native_to_make h n)))
   new-holds_none e m = ⊎_elim
-      (λ l. let f = Among-map_cases (from_to (native (h.natives_made + 1))) (contents (new_native h n).slots) e l in contents-empty_none n f.0 f.1)
+      (λ l. let f = Among-map_cases (from_to (native (h.natives_made + 1))) (contents (native_to_make h n).slots) e l in contents-empty_none n f.0 f.1)
       (λ r. r)
-      (Among-append e (slot_edges (native (h.natives_made + 1)) (new_native h n).slots) [] (subst (Among e) (native_edges-split (new_native h n)) m))
+      (Among-append e (slot_edges (native (h.natives_made + 1)) (native_to_make h n).slots) [] (subst (Among e) (native_edges-split (native_to_make h n)) m))
 
   -- A native made is gentle: it is in the buffer.
   pub with_native-gentle : AreGentle h (with_native h n)
-  with_native-gentle = AreGentleBut-natives [] h (h.natives ++ new_native h n ∷ []) (with_mark false made h.buffer) made (record {
+  with_native-gentle = AreGentleBut-natives [] h (h.natives ++ native_to_make h n ∷ []) (with_mark false made h.buffer) made (record {
     more = omega arith;
-    outside = each-push (λ m. IsOut [] (with_mark false made h.buffer) m.number → _) h.natives (new_native h n)
+    outside = each-push (λ m. IsOut [] (with_mark false made h.buffer) m.number → _) h.natives (native_to_make h n)
         (λ m i o. (m, i, refl, λ b. o.0 (with_mark-keeps false made h.buffer (native m.number) b)))
         (λ o. absurd (o.0 (with_mark-there false made h.buffer)));
     as_often = λ m w i o. none_more (between w (native m.number));
     gray_edge = λ e i g.
-        let f = Among-flat_map_cases native_edges (h.natives ++ new_native h n ∷ []) e i in
-        each-push (λ m. Among e (native_edges m) → Among e (flat_map native_edges h.natives)) h.natives (new_native h n)
+        let f = Among-flat_map_cases native_edges (h.natives ++ native_to_make h n ∷ []) e i in
+        each-push (λ m. Among e (native_edges m) → Among e (flat_map native_edges h.natives)) h.natives (native_to_make h n)
         (λ m j t. Among-flat_map native_edges m e h.natives j t) (λ t. absurd (new-holds_none e t)) f.0 f.1 f.2;
-    lives = each-push (λ m. Among (native m.number) (native_names h) ⊎ (h.natives_made < m.number)) h.natives (new_native h n)
+    lives = each-push (λ m. Among (native m.number) (native_names h) ⊎ (h.natives_made < m.number)) h.natives (native_to_make h n)
         (λ m i. inl (Among-map (λ (o : HeapNative). native o.number) m h.natives i)) (inr (omega arith));
   })
     where
@@ -206,10 +206,10 @@ module _ (h : Heap) (n : ℕ) where
       made = h.natives_made + 1
 
       none_more : (p : Name × Name → Bool) →
-          count_by p (flat_map native_edges (h.natives ++ new_native h n ∷ [])) ≡ count_by p (flat_map native_edges h.natives)
+          count_by p (flat_map native_edges (h.natives ++ native_to_make h n ∷ [])) ≡ count_by p (flat_map native_edges h.natives)
       none_more p =
-          let rest : List (Name × Name) = flat_map native_edges (new_native h n ∷ []) in
+          let rest : List (Name × Name) = flat_map native_edges (native_to_make h n ∷ []) in
           let none : count_by p rest ≡ 0 = count_by-none p rest
-          (λ e m. let f = Among-flat_map_cases native_edges (new_native h n ∷ []) e m in
+          (λ e m. let f = Among-flat_map_cases native_edges (native_to_make h n ∷ []) e m in
           absurd (⊎_elim (λ s. new-holds_none e (subst (λ (o : HeapNative). Among e (native_edges o)) (sym s) f.2)) (λ t. t) f.1)) in
-          omega (arith, ap (count_by p) (flat_map-append native_edges h.natives (new_native h n ∷ [])), count_by-append p (flat_map native_edges h.natives) rest)
+          omega (arith, ap (count_by p) (flat_map-append native_edges h.natives (native_to_make h n ∷ [])), count_by-append p (flat_map native_edges h.natives) rest)

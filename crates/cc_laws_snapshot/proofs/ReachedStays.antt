@@ -16,7 +16,7 @@ use Rattle.cc_model.specs.View.{view, native_edges, script_edges, ReachedIn}
 use Rattle.cc_model.specs.Cascade.{cascade, take_up}
 use Rattle.cc_model.specs.WellFormed.{IsWellFormed, native_names, script_names, names_there}
 use Rattle.cc_laws_heap.specs.Sound.{IsSound}
-use Rattle.cc_laws_heap.specs.Freeing.{Uncounted, uncounted, SameBeside}
+use Rattle.cc_laws_heap.specs.Freeing.{uncounted, SameBeside}
 use Rattle.cc_laws_heap.proofs.HoldsTheSame.{HoldsTheSame-take_up}
 use Rattle.cc_laws_heap.proofs.Natives.{named-member}
 use Rattle.cc_laws_heap.proofs.Cascades.{cascade-sound, cascade-frees}
@@ -30,13 +30,9 @@ use Rattle.cc_laws_snapshot.proofs.SoundView.{one-native, edge-target, joint-the
 
 -- Edges
 
--- the edges of a native, without its count
-abbrev edges_of_uncounted : Uncounted → List (Name × Name)
-edges_of_uncounted u = native_edges (record { number = u.number; slots = u.slots; preserved = u.preserved; count = 0 })
-
 -- natives that are the same but for counts have the same edges
 pub native_edges-alike : (m n : HeapNative) → uncounted m ≡ uncounted n → native_edges m ≡ native_edges n
-native_edges-alike m n e = ap edges_of_uncounted e
+native_edges-alike m n e = ap native_edges e
 
 -- an edge of a native is one of the heaps
 pub native-edge : (h : Heap) (n : HeapNative) (x y : Name) → Among n h.natives → Among (x, y) (native_edges n) → Among (x, y) (view h).edges
@@ -120,7 +116,7 @@ edge-stays h k w v n x y m e left of =
     let start : native n.number ≡ x = (native_edges-are n x y e).0 in
     let o = named-member k n.number (native-there k n.number v (subst (λ z. Among z (names_there k)) (sym start) left)) in
     let p = of o.0 o.1 o.2 in
-    let same : p.0 ≡ n = one-native h p.0 n w p.1 m (ap (λ (u : Uncounted). u.number) p.2 ∙ o.2) in
+    let same : p.0 ≡ n = one-native h p.0 n w p.1 m (ap (λ (u : HeapNative). u.number) p.2 ∙ o.2) in
     let edges : native_edges n ≡ native_edges o.0 = native_edges-alike n o.0 (ap uncounted (sym same) ∙ p.2) in
     native-edge k o.0 x y o.1 (subst (λ es. Among (x, y) es) edges e)
 

@@ -16,7 +16,7 @@ use Rattle.cc_model.specs.Places.{script_places_of}
 use Rattle.cc_model.specs.Slots.{contents, reflector_slots}
 use Rattle.cc_model.specs.Entries.{Entry, Joint, joints, entry, is_entry_of, with_entry, without_entry}
 use Rattle.cc_model.specs.Checks.{reflector_of}
-use Rattle.cc_model.specs.Heap.{Heap, HeapScript, is_gray_colour, set_register, change_script, with_script_slot, set_preserved, preserve, delegate_at, has_reflector}
+use Rattle.cc_model.specs.Heap.{Heap, HeapScript, is_gray_colour, set_register, change_script, with_script_slot, set_preserved, preserve, delegate_at, has_reflector, new_script}
 use Rattle.cc_model.specs.View.{view}
 use Rattle.cc_model.specs.Cascade.{add_ref}
 use Rattle.cc_model.specs.Exposure.{exposed, exposed_names, as_black}
@@ -30,7 +30,6 @@ use Rattle.cc_laws_heap.proofs.CommandsColours.{blank-holds}
 use Rattle.cc_laws_heap.proofs.Owning.{IsIn, add_ref-sound}
 use Rattle.cc_laws_heap.proofs.Writes.{set_preserved-sound}
 use Rattle.cc_laws_heap.proofs.ScriptsKept.{has_name, is_one_of, native-no_script, preserve-sound, script_names-preserve, ChangesScripts-slot, ChangesScripts-black}
-use Rattle.cc_laws_heap.proofs.ScriptCommands.{blank}
 use Rattle.cc_laws_heap.proofs.ColourChanges.{IsHeldBlack}
 use Rattle.cc_laws_snapshot.proofs.Marked.{names_in, with_mark-there}
 use Rattle.cc_laws_snapshot.proofs.GentleBut.{AreGentle, AreGentle-refl, AreGentle-then}
@@ -103,7 +102,7 @@ make_object-gentle h d kind n its_delegate w there pale = AreGentle-then h (with
     (register-gentle (with_object h kind n its_delegate) (S d) (Some new.name))
   where
     new : HeapScript
-    new = blank (object (h.scripts_made + 1)) kind n its_delegate
+    new = new_script (object (h.scripts_made + 1)) kind n its_delegate
 
     holds : (x : Name) → Among x (contents (script_places_of new)) → Among x (script_names h) × (¬ (Among x (view h).gray))
     holds x m =
@@ -130,7 +129,7 @@ with_reflector-gentle owned h k there s = AreGentle-then h (add_ref h k) (with_r
     (λ j m. ⊎_elim (λ e. subst (λ i. Among (native i) (names_in (add_ref h k).buffer)) e (with_mark-there false k h.buffer)) (λ t. absurd t) m)))
   where
     new : HeapScript
-    new = blank (reflector k) Reflector reflector_slots None
+    new = new_script (reflector k) Reflector reflector_slots None
 
     no_delegate : {x : Name} → None ≡ Some x → ⊥
     no_delegate e = cc

@@ -14,7 +14,7 @@ use Rattle.cc_names.specs.Names.{native, object, reflector, same_name}
 use Rattle.cc_model.specs.Slots.{contents, reflector_slots}
 use Rattle.cc_model.specs.Entries.{Entry, with_entry, without_entry}
 use Rattle.cc_model.specs.Checks.{reflector_of}
-use Rattle.cc_model.specs.Heap.{Heap, HeapNative, HeapScript, set_register, change_script, with_script_slot, set_preserved, preserve, delegate_at, has_reflector}
+use Rattle.cc_model.specs.Heap.{Heap, HeapNative, HeapScript, set_register, change_script, with_script_slot, set_preserved, preserve, delegate_at, has_reflector, new_script}
 use Rattle.cc_model.specs.View.{view, buffered, ReachedIn}
 use Rattle.cc_model.specs.Cascade.{add_ref}
 use Rattle.cc_model.specs.Exposure.{exposed, exposed_names, as_black}
@@ -25,7 +25,6 @@ use Rattle.cc_laws_heap.specs.Balance.{has_number}
 use Rattle.cc_laws_heap.proofs.HoldsTheSame.{HoldsTheSame-add_ref, native_names-alike}
 use Rattle.cc_lists.proofs.ListWrites.{changed_where, changed_where-either, map-kept}
 use Rattle.cc_laws_heap.proofs.Making.{with_script_last, script_names-with_script}
-use Rattle.cc_laws_heap.proofs.ScriptCommands.{blank}
 use Rattle.cc_laws_snapshot.proofs.Handing.{register-reached, Hands}
 use Rattle.cc_laws_snapshot.proofs.Handed.{TakesUp, TakesUp-add_ref, Still, Hands-still}
 
@@ -134,7 +133,7 @@ Still-make_object h d kind n its_delegate = Still-trans h (with_script_last h o 
     made = h.scripts_made + 1
 
     o : HeapScript
-    o = blank (object made) kind n its_delegate
+    o = new_script (object made) kind n its_delegate
 
 -- a proxy made, its delegate preserved first where it is a reflector
 pub Still-make_proxy : (h : Heap) (d : ℕ) (x : Option Name) → Still h (make_proxy h d x)
@@ -172,6 +171,6 @@ Hands-wrapped h d (Some (name.Native k)) there = go (has_reflector h k.0)
     go false = Hands-taken h (add_ref h k.0) (set_register (with_reflector h k.0) (S d) (Some (reflector k.0))) (Some (native k.0))
         (TakesUp-add_ref h k.0) (native_names-alike h (add_ref h k.0) (HoldsTheSame-add_ref h k.0))
         (Still-trans (add_ref h k.0) (with_reflector h k.0) (set_register (with_reflector h k.0) (S d) (Some (reflector k.0)))
-        (Still-script_last (add_ref h k.0) (blank (reflector k.0) Reflector reflector_slots None) h.scripts_made)
+        (Still-script_last (add_ref h k.0) (new_script (reflector k.0) Reflector reflector_slots None) h.scripts_made)
         (Still-script_register (with_reflector h k.0) d (Some (reflector k.0))))
         (λ j m. register-reached (set_register (with_reflector h k.0) (S d) (Some (reflector k.0))) (native j) (there j m))
