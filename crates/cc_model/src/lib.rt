@@ -10,6 +10,7 @@
 //! item, the trait of those that are told items, and three of them. The functions with empty bodies are laws.
 #![tactic(auto)]
 
+mod checks;
 mod command;
 mod counter;
 mod dialect;
@@ -18,8 +19,10 @@ mod item_list;
 mod laws;
 mod notebook;
 mod notices;
+mod reads;
 mod sums;
 
+pub use checks::refusal;
 pub use command::Command;
 pub use counter::Counter;
 pub use dialect::Dialect;
@@ -28,4 +31,5 @@ pub use item_list::ItemList;
 pub use laws::{bounds_suffice, reached_is_least, telling_composes};
 pub use notebook::Notebook;
 pub use notices::Notices;
+pub use reads::Reads;
 pub use sums::Sums;

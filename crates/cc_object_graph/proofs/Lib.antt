@@ -1,5 +1,4 @@
 pub mod NumberedLists
 pub mod KeysOfNames
 pub mod KeyedEntries
-pub mod Refusals
 pub mod HaveKeys

@@ -21,7 +21,7 @@ use crate::bank::Bank;
 use crate::entries::Entries;
 use crate::natives::Natives;
 use crate::scripts::Scripts;
-use cc_model::{Command, Refusal, Reply};
+use cc_model::{Command, Refusal, Reply, refusal};
 use cc_names::{BANK_LENGTH, Limits, Name, NoMemory, Reg, RegNo};
 use std::alloc::Global;
 use std::marker::Model;
@@ -74,27 +74,13 @@ impl ObjectGraph {
     pub fn refusal(&self, command: &Command) -> Option<Refusal>
         ensures { result ≡ refusal_of (objects_of self.now) command.now }
     {
-        if self.lacks_object(command) {
-            return Some(Refusal::Empty);
-        }
-        if self.has_wrong_object(command) {
-            return Some(Refusal::Kind);
-        }
-        if self.has_no_slot(command) {
-            return Some(Refusal::Slot);
-        }
-        if self.has_wrong_content(command) {
-            return Some(Refusal::Kind);
-        }
-        if self.is_full(command) {
-            return Some(Refusal::Full);
-        }
-        None
+        refusal(self, command)
     }
 
     /// Does a command, and answers its reply. A refused one changes nothing.
     ///
     /// After `NoMemory` the graph is only let go.
+    #[tactic(auto, unfolding(cc_model::specs::Checks::refusal_of))]
     pub fn step(&mut self, command: &Command) -> Result<Reply, NoMemory>
         requires well_made { IsWellMade self.old }
         requires limits { (self.old.limits.natives ≤ 1000000) × (self.old.limits.scripts ≤ 1000000) }
