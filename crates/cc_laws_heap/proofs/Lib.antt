@@ -31,6 +31,7 @@ pub mod ViewEdges
 pub mod ScriptNames
 pub mod Coloured
 pub mod ColourChanges
+pub mod Naming
 pub mod MayBeDone
 pub mod CommandsSound
 pub mod NativesKeepScripts

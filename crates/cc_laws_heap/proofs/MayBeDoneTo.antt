@@ -4,12 +4,13 @@ use Rattle.std.proofs.Common.{◌≡◌, ℕ, ◌<◌, ◌≤◌, true, false, n
 use Rattle.std.specs.Prelude.{IsTrue}
 use Rattle.std.proofs.lemmas.Bool.{and_parts, leb-true, leb-false, not-false}
 use Rattle.cc_names.specs.declared.name.Name.{Name}
+use Rattle.cc_names.specs.declared.register.Reg.{Reg}
 use Rattle.cc_names.specs.declared.register.Reg.TheVariants.{N, S}
 use Rattle.cc_names.specs.Sizes.{most_slots}
 use Rattle.cc_model.specs.declared.command.Command.{Command}
-use Rattle.cc_model.specs.declared.command.Command.TheVariants.{Native, Script, WeakMap, Proxy, CopyNative, CopyScript, Drop, Set, Get, Move, Put, Take, Wrap, Unwrap, Preserve, SetEntry, GetEntry, Expose}
-use Rattle.cc_model.specs.Ranges.{in_range, is_register, is_slots}
-use Rattle.cc_model.specs.Checks.{slot_at, is_map_in}
+use Rattle.cc_model.specs.declared.command.Command.TheVariants.{Get}
+use Rattle.cc_model.specs.Ranges.{in_range}
+use Rattle.cc_model.specs.Checks.{slot_at, value_at, native_of, is_map_in}
 use Rattle.cc_model.specs.Deeds.{Deed, nothing_done, native_made, plain_made, map_made, proxy_made, native_held, script_held, script_copied, native_stored, slot_moved, script_stored, reflector_held, reflector_preserved, entry_written, object_exposed, deed_of}
 use Rattle.cc_model.specs.Graph.{Graph, slots_in, objects_of, register, source}
 use Rattle.cc_model.specs.Reached.{Reached}
@@ -86,18 +87,28 @@ module _ (g : Graph) (w : IsWellMade g) where
   map_register-named : (r : ℕ) → not (is_map_in (objects_of g) (register g (S r))) ≡ false → IsMapNamed g (register g (S r))
   map_register-named r = grind (arith, script_register-made, not-false)
 
+  -- a source names any object
+  source-named : (r : Option Reg) → IsNamed g (source g r)
+  source-named r = record { made = source-made g w r; reached = source-reached g r }
+
+  -- a slot of what a script register holds names a script object
+  script_slot-named : (d i : ℕ) → IsScriptNamed g (slot_at (objects_of g) (S d) i)
+  script_slot-named d i = record { made = script_slot_at-made g w d i; reached = slot_at-reached g (S d) i }
+
+  -- a reflector in a script register names its native
+  behind-named : (d : ℕ) → IsNativeNamed g (native_of (register g (S d)))
+  behind-named d = record {
+    made = native_of-made g w (register g (S d)) (script_register-made g w d);
+    reached = native_of-reached g (register g (S d)) (script_register-made g w d) (register-reached g (S d));
+  }
+
+  -- an entry names a script object as its value
+  value-named : (m k : ℕ) → IsScriptNamed g (value_at (objects_of g) (register g (S m)) (register g (S k)))
+  value-named m k = record { made = value_at-made g w (register g (S m)) (register g (S k)); reached = value_at-reached g (S m) (S k) }
+
   -- EVERY COMMAND that is in range and not refused rests on what it may.
   pub may_be_done_to : (c : Command) → IsTrue (in_range c) → IsTaken (objects_of g) c → MayBeDoneTo g (deed_of (objects_of g) c)
   unfolding deed_of
-  may_be_done_to (Native d n) r t = (leb-true n most_slots (and_parts (is_register d) (is_slots n) r).1, leb-false g.limits.natives (length g.natives) t.room)
-  may_be_done_to (Script d n) r t = (leb-true n most_slots (and_parts (is_register d) (is_slots n) r).1, leb-false g.limits.scripts (length g.scripts) t.room)
-  may_be_done_to (WeakMap d) r t = leb-false g.limits.scripts (length g.scripts) t.room
-  may_be_done_to (Proxy d s) r t = (script_register-named s, leb-false g.limits.scripts (length g.scripts) t.room)
-  may_be_done_to (CopyNative d s) r t = native_register-named s
-  may_be_done_to (CopyScript d s) r t = script_register-named s
-  may_be_done_to (Drop (N d)) r t = record { made = tt; reached = tt }
-  may_be_done_to (Drop (S d)) r t = record { made = tt; reached = tt }
-  may_be_done_to (Set d i s) r t = record { made = source-made g w s; reached = source-reached g s }
   may_be_done_to (Get (N d) s i) r t = record {
     made = no_script-made g w (slot_at (objects_of g) (N s) i) (slot_at-made g w (N s) i) t.content;
     reached = slot_at-reached g (N s) i;
@@ -106,21 +117,4 @@ module _ (g : Graph) (w : IsWellMade g) where
     made = no_native-made g w (slot_at (objects_of g) (N s) i) (slot_at-made g w (N s) i) t.content;
     reached = slot_at-reached g (N s) i;
   }
-  may_be_done_to (Move d i s j) r t = tt
-  may_be_done_to (Put d i s) r t = (script_register-named d, script_source-named s)
-  may_be_done_to (Take d s i) r t = record { made = script_slot_at-made g w s i; reached = slot_at-reached g (S s) i }
-  may_be_done_to (Wrap d s) r t = native_register-named s
-  may_be_done_to (Unwrap d s) r t = record {
-    made = native_of-made g w (register g (S s)) (script_register-made g w s);
-    reached = native_of-reached g (register g (S s)) (script_register-made g w s) (register-reached g (S s));
-  }
-  may_be_done_to (Preserve s) r t = script_register-named s
-  may_be_done_to (SetEntry m k v) r t = record {
-    the_map = script_register-named m;
-    key = script_register-named k;
-    value = script_source-named v;
-    is_map = map_register-named m t.kinds;
-  }
-  may_be_done_to (GetEntry d m k) r t = record { made = value_at-made g w (register g (S m)) (register g (S k)); reached = value_at-reached g (S m) (S k) }
-  may_be_done_to (Expose s i) r t = tt
-  may_be_done_to _ r t = tt
+  may_be_done_to c r t = grind (arith, and_parts, leb-true, leb-false, script_register-named, script_source-named, native_register-named, map_register-named, source-named, script_slot-named, behind-named, value-named)

@@ -15,9 +15,9 @@ use Rattle.cc_model.specs.Graph.{Graph, changed, step}
 use Rattle.cc_model.specs.Heap.{objects_of, Heap}
 use Rattle.cc_model.specs.Effects.{effects, takes_memory}
 use Rattle.cc_model.specs.Listed.{listed, after_events, after_reply}
-use Rattle.cc_model.specs.Lawful.{State, next, graph_after, is_refused, is_without_memory, state_of}
+use Rattle.cc_model.specs.Lawful.{State, next, graph_after, is_refused, is_without_memory}
 use Rattle.cc_model.specs.Collecting.{Machine, later_answers, next_answer}
-use Rattle.cc_model.specs.Run.{Turn, answering, with_effects, mutate, if_granted, said, say, unless_refused, turn_of}
+use Rattle.cc_model.specs.Run.{Turn, answering, with_effects, mutate, if_granted, said, say, unless_refused}
 use Rattle.cc_model.proofs.NoDeeds.{no_deed-graph, no_deed-lists}
 
 -- Whatever holds where memory is wanted and where it is there holds of the turn.

@@ -1,8 +1,8 @@
 -- THE LISTED NAMES AFTER A COMMAND are those of the heaps: what was freed is taken out, what was made goes last.
-use Rattle.std.proofs.Common.{◌≡◌, ℕ, ◌+◌, ◌<◌, Bool, true, false, List, [], ◌∷◌, ◌++◌, map, length, Option, Some, None, refl, sym, ◌∙◌, ap, subst, ⊎_elim}
+use Rattle.std.proofs.Common.{arith, ◌≡◌, ℕ, ◌+◌, ◌<◌, Bool, true, false, List, [], ◌∷◌, ◌++◌, map, length, Option, Some, None, refl, sym, ◌∙◌, ap, subst, ⊎_elim}
 use Rattle.std.specs.Prelude.{IsTrue}
 use Rattle.std.specs.List.{filter}
-use Rattle.std.proofs.lemmas.Bool.{true≢false, ltb-true, and_parts}
+use Rattle.std.proofs.lemmas.Bool.{true≢false}
 use Rattle.std.proofs.lemmas.List.{append-nil, get_or-set_same}
 use Rattle.std.proofs.lemmas.List.Elements.{filter-append}
 use Rattle.cc_lists.specs.Members.{Among, has}
@@ -12,14 +12,13 @@ use Rattle.cc_names.specs.declared.name.Name.TheVariants as name
 use Rattle.cc_names.specs.declared.register.Reg.TheVariants.{N}
 use Rattle.cc_names.specs.Names.{native, object, reflector, same_name, is_native}
 use Rattle.cc_names.proofs.NameTests.{same_name-exact}
-use Rattle.cc_names.specs.Sizes.{bank_length}
 use Rattle.cc_model.specs.declared.command.Command.{Command}
 use Rattle.cc_model.specs.declared.command.Command.TheVariants.{Native, Script, WeakMap, Proxy, Wrap}
-use Rattle.cc_model.specs.Ranges.{in_range, is_slots, is_register}
+use Rattle.cc_model.specs.Ranges.{in_range}
 use Rattle.cc_model.specs.Checks.{refusal_of, reply_if_taken, reflector_of, named_or_nothing}
 use Rattle.cc_model.specs.Graph as graph
-use Rattle.cc_model.specs.Deeds.{deed_of}
-use Rattle.cc_model.specs.Graph.{Graph, changed, unless_refused, step, done_to}
+use Rattle.cc_model.specs.Deeds.{Deed, native_made, deed_of}
+use Rattle.cc_model.specs.Graph.{Graph, done_to, changed, unless_refused, step}
 use Rattle.cc_model.specs.Reached.{Reached, held}
 use Rattle.cc_model.specs.WellMade.{IsWellMade}
 use Rattle.cc_model.specs.Heap.{Heap, HeapNative, register, objects_of, has_reflector}
@@ -33,10 +32,12 @@ use Rattle.cc_laws_heap.proofs.Freed.{freed_event}
 use Rattle.cc_laws_heap.proofs.ScriptNames.{script_names-named}
 use Rattle.cc_laws_heap.proofs.NameLists.{is_not_among-from}
 use Rattle.cc_laws_heap.proofs.Holding.{has_reflector-there, has_reflector-none}
-use Rattle.cc_laws_heap.proofs.RepliesAlike.{refusal_of-alike, objects-stand}
+use Rattle.cc_laws_heap.proofs.RepliesAlike.{AreAlike, refusal_of-alike, deed_of-alike, objects-stand}
+use Rattle.cc_laws_heap.proofs.MayBeDone.{MayBeDone, may_be_done}
+use Rattle.cc_laws_heap.proofs.Taken.{IsTaken-from}
 use Rattle.cc_laws_heap.proofs.CommandsStand.{freed-unreached}
 use Rattle.cc_laws_run.proofs.Listing.{AreListed, AreListed-from, AreListed-native, AreListed-script, AreListed-freed, after_events-freed, filter-second, has-listed}
-use Rattle.cc_laws_run.proofs.NamesAfter.{NamesAfter, made_natives, made_scripts, made_reflector}
+use Rattle.cc_laws_run.proofs.NamesAfter.{NamesAfter, natives_made_by, made_natives, made_scripts, made_reflector}
 
 -- Before the command
 
@@ -63,23 +64,28 @@ step-taken : (g : Graph) (c : Command) → refusal_of (graph.objects_of g) c ≡
 step-taken g c t = ap (λ o. unless_refused o g (changed g c)) t
 
 -- a native that was made is reached
-made-reached : (h : Heap) (g : Graph) (d n : ℕ) → IsWellMade g → StandsFor h g → d < bank_length → Reached (changed g (Native d n)) (native (h.natives_made + 1))
-unfolding changed done_to deed_of
-made-reached h g d n w s room = held (N d) (native (h.natives_made + 1))
-    (get_or-set_same g.native_registers d (Some (native (length g.natives + 1))) None (subst (λ l. d < l) (sym w.registers.0) room)
-    ∙ ap (λ k. Some (native (k + 1))) (sym s.natives_made))
+made-reached : (h : Heap) (g : Graph) (d : Deed) (k : ℕ) → IsWellMade g → StandsFor h g → MayBeDone h d → Among (native k) (natives_made_by h d) → Reached (done_to g d) (native k)
+unfolding done_to
+made-reached h g (native_made d n) k w s m i = ⊎_elim
+    (λ e. subst (λ x. Reached (done_to g (native_made d n)) x) e
+    (held (N d) (native (h.natives_made + 1))
+    (get_or-set_same g.native_registers d (Some (native (length g.natives + 1))) None (subst (λ l. d < l) (sym w.registers.0) m.register)
+    ∙ ap (λ j. Some (native (j + 1))) (sym s.natives_made))))
+    (λ n. absurd n) i
+made-reached h g _ k w s m i = absurd i
 
 -- so it is none of those that were freed
 pub made-not_freed : (h : Heap) (g : Graph) (c : Command) (ks : List ℕ) → IsSound [] h → IsWellMade g → StandsFor h g → IsTrue (in_range c) →
     refusal_of (objects_of h) c ≡ None → (effects h c).events ≡ map freed_event ks → (k : ℕ) → Among k ks → ¬ (Among (native k) (made_natives h c))
-made-not_freed h g (Native d n) ks sound w s r t told k m i = ⊎_elim
-    (λ e. freed-unreached h g (Native d n) (native k) sound w s r t
+unfolding changed
+made-not_freed h g c ks sound w s r t told k m i = freed-unreached h g c (native k) sound w s r t
     (subst (λ es. Among (freed_event k) es) (sym told) (Among-map freed_event k ks m))
-    (subst (λ f. Reached f (native k))
-    (sym (step-taken g (Native d n) (sym (refusal_of-alike (objects_of h) (graph.objects_of g) (objects-stand h g s) (Native d n)) ∙ t)))
-    (subst (λ x. Reached (changed g (Native d n)) x) e (made-reached h g d n w s (ltb-true d bank_length (and_parts (is_register d) (is_slots n) r).0)))))
-    (λ n. absurd n) i
-made-not_freed h g c ks sound w s r t told k m i = i
+    (subst (λ f. Reached f (native k)) (sym (step-taken g c (sym (refusal_of-alike (objects_of h) (graph.objects_of g) alike c) ∙ t)))
+    (subst (λ d. Reached (done_to g d) (native k)) (deed_of-alike (objects_of h) (graph.objects_of g) alike c)
+    (made-reached h g (deed_of (objects_of h) c) k w s (may_be_done h c sound r (IsTaken-from (objects_of h) c t)) i)))
+  where
+    alike : AreAlike (objects_of h) (graph.objects_of g)
+    alike = objects-stand h g s
 
 -- After the command
 
@@ -123,7 +129,7 @@ object-listed h names natives a = subst (λ xs. AreListed (names ++ object (h.sc
 -- what a command makes goes last
 made-listed : (h : Heap) (c : Command) (names natives : List Name) → AreListed names natives (script_names h) →
     AreListed (after_reply names c (Some (reply_if_taken (objects_of h) c))) (natives ++ made_natives h c) (script_names h ++ made_scripts h c)
-unfolding reply_if_taken
+unfolding reply_if_taken deed_of
 made-listed h (Native d n) names natives a =
     subst (λ xs. AreListed (names ++ native (h.natives_made + 1) ∷ []) (natives ++ native (h.natives_made + 1) ∷ []) xs) (sym (append-nil (script_names h)))
     (AreListed-native names natives (script_names h) (h.natives_made + 1) a)
@@ -131,7 +137,7 @@ made-listed h (Script d n) names natives a = object-listed h names natives a
 made-listed h (WeakMap d) names natives a = object-listed h names natives a
 made-listed h (Proxy d s) names natives a = object-listed h names natives a
 made-listed h (Wrap d s) names natives a = wrapped-listed h d s (register h (N s)) names natives a
-made-listed h c names natives a = same-listed names natives (script_names h) a
+made-listed h c names natives a = grind (arith, append-nil)
 
 -- THE NAMES AFTER A COMMAND ARE LISTED.
 pub effects-listed : (h : Heap) (c : Command) (names : List Name) (ks : List ℕ) → NamesAfter h (effects h c) ks (made_natives h c) (made_scripts h c) →

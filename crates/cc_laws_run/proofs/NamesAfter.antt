@@ -1,9 +1,8 @@
 -- THE NAMES OF ALL OBJECTS AFTER A COMMAND: what it told as freed is there no more, what it made goes last.
-use Rattle.std.proofs.Common.{◌≡◌, ℕ, ◌+◌, ◌<◌, ◌≤◌, Bool, true, false, not, List, [], ◌∷◌, ◌++◌, map, length, Option, Some, None, refl, sym, ◌∙◌, ap, subst, arith, option_map, slice_index_or, is_none}
+use Rattle.std.proofs.Common.{◌≡◌, ℕ, ◌+◌, ◌<◌, ◌≤◌, Bool, true, false, not, List, [], ◌∷◌, ◌++◌, map, length, Option, Some, None, refl, sym, ◌∙◌, ap, subst, arith, slice_index_or, is_none}
 use Rattle.std.specs.Prelude.{IsTrue}
-use Rattle.std.specs.List.{filter, list_any}
+use Rattle.std.specs.List.{filter}
 use Rattle.std.proofs.Math.Path.{fun_ext}
-use Rattle.std.proofs.lemmas.Bool.{ltb-true, leb-false}
 use Rattle.std.proofs.lemmas.List.{append-nil, map_push}
 use Rattle.std.proofs.lemmas.Simd.{map-map}
 use Rattle.cc_lists.specs.Members.{Among}
@@ -15,14 +14,14 @@ use Rattle.cc_names.specs.declared.kind.Kind.TheVariants.{Plain, Reflector, Map,
 use Rattle.cc_names.specs.Names.{native, object, reflector}
 use Rattle.cc_names.specs.Sizes.{bank_length, most_slots}
 use Rattle.cc_model.specs.declared.command.Command.{Command}
-use Rattle.cc_model.specs.declared.command.Command.TheVariants.{Native, Script, WeakMap, Proxy, CopyNative, CopyScript, Drop, Set, Get, Move, Put, Take, Wrap, Unwrap, Preserve, SetEntry, GetEntry, Expose}
 use Rattle.cc_model.specs.Slots.{reflector_slots}
-use Rattle.cc_model.specs.Ranges.{in_range, is_register, is_slots}
-use Rattle.cc_model.specs.Checks.{slot_at, slots_at, value_at, native_of, reflector_of}
-use Rattle.cc_model.specs.Heap.{Heap, HeapNative, HeapScript, Outcome, silently, register, source, objects_of, has_reflector, change_native, with_native_slot, set_register, preserve}
+use Rattle.cc_model.specs.Ranges.{in_range}
+use Rattle.cc_model.specs.Checks.{slots_at, reflector_of}
+use Rattle.cc_model.specs.Heap.{Heap, HeapNative, HeapScript, Outcome, silently, register, objects_of, has_reflector, change_native, with_native_slot, set_register, preserve}
 use Rattle.cc_model.specs.Cascade.{take_up, let_go}
 use Rattle.cc_model.specs.Exposure.{exposed}
-use Rattle.cc_model.specs.Effects.{effects, put_in_register, hold_native, store_native, put_in_slot, taken_out, move_slot, with_native, make_native, with_script, with_reflector, make_object, hold_script, wrapped, put_in_script, make_proxy}
+use Rattle.cc_model.specs.Deeds.{Deed, nothing_done, native_made, plain_made, map_made, proxy_made, native_held, script_held, script_copied, native_stored, slot_moved, script_stored, reflector_held, reflector_preserved, entry_written, object_exposed, deed_of}
+use Rattle.cc_model.specs.Effects.{done_in, effects, put_in_register, hold_native, store_native, put_in_slot, taken_out, move_slot, with_native, make_native, with_script, with_reflector, make_object, hold_script, wrapped, put_in_script, set_entry, make_proxy}
 use Rattle.cc_model.specs.WellFormed.{IsWellFormed, native_names, script_names, names_there}
 use Rattle.cc_model.specs.Counts.{times}
 use Rattle.cc_model.specs.Listed.{after_events}
@@ -37,13 +36,13 @@ use Rattle.cc_laws_heap.proofs.Owning.{IsIn, take_up-sound}
 use Rattle.cc_laws_heap.proofs.Writes.{native_register-sound, native_slot-sound}
 use Rattle.cc_laws_heap.proofs.Making.{new_native}
 use Rattle.cc_laws_heap.proofs.MadeSound.{with_native-sound}
-use Rattle.cc_laws_heap.proofs.Holding.{IsIn-natives, IsIn-no_script, native_register-there, script_register-there, source-there, slot_at-there, native_of-there}
+use Rattle.cc_laws_heap.proofs.Holding.{IsIn-natives}
 use Rattle.cc_laws_heap.proofs.NativeCommands.{IsIn-take_up, HasSlot, HasSlot-from, HasSlot-take_up, put_in_slot-written, names_there-take_up, IsIn-made}
 use Rattle.cc_laws_heap.proofs.Moving.{taken_out-sound, taken_out-there, HasSlot-taken_out, move_slot-is}
 use Rattle.cc_laws_heap.proofs.ScriptCommands.{blank}
 use Rattle.cc_laws_heap.proofs.Emptying.{let_go-frees}
 use Rattle.cc_laws_heap.proofs.Taken.{IsTaken}
-use Rattle.cc_laws_heap.proofs.CommandsSound.{below-first, few-slots, moved-slots}
+use Rattle.cc_laws_heap.proofs.MayBeDone.{MayBeDone, may_be_done}
 use Rattle.cc_laws_run.proofs.Listing.{after_events-freed}
 use Rattle.cc_laws_run.proofs.NamesKept.{SameNames, SameNames-refl, SameNames-trans, SameNames-alike, SameNames-change_native, SameNames-preserve, SameNames-put_in_script, SameNames-set_entry, SameNames-exposed, SameNames-taken_out}
 use Rattle.cc_laws_run.proofs.FreedListed.{has-native}
@@ -169,10 +168,6 @@ make_object-names h d kind n its_delegate = (
       (map_push (λ (o : HeapScript). o.name) h.scripts (blank (object (h.scripts_made + 1)) kind n its_delegate)),
 )
 
--- a register that must hold something does
-first-held : (x : Option Name) → list_any (λ (y : Option Name). is_none y) (x ∷ []) ≡ false → is_none x ≡ false
-first-held x e = grind arith
-
 -- a proxy made of what a register holds
 make_proxy-names : (h : Heap) (d : ℕ) (x : Option Name) → is_none x ≡ false →
     (ks : List ℕ) × NamesAfter h (silently (make_proxy h d x)) ks [] (object (h.scripts_made + 1) ∷ [])
@@ -216,48 +211,52 @@ wrapped-names h d (Some (name.Native k)) w = go (has_reflector h k.0)
               (s.scripts ∙ map_push (λ (o : HeapScript). o.name) h.scripts (blank (reflector k.0) Reflector reflector_slots None)),
         )
 
--- All commands
+-- All deeds
+
+-- the natives that a deed makes
+abbrev pub natives_made_by : Heap → Deed → List Name
+natives_made_by h (native_made d n) = native (h.natives_made + 1) ∷ []
+natives_made_by h _ = []
+
+-- the script objects that a deed makes
+abbrev pub scripts_made_by : Heap → Deed → List Name
+scripts_made_by h (plain_made d n) = object (h.scripts_made + 1) ∷ []
+scripts_made_by h (map_made d) = object (h.scripts_made + 1) ∷ []
+scripts_made_by h (proxy_made d x) = object (h.scripts_made + 1) ∷ []
+scripts_made_by h (reflector_held d x) = made_reflector h x
+scripts_made_by h _ = []
+
+-- THE NAMES AFTER WHAT IS DONE.
+done_in-names : (h : Heap) (d : Deed) → IsSound [] h → MayBeDone h d → (ks : List ℕ) × NamesAfter h (done_in h d) ks (natives_made_by h d) (scripts_made_by h d)
+unfolding done_in
+done_in-names h nothing_done s m = NamesAfter-same h h (SameNames-refl h)
+done_in-names h (native_made d n) s m = make_native-names h d n m.register m.few m.room s
+done_in-names h (plain_made d n) s m = make_object-names h d Plain n None
+done_in-names h (map_made d) s m = make_object-names h d Map 0 None
+done_in-names h (proxy_made d x) s m = make_proxy-names h d x m.1
+done_in-names h (native_held d x) s m = hold_native-names h d x m.0 m.1 s
+done_in-names h (script_held d x) s m = hold_script-names h d x s.well_formed
+done_in-names h (script_copied d x) s m = NamesAfter-same h (set_register h (S d) x) (record { natives = refl; scripts = refl })
+done_in-names h (native_stored d i x) s m = store_native-names h d i x m.0.there m.1 s
+done_in-names h (slot_moved d i q j) s m = move_slot-names h d i q j m.0 m.1 s
+done_in-names h (script_stored x i y) s m = NamesAfter-same h (put_in_script h x i y) (SameNames-put_in_script h x i y)
+done_in-names h (reflector_held d x) s m = wrapped-names h d x s.well_formed
+done_in-names h (reflector_preserved x) s m = NamesAfter-same h (preserve h x) (SameNames-preserve h x)
+done_in-names h (entry_written x k v) s m = NamesAfter-same h (set_entry h x k v) (SameNames-set_entry h x k v)
+done_in-names h (object_exposed x) s m = NamesAfter-same h (exposed h x) (SameNames-exposed h x s.well_formed)
+
+-- Commands
 
 -- the natives that a command makes
 abbrev pub made_natives : Heap → Command → List Name
-made_natives h (Native d n) = native (h.natives_made + 1) ∷ []
-made_natives h _ = []
+made_natives h c = natives_made_by h (deed_of (objects_of h) c)
 
 -- the script objects that a command makes
 abbrev pub made_scripts : Heap → Command → List Name
-made_scripts h (Script d n) = object (h.scripts_made + 1) ∷ []
-made_scripts h (WeakMap d) = object (h.scripts_made + 1) ∷ []
-made_scripts h (Proxy d s) = object (h.scripts_made + 1) ∷ []
-made_scripts h (Wrap d s) = made_reflector h (register h (N s))
-made_scripts h _ = []
+made_scripts h c = scripts_made_by h (deed_of (objects_of h) c)
 
 -- THE NAMES AFTER A COMMAND THAT IS NOT REFUSED.
 pub effects-names : (h : Heap) (c : Command) → IsSound [] h → IsTrue (in_range c) → IsTaken (objects_of h) c →
     (ks : List ℕ) × NamesAfter h (effects h c) ks (made_natives h c) (made_scripts h c)
 unfolding effects
-effects-names h (Native d n) s r t = make_native-names h d n (below-first d (is_slots n) r) (few-slots n (is_register d) r)
-    (leb-false h.limits.natives h.natives_made t.room) s
-effects-names h (Script d n) s r t = make_object-names h d Plain n None
-effects-names h (WeakMap d) s r t = make_object-names h d Map 0 None
-effects-names h (Proxy d q) s r t = make_proxy-names h d (register h (S q)) (first-held (register h (S q)) t.objects)
-effects-names h (CopyNative d q) s r t = hold_native-names h d (register h (N q)) (below-first d (is_register q) r) (native_register-there h q s.well_formed) s
-effects-names h (CopyScript d q) s r t = NamesAfter-same h (set_register h (S d) (register h (S q))) (record { natives = refl; scripts = refl })
-effects-names h (Drop (N d)) s r t = put_in_register-names h h d None (SameNames-refl h) (ltb-true d bank_length r) (λ y m. absurd m) s
-effects-names h (Drop (S d)) s r t = NamesAfter-same h (set_register h (S d) None) (record { natives = refl; scripts = refl })
-effects-names h (Set d i q) s r t = store_native-names h d i (source h q) (source-there h q s.well_formed)
-    (leb-false (length (slots_at (objects_of h) (N d))) i t.slot) s
-effects-names h (Get (N d) q i) s r t = hold_native-names h d (slot_at (objects_of h) (N q) i) (below-first d (is_register q) r)
-    (IsIn-no_script h (slot_at (objects_of h) (N q) i) s.well_formed (slot_at-there h (N q) i s.well_formed) t.content) s
-effects-names h (Get (S d) q i) s r t = hold_script-names h d (slot_at (objects_of h) (N q) i) s.well_formed
-effects-names h (Move d i q j) s r t = let slots = moved-slots h d i q j t.slot in move_slot-names h d i q j slots.0 slots.1 s
-effects-names h (Put d i q) s r t = NamesAfter-same h (put_in_script h (register h (S d)) i (source h (option_map S q)))
-    (SameNames-put_in_script h (register h (S d)) i (source h (option_map S q)))
-effects-names h (Take d q i) s r t = hold_script-names h d (slot_at (objects_of h) (S q) i) s.well_formed
-effects-names h (Wrap d q) s r t = wrapped-names h d (register h (N q)) s.well_formed
-effects-names h (Unwrap d q) s r t = hold_native-names h d (native_of (register h (S q))) (below-first d (is_register q) r)
-    (native_of-there h (register h (S q)) s.well_formed (script_register-there h q s.well_formed)) s
-effects-names h (Preserve q) s r t = NamesAfter-same h _ (SameNames-preserve h (register h (S q)))
-effects-names h (SetEntry m k v) s r t = NamesAfter-same h _ (SameNames-set_entry h (register h (S m)) (register h (S k)) (source h (option_map S v)))
-effects-names h (GetEntry d m k) s r t = hold_script-names h d (value_at (objects_of h) (register h (S m)) (register h (S k))) s.well_formed
-effects-names h (Expose q i) s r t = NamesAfter-same h _ (SameNames-exposed h (slot_at (objects_of h) (N q) i) s.well_formed)
-effects-names h _ s r t = NamesAfter-same h h (SameNames-refl h)
+effects-names h c s r t = done_in-names h (deed_of (objects_of h) c) s (may_be_done h c s r t)

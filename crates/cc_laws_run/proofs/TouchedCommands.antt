@@ -1,5 +1,5 @@
 -- COMMANDS LEAVE NAMES ALONE that are apart, in each of their parts, and so what is doomed stays so.
-use Rattle.std.proofs.Common.{◌≡◌, ℕ, ◌+◌, ◌≤◌, Bool, true, false, not, List, [], ◌∷◌, ◌++◌, Option, Some, None, refl, sym, subst, inl, ⊎_elim, arith, option_map, option_to_list, ◌⊎◌, inr}
+use Rattle.std.proofs.Common.{◌≡◌, ℕ, ◌+◌, ◌≤◌, Bool, true, false, not, List, [], ◌∷◌, ◌++◌, Option, Some, None, refl, sym, subst, inl, ⊎_elim, arith, option_to_list, ◌⊎◌, inr}
 use Rattle.std.proofs.lemmas.Bool.{false≢true}
 use Rattle.cc_lists.specs.Members.{Among, has}
 use Rattle.cc_lists.proofs.Members.{Among-append, Among-filtered, has-among}
@@ -14,15 +14,15 @@ use Rattle.cc_names.specs.declared.kind.Kind.TheVariants.{Plain, Reflector, Map,
 use Rattle.cc_names.specs.Names.{native, object, reflector, same_name}
 use Rattle.cc_names.proofs.NameTests.{same_name-exact}
 use Rattle.cc_model.specs.declared.command.Command.{Command}
-use Rattle.cc_model.specs.declared.command.Command.TheVariants.{Native, Script, WeakMap, Proxy, CopyNative, CopyScript, Drop, Set, Get, Move, Put, Take, Wrap, Unwrap, Preserve, SetEntry, GetEntry, Expose}
+use Rattle.cc_model.specs.Deeds.{Deed, nothing_done, native_made, plain_made, map_made, proxy_made, native_held, script_held, script_copied, native_stored, slot_moved, script_stored, reflector_held, reflector_preserved, entry_written, object_exposed, deed_of}
 use Rattle.cc_model.specs.Slots.{reflector_slots}
 use Rattle.cc_model.specs.Entries.{Entry, is_entry_of, with_entry, without_entry, Joint, joints, entry}
-use Rattle.cc_model.specs.Checks.{slot_at, value_at, native_of, reflector_of}
-use Rattle.cc_model.specs.Heap.{Heap, HeapNative, HeapScript, change_native, change_script, with_native_slot, with_script_slot, register, set_register, set_slot, source, objects_of, preserve, has_reflector, delegate_at}
+use Rattle.cc_model.specs.Checks.{slot_at, native_of, reflector_of}
+use Rattle.cc_model.specs.Heap.{Heap, HeapNative, HeapScript, change_native, change_script, with_native_slot, with_script_slot, register, set_register, set_slot, objects_of, preserve, has_reflector, delegate_at}
 use Rattle.cc_model.specs.View.{view, native_edges, script_edges}
 use Rattle.cc_model.specs.Cascade.{take_up}
 use Rattle.cc_model.specs.Exposure.{slots_of_scripts, exposure_rules, exposed_names, as_black, blackened, exposed}
-use Rattle.cc_model.specs.Effects.{effects, touched, taken_out, put_in_register, hold_native, put_in_slot, store_native, move_slot, with_native, make_native, hold_script, with_script, with_object, make_object, with_reflector, wrapped, set_entry, put_in_script, make_proxy}
+use Rattle.cc_model.specs.Effects.{done_in, effects, touched, taken_out, put_in_register, hold_native, put_in_slot, store_native, move_slot, with_native, make_native, hold_script, with_script, with_object, make_object, with_reflector, wrapped, set_entry, put_in_script, make_proxy}
 use Rattle.cc_model.specs.WellFormed.{IsWellFormed}
 use Rattle.cc_model.specs.Snapshot.{Snapshot}
 use Rattle.cc_model.proofs.Joints.{Gives, its_key, gives-joint, joint-cases, its_value}
@@ -40,8 +40,9 @@ use Rattle.cc_laws_run.proofs.TouchedCascade.{leaves-touch, leaves-add_ref, leav
 use Rattle.cc_laws_run.proofs.TouchedSteps.{Leaves, leaves-refl, leaves-on, leaves-still}
 use Rattle.cc_laws_heap.proofs.Natives.{KeepsNumber}
 use Rattle.cc_laws_heap.proofs.Leaving.{IsOf, OthersStay-change_native}
+use Rattle.cc_laws_heap.proofs.Naming.{EachNamed}
 use Rattle.cc_laws_heap.proofs.CommandsColours.{blank-holds}
-use Rattle.cc_laws_run.proofs.TouchedReads.{IsApart, register-untouched, source-untouched, script_source-untouched, slot_at-untouched, value_at-untouched, native_of-untouched, reflector_of-untouched}
+use Rattle.cc_laws_run.proofs.TouchedReads.{IsApart, register-untouched, slot_at-untouched, reflector_of-untouched, deed-untouched}
 use Rattle.cc_laws_run.proofs.JointLists.{joints-within}
 
 -- a place that is to hold a name that is no member
@@ -269,41 +270,31 @@ module _ (ds : List Name) (g : Heap) where
       go false = leaves-with_reflector h k.0 out hidden d
   leaves-wrapped h _ keeps none d = d
 
-  -- a command, where the next numbers are of no member
-  leaves-effects : (h : Heap) (c : Command) → IsWellFormed h → KeepsReflectors ds → ¬ (Among (native (h.natives_made + 1)) ds) →
-      ¬ (Among (object (h.scripts_made + 1)) ds) → Left h → Left (effects h c).heap
-  unfolding effects
-  leaves-effects h (Native r n) w keeps a b d = leaves-make_native h r n a d
-  leaves-effects h (Script r n) w keeps a b d = leaves-make_object h r Plain n None b (λ y m i. m) d
-  leaves-effects h (WeakMap r) w keeps a b d = leaves-make_object h r Map 0 None b (λ y m i. m) d
-  leaves-effects h (Proxy r q) w keeps a b d = leaves-make_proxy h r (register h (S q)) b (register-untouched ds h d.apart (S q)) (native_of-untouched ds h d.apart q w) d
-  leaves-effects h (CopyNative r q) w keeps a b d = leaves-hold_native h r (register h (N q)) (register-untouched ds h d.apart (N q)) d
-  leaves-effects h (CopyScript r q) w keeps a b d = leaves-register h (S r) (register h (S q)) (register-untouched ds h d.apart (S q)) d
-  leaves-effects h (Drop (N r)) w keeps a b d = leaves-put_in_register h r None (λ y m i. m) d
-  leaves-effects h (Drop (S r)) w keeps a b d = leaves-register h (S r) None (λ y m i. m) d
-  leaves-effects h (Set r i q) w keeps a b d = leaves-store_native h r i (source h q) (source-untouched ds h d.apart q) d
-  leaves-effects h (Get (N r) q i) w keeps a b d = leaves-hold_native h r (slot_at (objects_of h) (N q) i) (slot_at-untouched ds h d.apart (N q) i) d
-  leaves-effects h (Get (S r) q i) w keeps a b d = leaves-hold_script h r (slot_at (objects_of h) (N q) i) (slot_at-untouched ds h d.apart (N q) i) d
-  leaves-effects h (Move r i q j) w keeps a b d = leaves-move_slot h r i q j d
-  leaves-effects h (Put r i q) w keeps a b d = leaves-put_in_script h (register h (S r)) i (source h (option_map S q))
-      (register-untouched ds h d.apart (S r)) (native_of-untouched ds h d.apart r w) (script_source-untouched ds h d.apart q) d
-  leaves-effects h (Take r q i) w keeps a b d = leaves-hold_script h r (slot_at (objects_of h) (S q) i) (slot_at-untouched ds h d.apart (S q) i) d
-  leaves-effects h (Wrap r q) w keeps a b d = leaves-register (wrapped h (register h (N q))) (S r) (reflector_of (register h (N q)))
-      (reflector_of-untouched ds (register h (N q)) keeps (register-untouched ds h d.apart (N q)))
-      (leaves-wrapped h (register h (N q)) keeps (register-untouched ds h d.apart (N q)) d)
-  leaves-effects h (Unwrap r q) w keeps a b d = leaves-hold_native h r (native_of (register h (S q))) (native_of-untouched ds h d.apart q w) d
-  leaves-effects h (Preserve q) w keeps a b d = leaves-preserve h (register h (S q)) (register-untouched ds h d.apart (S q)) (native_of-untouched ds h d.apart q w) d
-  leaves-effects h (SetEntry m k v) w keeps a b d = leaves-set_entry h (register h (S m)) (register h (S k)) (source h (option_map S v))
-      (register-untouched ds h d.apart (S k)) (native_of-untouched ds h d.apart k w) (script_source-untouched ds h d.apart v) d
-  leaves-effects h (GetEntry r m k) w keeps a b d = leaves-hold_script h r (value_at (objects_of h) (register h (S m)) (register h (S k)))
-      (value_at-untouched ds h d.apart (register h (S m)) (register h (S k)) (register-untouched ds h d.apart (S m)) (register-untouched ds h d.apart (S k))) d
-  leaves-effects h (Expose q i) w keeps a b d = leaves-exposed h (slot_at (objects_of h) (N q) i) (slot_at-untouched ds h d.apart (N q) i) d
-  leaves-effects h _ w keeps a b d = d
+  -- a deed that names no member, where the next numbers are of none
+  leaves-done : (h : Heap) (d : Deed) → KeepsReflectors ds → ¬ (Among (native (h.natives_made + 1)) ds) → ¬ (Among (object (h.scripts_made + 1)) ds) →
+      EachNamed (IsUntouched ds) d → Left h → Left (done_in h d).heap
+  unfolding done_in
+  leaves-done h nothing_done keeps a b u l = l
+  leaves-done h (native_made r n) keeps a b u l = leaves-make_native h r n a l
+  leaves-done h (plain_made r n) keeps a b u l = leaves-make_object h r Plain n None b (λ y m i. m) l
+  leaves-done h (map_made r) keeps a b u l = leaves-make_object h r Map 0 None b (λ y m i. m) l
+  leaves-done h (proxy_made r x) keeps a b u l = leaves-make_proxy h r x b u.0 u.1 l
+  leaves-done h (native_held r x) keeps a b u l = leaves-hold_native h r x u l
+  leaves-done h (script_held r x) keeps a b u l = leaves-hold_script h r x u l
+  leaves-done h (script_copied r x) keeps a b u l = leaves-register h (S r) x u l
+  leaves-done h (native_stored r i x) keeps a b u l = leaves-store_native h r i x u l
+  leaves-done h (slot_moved r i q j) keeps a b u l = leaves-move_slot h r i q j l
+  leaves-done h (script_stored x i y) keeps a b u l = leaves-put_in_script h x i y u.0 u.1 u.2 l
+  leaves-done h (reflector_held r x) keeps a b u l = leaves-register (wrapped h x) (S r) (reflector_of x) (reflector_of-untouched ds x keeps u) (leaves-wrapped h x keeps u l)
+  leaves-done h (reflector_preserved x) keeps a b u l = leaves-preserve h x u.0 u.1 l
+  leaves-done h (entry_written m k v) keeps a b u l = leaves-set_entry h m k v u.0 u.1 u.2 l
+  leaves-done h (object_exposed x) keeps a b u l = leaves-exposed h x u l
 
 -- COMMANDS LEAVE NAMES ALONE that are apart, where the next numbers are of none of them.
 pub command-leaves : (ds : List Name) (h : Heap) (c : Command) → IsWellFormed h → KeepsReflectors ds → ¬ (Among (native (h.natives_made + 1)) ds) →
     ¬ (Among (object (h.scripts_made + 1)) ds) → IsApart ds h → Leaves ds h (effects h c).heap
-command-leaves ds h c w keeps a b d = leaves-effects ds h h c w keeps a b (leaves-refl ds h d)
+unfolding effects
+command-leaves ds h c w keeps a b d = leaves-done ds h h (deed_of (objects_of h) c) keeps a b (deed-untouched ds h d w c) (leaves-refl ds h d)
 
 -- What is doomed
 

@@ -18,6 +18,8 @@ use Rattle.cc_names.proofs.NameTests.{same_name-true}
 use Rattle.cc_model.specs.Slots.{contents}
 use Rattle.cc_model.specs.Entries.{Entry, is_entry_of, value_in, Joint, joints, joint, rule_of, rules_of}
 use Rattle.cc_model.specs.Checks.{slots_or_none, slot_at, value_at, native_of, reflector_of}
+use Rattle.cc_model.specs.declared.command.Command.{Command}
+use Rattle.cc_model.specs.Deeds.{deed_of}
 use Rattle.cc_model.specs.Heap.{Heap, HeapNative, HeapScript, native_at, script_at, slots_in, slots_of_script, slots_of_kind, register, objects_of, source}
 use Rattle.cc_model.specs.View.{view, ReachedIn}
 use Rattle.cc_model.specs.WellFormed.{IsWellFormed}
@@ -27,6 +29,7 @@ use Rattle.cc_laws_heap.proofs.Natives.{native_at-there, native_at-number}
 use Rattle.cc_laws_heap.proofs.Writes.{contents-at}
 use Rattle.cc_laws_heap.proofs.Holding.{script_register-there}
 use Rattle.cc_laws_heap.proofs.Coloured.{edge-from_script_place}
+use Rattle.cc_laws_heap.proofs.Naming.{EachNamed, deed-named}
 use Rattle.cc_laws_run.specs.Doomed.{KeepsReflectors}
 use Rattle.cc_laws_snapshot.proofs.Handing.{edge-from_slot, edge-from_reflector}
 use Rattle.cc_laws_run.proofs.TouchedParts.{IsUntouched}
@@ -142,3 +145,13 @@ reflector_of-untouched ds (Some (name.Native k)) keeps none y m i = ⊎_elim
     (λ e. none (native k.0) (inl refl) (keeps k.0 (subst (λ z. Among z ds) (sym e) i)))
     (λ b. b) m
 reflector_of-untouched ds _ keeps none y m i = m
+
+-- What a command comes to names no member.
+pub deed-untouched : (ds : List Name) (h : Heap) → IsApart ds h → IsWellFormed h → (c : Command) → EachNamed (IsUntouched ds) (deed_of (objects_of h) c)
+deed-untouched ds h d w = deed-named (IsUntouched ds) (objects_of h) (record {
+  nothing = λ y m i. m;
+  register = register-untouched ds h d;
+  slot = slot_at-untouched ds h d;
+  value = λ m k. value_at-untouched ds h d (register h (S m)) (register h (S k)) (register-untouched ds h d (S m)) (register-untouched ds h d (S k));
+  behind = λ r. native_of-untouched ds h d r w;
+})
