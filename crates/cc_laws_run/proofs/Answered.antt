@@ -1,5 +1,5 @@
 -- EACH ASK THAT MOVES NO COLLECTION IS ANSWERED LAWFULLY.
-use Rattle.std.proofs.Common.{◌≡◌, ℕ, ◌+◌, ◌≤◌, true, not, List, [], ◌∷◌, map, Option, Some, None, is_none, refl, sym, ◌∙◌, ap, subst, inl, inr, ⊎_elim, arith}
+use Rattle.std.proofs.Common.{◌≡◌, ℕ, ◌+◌, ◌≤◌, true, not, List, [], ◌∷◌, map, Option, Some, None, is_none, refl, sym, ◌∙◌, ap, subst, inl, inr, ⊎_elim, arith, false}
 use Rattle.std.specs.Prelude.{IsTrue, nat_le}
 use Rattle.std.proofs.lemmas.Bool.{true≢false, false≢true, and_parts, le-leb}
 use Rattle.cc_lists.specs.Members.{Among, without}
@@ -9,13 +9,14 @@ use Rattle.cc_names.specs.declared.name.Name.TheVariants as name
 use Rattle.cc_names.specs.declared.register.Reg.TheVariants.{N, S}
 use Rattle.cc_names.specs.Names.{native, same_name, number_of}
 use Rattle.cc_model.specs.declared.command.Command.{Command}
-use Rattle.cc_model.specs.declared.command.Command.TheVariants.{Version2, Why, Native, Script, WeakMap, Proxy, SetEntry, Wrap, Slice, Collect}
+use Rattle.cc_model.specs.declared.command.Command.TheVariants.{Native, Script, WeakMap, Proxy, SetEntry, Wrap}
 use Rattle.cc_model.specs.declared.item.Event.{Event}
 use Rattle.cc_model.specs.declared.item.Refusal.{Refusal}
 use Rattle.cc_model.specs.declared.item.Refusal.TheVariants.{NoMemory}
 use Rattle.cc_model.specs.declared.item.Reply.{Reply}
-use Rattle.cc_model.specs.declared.item.Reply.TheVariants.{Refused}
-use Rattle.cc_model.specs.Asks.{Ask, taken}
+use Rattle.cc_model.specs.declared.item.Reply.TheVariants.{Refused, Done}
+use Rattle.cc_model.specs.Mutating.{Saying, silence, version, path, census, says, does, class_of, is_deed}
+use Rattle.cc_model.specs.Asks.{taken}
 use Rattle.cc_model.specs.Ranges.{in_range}
 use Rattle.cc_model.specs.Checks.{refusal_of, reply_if_taken, refused_or, reflector_of}
 use Rattle.cc_model.specs.Graph as graph
@@ -26,9 +27,10 @@ use Rattle.cc_model.specs.Heap.{Heap, objects_of, has_reflector}
 use Rattle.cc_model.specs.Effects.{effects, takes_memory, lacks_reflector}
 use Rattle.cc_model.specs.WellFormed.{native_names, script_names}
 use Rattle.cc_model.specs.Counts.{times}
-use Rattle.cc_model.specs.Lawful.{State, AnswersAsk, Explains, AnswersCommand, ReplyAnswers, EachMayBe, may_want_memory, is_listed, is_refused, is_abandoning, has_none, has_abandonment_in_place, runs, runs_allowed, unlinked_numbers}
+use Rattle.cc_model.specs.Lawful.{State, Explains, AnswersCommand, EachMayBe, is_listed, is_refused, is_abandoning, has_none, has_abandonment_in_place, runs, runs_allowed, unlinked_numbers, AnswersClass, deed_may_want_memory, class_may_want_memory}
 use Rattle.cc_model.specs.Collecting.{Machine}
-use Rattle.cc_model.specs.Run.{Turn, mutate, explain, do_ask}
+use Rattle.cc_model.specs.Run.{Turn, turn_of, mutate, said, say}
+use Rattle.cc_model.proofs.NoDeeds.{no_deed-reply}
 use Rattle.cc_laws_heap.proofs.Freed.{freed_event}
 use Rattle.cc_laws_heap.proofs.EndingEvents.{TellsOf-freed}
 use Rattle.cc_laws_heap.proofs.NameLists.{same_name-other}
@@ -37,11 +39,11 @@ use Rattle.cc_laws_heap.proofs.RepliesAlike.{refusal_of-alike, reply_if_taken-al
 use Rattle.cc_laws_heap.proofs.Taken.{IsTaken-from}
 use Rattle.cc_laws_heap.proofs.CommandsStand.{freed-unreached}
 use Rattle.cc_laws_heap.proofs.WalksAlike.{why-alike}
-use Rattle.cc_laws_run.specs.Running.{IsRunning, ask_in_range, moves_no_collection}
+use Rattle.cc_laws_run.specs.Running.{IsRunning, moves_no_collection, moves_none}
 use Rattle.cc_laws_run.proofs.Listing.{AreListed, native-listed, length-census_order}
 use Rattle.cc_laws_run.proofs.NamesAfter.{NamesAfter, made_natives, made_scripts, effects-names}
 use Rattle.cc_laws_run.proofs.ListedAfter.{AreListed-heap, has-listed_reflector, made-not_freed}
-use Rattle.cc_laws_run.proofs.CommandCases.{mutate-cases, explain-cases, taken-not_refused, graph_after-taken}
+use Rattle.cc_laws_run.proofs.CommandCases.{mutate-cases, taken-not_refused, graph_after-taken, granted-cases}
 
 -- the heaps refuse what the graph refuses
 pub refusals-agree : (m : Machine) (s : State) (c : Command) → IsRunning m s → refusal_of (graph.objects_of s.graph) c ≡ refusal_of (objects_of m.heap) c
@@ -93,13 +95,11 @@ refused-answers : (s : State) (c : Command) (refusal : Refusal) → refusal_of (
 refused-answers s c refusal e t = grind (arith, rising-none, abandonment-none)
 
 -- what takes memory may want it
-takes-may_want : (m : Machine) (s : State) (c : Command) → IsRunning m s → takes_memory m.heap c ≡ true → IsTrue (may_want_memory s c)
+takes-may_want : (m : Machine) (s : State) (c : Command) → IsRunning m s → takes_memory m.heap c ≡ true → IsTrue (deed_may_want_memory s c)
 takes-may_want m s (Native d n) r t = refl
 takes-may_want m s (Script d n) r t = refl
 takes-may_want m s (WeakMap d) r t = refl
 takes-may_want m s (Proxy d q) r t = refl
-takes-may_want m s (Slice u) r t = refl
-takes-may_want m s Collect r t = refl
 takes-may_want m s (SetEntry x k (Some v)) r t = sym (ap is_none ((objects-stand m.heap s.graph r.stands).value (S x) (S k))) ∙ t
 takes-may_want m s (Wrap d n) r t =
     subst (λ x. not (is_listed s.listed (reflector_of x)) ≡ true) ((objects-stand m.heap s.graph r.stands).register (N n))
@@ -110,15 +110,19 @@ takes-may_want m s (Wrap d n) r t =
     go _ e = absurd (false≢true e)
 takes-may_want m s c r t = absurd (false≢true t)
 
+-- a deed moves no collection
+deed-moves : (c : Command) → class_of c ≡ does → IsTrue (moves_no_collection (taken c))
+deed-moves c e = ap moves_none e
+
 -- a command that wants memory
 unmet-answers : (m : Machine) (s : State) (c : Command) → IsRunning m s → refusal_of (objects_of m.heap) c ≡ None → takes_memory m.heap c ≡ true →
-    IsTrue (moves_no_collection (taken c)) → AnswersCommand s c (Refused NoMemory) []
-unmet-answers m s c r e f t = record {
-  replies = inr (record { refused = refl; command_may = takes-may_want m s c r f; no_other = refusals-agree m s c r ∙ e });
+    class_of c ≡ does → AnswersCommand s c (Refused NoMemory) []
+unmet-answers m s c r e f d = record {
+  replies = inr (record { refused = refl; command_may = ap (class_may_want_memory s c) d ∙ takes-may_want m s c r f; no_other = refusals-agree m s c r ∙ e });
   quiet = λ q. refl;
   each = tt;
   rising = rising-none c [] refl;
-  abandonment = abandonment-none c (Refused NoMemory) [] t refl;
+  abandonment = abandonment-none c (Refused NoMemory) [] (deed-moves c d) refl;
 }
 
 -- Commands done
@@ -158,28 +162,34 @@ done-answers m s c r i e t = record {
         (subst (λ es. Among (freed_event k) es) (sym n.told) (Among-map freed_event k ks j))
 
 -- A command of the mutator is answered lawfully.
-mutate-answers : (m : Machine) (s : State) (c : Command) → IsRunning m s → IsTrue (in_range c) → IsTrue (moves_no_collection (taken c)) →
-    ((mutate m c).answer.listed ≡ []) × ((mutate m c).answer.steps ≡ []) × ReplyAnswers s c (mutate m c).answer (mutate m c).answer.reply
-mutate-answers m s c r i t = mutate-cases m c (λ (u : Turn). (u.answer.listed ≡ []) × (u.answer.steps ≡ []) × ReplyAnswers s c u.answer u.answer.reply)
-    (λ refusal e. (refl, refl, refused-answers s c refusal (refusals-agree m s c r ∙ e) t))
-    (λ e f. (refl, refl, unmet-answers m s c r e f t))
-    (λ e memory. (refl, refl, done-answers m s c r i e t))
+pub mutate-answers : (m : Machine) (s : State) (c : Command) → IsRunning m s → IsTrue (in_range c) → class_of c ≡ does →
+    AnswersClass s c (mutate m c).answer does
+mutate-answers m s c r i d = mutate-cases m c (λ (u : Turn). AnswersClass s c u.answer does)
+    (λ refusal e. (refl, refl, refused-answers s c refusal (refusals-agree m s c r ∙ e) (deed-moves c d)))
+    (λ e f. (refl, refl, unmet-answers m s c r e f d))
+    (λ e memory. (refl, refl, done-answers m s c r i e (deed-moves c d)))
 
--- the line that asks for a version is answered as if it were the mutator's
-version-answered : (m : Machine) → mutate m Version2 ≡ do_ask m (taken Version2)
-unfolding mutate do_ask refusal_of effects reply_if_taken
-version-answered m = refl
+-- What is said
 
--- `why` is answered as the graph answers it
-explain-answers : (m : Machine) (s : State) (x : Name) → IsRunning m s → Explains s.graph x (explain m x).answer
-explain-answers m s x r = explain-cases m x (λ (u : Turn). Explains s.graph x u.answer)
-    (inl (why-alike m.heap s.graph r.sound.well_formed r.well_made r.stands x))
-    (inr refl)
+-- what is no deed and moves no collection is done, where it is answered as a deed is
+said-done : (s : State) (c : Command) → is_deed (class_of c) ≡ false → IsTrue (moves_no_collection (taken c)) → AnswersCommand s c Done []
+said-done s c none t = record {
+  replies = inl (sym (no_deed-reply c none (graph.objects_of s.graph)));
+  quiet = λ q. refl;
+  each = tt;
+  rising = rising-none c [] refl;
+  abandonment = abandonment-none c Done [] t refl;
+}
 
--- EACH ASK THAT MOVES NO COLLECTION IS ANSWERED LAWFULLY.
-pub ask-answers : (m : Machine) (s : State) (ask : Ask) → IsRunning m s → IsTrue (ask_in_range ask) → IsTrue (moves_no_collection ask) →
-    AnswersAsk s ask (do_ask m ask).answer
-unfolding do_ask
-ask-answers m s (taken Version2) r i t = subst (λ (u : Turn). (u.answer.listed ≡ []) × (u.answer.steps ≡ []) × ReplyAnswers s Version2 u.answer u.answer.reply) (version-answered m) (mutate-answers m s Version2 r i t)
-ask-answers m s (taken (Why x)) r i t = explain-answers m s x r
-ask-answers m s ask r i t = grind (arith, length-census_order, mutate-answers)
+-- a way is told as the graph tells it
+path-answers : (m : Machine) (s : State) (x : Name) → IsRunning m s → Explains s.graph x (say m (path x)).answer
+path-answers m s x r = granted-cases m true (λ n. turn_of n (said m.heap (path x))) (λ (u : Turn). Explains s.graph x u.answer)
+    (λ e. inr refl)
+    (λ memory. inl (why-alike m.heap s.graph r.sound.well_formed r.well_made r.stands x))
+
+-- WHAT IS SAID is answered lawfully.
+pub say-answers : (m : Machine) (s : State) (c : Command) (q : Saying) → IsRunning m s → class_of c ≡ says q → AnswersClass s c (say m q).answer (says q)
+say-answers m s c silence r e = refl
+say-answers m s c version r e = (refl, refl, said-done s c (ap is_deed e) (ap moves_none e))
+say-answers m s c (path x) r e = path-answers m s x r
+say-answers m s c census r e = grind (arith, length-census_order)

@@ -2,7 +2,7 @@
 use Rattle.std.specs.Prelude.{IsTrue}
 use Rattle.std.proofs.Common.{ℕ, [], refl, sym, subst}
 use Rattle.cc_model.specs.declared.command.Command.{Command}
-use Rattle.cc_model.specs.declared.command.Command.TheVariants.{Nothing, Version2, Why, Slice, Collect, Gc, Census}
+use Rattle.cc_model.specs.Mutating.{Class, so_many, whole, says, does, runs, collects_scripts, class_of}
 use Rattle.cc_model.specs.Asks.{Ask, taken}
 use Rattle.cc_model.specs.Ranges.{in_range}
 use Rattle.cc_model.specs.View.{view}
@@ -10,13 +10,13 @@ use Rattle.cc_model.specs.Suspected.{IsSuspected}
 use Rattle.cc_model.specs.End.{went_on}
 use Rattle.cc_model.specs.Lawful.{State}
 use Rattle.cc_model.specs.Collecting.{Machine, UnitsDone, no_units, finish_running, slice, collect, gc, enough_units, starting_anew}
-use Rattle.cc_model.specs.Run.{Turn, mutate, do_ask}
+use Rattle.cc_model.specs.Run.{Turn, mutate, do_ask, do_class}
 use Rattle.cc_laws_heap.specs.Sound.{IsSound}
 use Rattle.cc_laws_run.specs.Doomed.{candidates_now, IsSuspectedNow}
 use Rattle.cc_laws_run.specs.Running.{IsRunning, ask_in_range}
 use Rattle.cc_laws_snapshot.proofs.CommandsSuspected.{effects-suspected}
 use Rattle.cc_laws_snapshot.proofs.SweepLoses.{collect_scripts-suspected}
-use Rattle.cc_laws_run.proofs.CommandCases.{mutate-cases, explain-cases}
+use Rattle.cc_laws_run.proofs.CommandCases.{mutate-cases, say-leaves}
 use Rattle.cc_laws_run.proofs.HoldingUnits.{unless_stopped-cases}
 use Rattle.cc_laws_run.proofs.QuietUnits.{IsGoing, units-going, IsGoingOn, gc-collects, finish_running-going, running-going}
 
@@ -57,15 +57,16 @@ module _ (m : Machine) (s : State) (r : IsRunning m s) (suspected : IsSuspectedN
       subst (λ o. IsSuspected (view (gc m).machine.heap) (candidates_now o)) (sym f.4)
       (subst (λ h. IsSuspected (view h) []) (sym f.3) (collect_scripts-suspected f.0 f.1 f.2))
 
+  -- no class of commands forgets one
+  class-suspected : (c : Command) → IsTrue (in_range c) → (k : Class) → IsSuspectedNow (do_class m c k).machine
+  class-suspected c i (says q) = say-leaves m q IsSuspectedNow (λ memory. suspected)
+  class-suspected c i does = mutate-suspected m c r.sound i suspected
+  class-suspected c i (runs (so_many n)) = slice-suspected n
+  class-suspected c i (runs whole) = collect-suspected
+  class-suspected c i collects_scripts = gc-suspected
+
 -- NO ASK FORGETS AN UNREACHED NATIVE.
 pub ask-suspected : (m : Machine) (s : State) (ask : Ask) → IsRunning m s → IsTrue (ask_in_range ask) → IsSuspectedNow m → IsSuspectedNow (do_ask m ask).machine
 unfolding do_ask
-ask-suspected m s (taken (Slice u)) r i t = slice-suspected m s r t u
-ask-suspected m s (taken Collect) r i t = collect-suspected m s r t
-ask-suspected m s (taken Gc) r i t = gc-suspected m s r t
-ask-suspected m s (taken Nothing) r i t = t
-ask-suspected m s (taken Version2) r i t = t
-ask-suspected m s (taken Census) r i t = t
-ask-suspected m s (taken (Why x)) r i t = explain-cases m x (λ (u : Turn). IsSuspectedNow u.machine) t t
-ask-suspected m s (taken c) r i t = mutate-suspected m c r.sound i t
+ask-suspected m s (taken c) r i t = class-suspected m s r t c i (class_of c)
 ask-suspected m s _ r i t = t

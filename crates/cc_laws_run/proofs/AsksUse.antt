@@ -1,25 +1,22 @@
 -- WHAT AN ASK USES of memory's answers: a front of them, with one `no` for each that its answer tells; and where memory is at every place, none is told.
 use Rattle.std.proofs.Common.{◌≡◌, ℕ, Bool, true, false, not, List, [], ◌∷◌, ◌++◌, Option, Some, None, refl, sym, ap, subst, arith}
-use Rattle.cc_names.specs.declared.name.Name.{Name}
 use Rattle.cc_model.specs.declared.command.Command.{Command}
-use Rattle.cc_model.specs.declared.command.Command.TheVariants.{Nothing, Version2, Why, Slice, Collect, Gc, Census}
 use Rattle.cc_model.specs.declared.item.Refusal.{Refusal}
 use Rattle.cc_model.specs.declared.item.Refusal.TheVariants.{NoMemory}
-use Rattle.cc_model.specs.declared.item.Reply.{Reply}
 use Rattle.cc_model.specs.declared.item.Reply.TheVariants.{Refused}
-use Rattle.cc_model.specs.Answers.{Answer}
+use Rattle.cc_model.specs.Answers.{Answer, replying}
+use Rattle.cc_model.specs.Mutating.{Class, Saying, says, does, runs, collects_scripts, class_of, takes_memory_to_say}
 use Rattle.cc_model.specs.Asks.{Ask, taken}
 use Rattle.cc_model.specs.Checks.{Objects, refusal_of, reply_if_taken}
-use Rattle.cc_model.specs.Heap.{objects_of}
+use Rattle.cc_model.specs.Heap.{objects_of, Heap, Outcome}
 use Rattle.cc_model.specs.Effects.{effects, takes_memory}
 use Rattle.cc_model.specs.End.{Progress}
-use Rattle.cc_model.specs.Collecting.{Machine, next_answer, later_answers, UnitsDone, no_units, slice, collect, gc, reply_to_units}
-use Rattle.cc_model.specs.Run.{Turn, answering, with_effects, if_granted, unless_refused, mutate, after_units, after_gc, explain, do_ask}
-use Rattle.cc_model.specs.Derivations.{leads_in, is_led_to, done_or_nothing, why_of}
-use Rattle.cc_laws_run.specs.Memory.{with_memory, noes, noes_of_reply, noes_told}
+use Rattle.cc_model.specs.Collecting.{Machine, next_answer, later_answers, UnitsDone, no_units, gc, reply_to_units}
+use Rattle.cc_model.specs.Run.{Turn, turn_of, answering, if_granted, unless_refused, mutate, after_units, after_gc, do_ask, said, say, run_units, do_class}
+use Rattle.cc_laws_run.specs.Memory.{with_memory, noes, noes_of_reply, noes_told, noes_told_by}
 use Rattle.cc_laws_run.proofs.Unabandoned.{abandonments, TellsNone, effects-none}
-use Rattle.cc_laws_run.proofs.CommandCases.{taken-granted}
-use Rattle.cc_laws_run.proofs.UnitsUse.{refusals, UnitsUse, slice-use, collect-use, gc-use, ample-next, ample-later}
+use Rattle.cc_laws_run.proofs.CommandCases.{taken-granted, said-silent}
+use Rattle.cc_laws_run.proofs.UnitsUse.{refusals, UnitsUse, run_units-use, gc-use, ample-next, ample-later}
 
 -- the same turn, with other answers of memory to come
 abbrev pub turn_with : Turn → List Bool → Turn
@@ -57,23 +54,26 @@ refusal-noes o c = grind arith
 reply-noes : (o : Objects) (c : Command) → noes_of_reply (Some (reply_if_taken o c)) ≡ 0
 reply-noes o c = ap (λ b. elim b [ true ↦ 1 | false ↦ 0 ]) (taken-granted o c)
 
--- Commands of the mutator
+-- Memory
 
--- A command of the mutator uses one answer where it passes its checks and takes memory, and none elsewhere.
-mutate-use : (m : Machine) (c : Command) → TurnUse (λ memory. mutate (with_memory m memory) c) in_reply m.memory (mutate m c)
-unfolding mutate
-mutate-use m c = go (refusal_of (objects_of m.heap) c) (refusal-noes (objects_of m.heap) c)
+-- a turn that asks no memory and tells nothing
+silent-use : (m : Machine) (a : Answer) → noes_of_reply a.reply ≡ 0 → TellsNone a.events →
+    TurnUse (λ memory. turn_of (with_memory m memory) a) in_reply m.memory (turn_of m a)
+silent-use m a reply events = record { used = []; any = λ more. refl; said_no = sym reply; ample = λ e. record { same = refl; memory = e; reply = reply; events = events } }
+
+-- a machine with other heaps, and an answer
+abbrev leaving : (Heap → Heap) → Answer → Machine → Turn
+leaving f a n = turn_of (record n { heap = f n.heap }) a
+
+-- What is done where memory is there uses one answer where it takes some, and none elsewhere.
+granted-use : (m : Machine) (takes : Bool) (f : Heap → Heap) (a : Answer) → noes_of_reply a.reply ≡ 0 → TellsNone a.events →
+    TurnUse (λ memory. if_granted (with_memory m memory) takes (leaving f a)) in_reply m.memory (if_granted m takes (leaving f a))
+granted-use m takes f a replies events = go takes
   where
-    reply : Reply
-    reply = reply_if_taken (objects_of m.heap) c
-
-    replies : noes_of_reply (Some reply) ≡ 0
-    replies = reply-noes (objects_of m.heap) c
-
     answered : Bool → List Bool → Turn
     answered answer memory = elim (not answer) [
       | true ↦ answering (with_memory m memory) [] (Refused NoMemory)
-      | false ↦ with_effects (with_memory m memory) reply (effects m.heap c)
+      | false ↦ leaving f a (with_memory m memory)
     ]
 
     any : (answer : Bool) (memory more : List Bool) → answered answer more ≡ turn_with (answered answer memory) more
@@ -84,24 +84,34 @@ mutate-use m c = go (refusal_of (objects_of m.heap) c) (refusal-noes (objects_of
     said_no true memory = sym replies
     said_no false memory = refl
 
-    by_memory : (takes : Bool) → TurnUse (λ memory. if_granted (with_memory m memory) c takes) in_reply m.memory (if_granted m c takes)
-    by_memory true = record {
+    go : (takes : Bool) → TurnUse (λ memory. if_granted (with_memory m memory) takes (leaving f a)) in_reply m.memory (if_granted m takes (leaving f a))
+    go true = record {
       used = next_answer m.memory ∷ [];
       any = λ more. any (next_answer m.memory) (later_answers m.memory) more;
       said_no = said_no (next_answer m.memory) (later_answers m.memory);
       ample = λ e. subst (λ b. HasAmple (answered true []) (answered b (later_answers m.memory))) (sym (ample-next m.memory e))
-          (record { same = refl; memory = ample-later m.memory e; reply = replies; events = effects-none m.heap c });
+          (record { same = refl; memory = ample-later m.memory e; reply = replies; events = events });
     }
-    by_memory false = record {
+    go false = record {
       used = [];
       any = λ more. refl;
       said_no = sym replies;
-      ample = λ e. record { same = refl; memory = e; reply = replies; events = effects-none m.heap c };
+      ample = λ e. record { same = refl; memory = e; reply = replies; events = events };
     }
 
+-- Commands of the mutator
+
+-- A command of the mutator uses one answer where it passes its checks and takes memory, and none elsewhere.
+mutate-use : (m : Machine) (c : Command) → TurnUse (λ memory. mutate (with_memory m memory) c) in_reply m.memory (mutate m c)
+unfolding mutate
+mutate-use m c = go (refusal_of (objects_of m.heap) c) (refusal-noes (objects_of m.heap) c)
+  where
+    o : Outcome
+    o = effects m.heap c
+
     go : (r : Option Refusal) → noes_of_refusal r ≡ 0 → TurnUse (λ memory. unless_refused (with_memory m memory) c r) in_reply m.memory (unless_refused m c r)
-    go None none = by_memory (takes_memory m.heap c)
-    go (Some refusal) none = record { used = []; any = λ more. refl; said_no = sym none; ample = λ e. record { same = refl; memory = e; reply = none; events = refl } }
+    go None none = granted-use m (takes_memory m.heap c) (λ h. o.heap) (replying o.events (reply_if_taken (objects_of m.heap) c)) (reply-noes (objects_of m.heap) c) (effects-none m.heap c)
+    go (Some refusal) none = silent-use m (replying [] (Refused refusal)) none refl
 
 -- The other commands
 
@@ -119,54 +129,24 @@ after_gc-use : (f : List Bool → UnitsDone) (m : Machine) (r : UnitsDone) → U
     TurnUse (λ memory. after_gc (f memory)) (λ a. abandonments a.events) m.memory (after_gc r)
 after_gc-use f m r u = grind arith
 
--- a turn that asks no memory and tells nothing
-silent-use : (m : Machine) (a : Answer) → noes_of_reply a.reply ≡ 0 → TellsNone a.events →
-    TurnUse (λ memory. record { machine = with_memory m memory; answer = a }) in_reply m.memory (record { machine = m; answer = a })
-silent-use m a reply events = record { used = []; any = λ more. refl; said_no = sym reply; ample = λ e. record { same = refl; memory = e; reply = reply; events = events } }
+-- what is said tells no want of memory
+said-noes : (h : Heap) (q : Saying) → noes_of_reply (said h q).reply ≡ 0
+said-noes h q = grind arith
 
--- `why` uses one answer
-explain-use : (m : Machine) (x : Name) → TurnUse (λ memory. explain (with_memory m memory) x) in_reply m.memory (explain m x)
-explain-use m x = record {
-  used = next_answer m.memory ∷ [];
-  any = λ more. any (next_answer m.memory) (later_answers m.memory) more;
-  said_no = said_no (next_answer m.memory) (later_answers m.memory);
-  ample = λ e. subst (λ b. HasAmple (answered true []) (answered b (later_answers m.memory))) (sym (ample-next m.memory e))
-      (record { same = refl; memory = ample-later m.memory e; reply = replies; events = refl });
-}
-  where
-    told : Answer
-    told = why_of (leads_in m.heap) x
+-- it uses one answer where it takes memory, and none elsewhere
+say-use : (m : Machine) (q : Saying) → TurnUse (λ memory. say (with_memory m memory) q) in_reply m.memory (say m q)
+say-use m q = granted-use m (takes_memory_to_say q) (λ h. h) (said m.heap q) (said-noes m.heap q)
+    (subst TellsNone (sym (said-silent m.heap q)) refl)
 
-    replies : noes_of_reply told.reply ≡ 0
-    replies = go (is_led_to (leads_in m.heap) x)
-      where
-        go : (b : Bool) → noes_of_reply (Some (done_or_nothing b)) ≡ 0
-        go true = refl
-        go false = refl
-
-    answered : Bool → List Bool → Turn
-    answered answer memory = elim answer [
-      | true ↦ record { machine = with_memory m memory; answer = told }
-      | false ↦ answering (with_memory m memory) [] (Refused NoMemory)
-    ]
-
-    any : (answer : Bool) (memory more : List Bool) → answered answer more ≡ turn_with (answered answer memory) more
-    any true memory more = refl
-    any false memory more = refl
-
-    said_no : (answer : Bool) (memory : List Bool) → noes (answer ∷ []) ≡ in_reply (answered answer memory).answer
-    said_no true memory = sym replies
-    said_no false memory = refl
+-- a command of each class uses a front of them
+class-use : (m : Machine) (c : Command) (k : Class) → TurnUse (λ memory. do_class (with_memory m memory) c k) (noes_told_by k) m.memory (do_class m c k)
+class-use m c (says q) = say-use m q
+class-use m c does = mutate-use m c
+class-use m c (runs u) = after_units-use (λ memory. run_units (with_memory m memory) u) m (run_units m u) (run_units-use u m)
+class-use m c collects_scripts = after_gc-use (λ memory. gc (with_memory m memory)) m (gc m) (gc-use m)
 
 -- AN ASK USES A FRONT OF MEMORY'S ANSWERS.
 pub ask-use : (m : Machine) (ask : Ask) → TurnUse (λ memory. do_ask (with_memory m memory) ask) (noes_told ask) m.memory (do_ask m ask)
 unfolding do_ask
-ask-use m (taken (Slice n)) = after_units-use (λ memory. slice n (with_memory m memory)) m (slice n m) (slice-use n m)
-ask-use m (taken Collect) = after_units-use (λ memory. collect (with_memory m memory)) m (collect m) (collect-use m)
-ask-use m (taken Gc) = after_gc-use (λ memory. gc (with_memory m memory)) m (gc m) (gc-use m)
-ask-use m (taken Nothing) = silent-use m _ refl refl
-ask-use m (taken Version2) = silent-use m _ refl refl
-ask-use m (taken Census) = silent-use m _ refl refl
-ask-use m (taken (Why x)) = explain-use m x
-ask-use m (taken c) = mutate-use m c
+ask-use m (taken c) = class-use m c (class_of c)
 ask-use m _ = silent-use m _ refl refl

@@ -1,25 +1,25 @@
--- `slice`, `collect` and `gc` are answered lawfully and leave a machine that runs.
-use Rattle.std.specs.Prelude.{IsTrue}
-use Rattle.std.proofs.Common.{arith, ◌≡◌, ℕ, true, false, not, ◌&&◌, List, Some, None, refl, sym, subst, inl}
-use Rattle.std.proofs.lemmas.Bool.{false≢true, le-leb}
+-- UNITS AND SCRIPT COLLECTIONS are answered lawfully and leave a machine that runs.
+use Rattle.std.specs.Prelude.{IsTrue, nat_le}
+use Rattle.std.proofs.Common.{arith, ◌≡◌, true, false, not, ◌&&◌, List, Some, None, refl, sym, subst, ap, inl}
+use Rattle.std.proofs.lemmas.Bool.{false≢true, le-leb, or_left}
 use Rattle.cc_names.specs.declared.name.Name.{Name}
 use Rattle.cc_model.specs.declared.command.Command.{Command}
-use Rattle.cc_model.specs.declared.command.Command.TheVariants.{Slice, Collect, Gc}
 use Rattle.cc_model.specs.declared.item.Event.{Event}
 use Rattle.cc_model.specs.declared.item.Reply.TheVariants.{Done}
-use Rattle.cc_model.specs.Answers.{replying}
+use Rattle.cc_model.specs.Mutating.{Running, runs as runs_some, collects_scripts, class_of, is_deed, is_units, is_script_collection}
 use Rattle.cc_model.specs.Asks.{taken}
-use Rattle.cc_model.specs.Checks.{refusal_of, reply_if_taken}
-use Rattle.cc_model.specs.Graph.{Graph, objects_of, changed, step, reply_to}
+use Rattle.cc_model.specs.Checks.{refusal_of}
+use Rattle.cc_model.specs.Graph.{Graph, objects_of, step, reply_to}
 use Rattle.cc_model.specs.WellMade.{IsWellMade}
 use Rattle.cc_model.specs.End.{Progress}
-use Rattle.cc_model.specs.Collecting.{Machine, UnitsDone, slice, collect, gc, reply_to_units}
+use Rattle.cc_model.specs.Collecting.{Machine, UnitsDone, gc, reply_to_units}
 use Rattle.cc_model.specs.Listed.{after_events}
-use Rattle.cc_model.specs.Run.{do_ask}
-use Rattle.cc_model.specs.Lawful.{State, AnswersAsk, next, AnswersCommand, RepliesWith, EachMayBe, graph_after, may_want_memory, is_refused, is_abandoning, is_gc, runs_units, runs, runs_allowed, unlinked_numbers, has_abandonment_in_place}
+use Rattle.cc_model.specs.Run.{run_units, after_units, after_gc}
+use Rattle.cc_model.specs.Lawful.{State, AnswersClass, class_may_want_memory, runs_in, next, AnswersCommand, RepliesWith, EachMayBe, graph_after, may_want_memory, is_refused, is_abandoning, is_gc, runs_units, runs, runs_allowed, unlinked_numbers, has_abandonment_in_place}
+use Rattle.cc_model.proofs.NoDeeds.{no_deed-allowed, no_deed-reply, no_deed-leaves, no_deed-graph, no_deed-lists}
 use Rattle.cc_laws_run.specs.Running.{IsRunning}
 use Rattle.cc_laws_run.proofs.UnitLawful.{RunsOn}
-use Rattle.cc_laws_run.proofs.UnitsLawful.{IsPlaced, IsLawfulRow, slice-lawful, collect-lawful}
+use Rattle.cc_laws_run.proofs.UnitsLawful.{IsPlaced, IsLawfulRow, units-lawful}
 use Rattle.cc_laws_run.proofs.ScriptsLawful.{GcIsLawful, gc-lawful}
 
 -- what a machine that runs has
@@ -30,9 +30,9 @@ running-on m s r = record { sound = r.sound; colours = r.colours; fresh = r.fres
 runs-from : (m : Machine) (s : State) (g : Graph) (names : List Name) → IsWellMade g → RunsOn g names m.heap m.snapshot → s.graph ≡ g → s.listed ≡ names → IsRunning m s
 runs-from m s g names well r graph names_are = grind arith
 
--- Slices and collections
+-- Units
 
--- what a slice and a collection have in common: they are not refused, they are done, and they leave the graph
+-- what commands that run units have in common: they are not refused, they are done, and they leave the graph
 pub record MovesUnits (s : State) (c : Command) : Type 0 where
   pub units : runs_units c ≡ true
   pub no_gc : is_gc c ≡ false
@@ -41,15 +41,19 @@ pub record MovesUnits (s : State) (c : Command) : Type 0 where
   pub reply : Done ≡ reply_to s.graph c
   pub left : step s.graph c ≡ s.graph
 
--- a slice has it
-slice-moves : (s : State) (u : ℕ) → MovesUnits s (Slice u)
-unfolding refusal_of reply_if_taken changed
-slice-moves s u = record { units = refl; no_gc = refl; may = refl; taken = refl; reply = refl; left = refl }
-
--- and so has a collection
-collect-moves : (s : State) → MovesUnits s Collect
-unfolding refusal_of reply_if_taken changed
-collect-moves s = record { units = refl; no_gc = refl; may = refl; taken = refl; reply = refl; left = refl }
+-- commands that run units have it, by their class
+units-move : (s : State) (c : Command) (u : Running) → class_of c ≡ runs_some u → MovesUnits s c
+units-move s c u e = record {
+  units = ap is_units e;
+  no_gc = ap is_script_collection e;
+  may = ap (class_may_want_memory s c) e;
+  taken = no_deed-allowed c none (objects_of s.graph);
+  reply = sym (no_deed-reply c none (objects_of s.graph));
+  left = no_deed-leaves c none s.graph;
+}
+  where
+    none : is_deed (class_of c) ≡ false
+    none = ap is_deed e
 
 module _ (s : State) (c : Command) (t : MovesUnits s c) where
   -- the graph stays as it is
@@ -72,61 +76,52 @@ module _ (s : State) (c : Command) (t : MovesUnits s c) where
   row-answers : (d : UnitsDone) → IsLawfulRow s.graph s.listed c (runs_allowed c) d → AnswersCommand s c (reply_to_units d.progress) d.events
   row-answers d r = grind (arith, never-quiet, graph-left, le-leb, is-placed)
 
--- A SLICE is answered lawfully,
-pub slice-answers : (m : Machine) (s : State) (u : ℕ) → IsRunning m s → AnswersAsk s (taken (Slice u)) (do_ask m (taken (Slice u))).answer
-unfolding do_ask
-slice-answers m s u r =
-    (refl, refl, row-answers s (Slice u) (slice-moves s u) (slice u m) (slice-lawful s.graph r.well_made (Slice u) refl s.listed u m (running-on m s r)))
+module _ (m : Machine) (s : State) (c : Command) (u : Running) (r : IsRunning m s) (is : class_of c ≡ runs_some u) where
+  -- what they tell and come to
+  row : IsLawfulRow s.graph s.listed c (runs_allowed c) (run_units m u)
+  row = subst (λ n. IsLawfulRow s.graph s.listed c n (run_units m u)) (sym (ap runs_in is))
+      (units-lawful s.graph r.well_made c (or_left (runs_units c) (is_gc c) (ap is_units is)) s.listed u m (running-on m s r))
 
--- and leaves a machine that runs.
-pub slice-runs : (m : Machine) (s : State) (u : ℕ) → IsRunning m s →
-    IsRunning (do_ask m (taken (Slice u))).machine (next s (taken (Slice u)) (do_ask m (taken (Slice u))).answer)
-unfolding do_ask
-slice-runs m s u r = runs-from (slice u m).machine (next s (taken (Slice u)) (replying (slice u m).events (reply_to_units (slice u m).progress)))
-    s.graph (after_events s.listed (slice u m).events) r.well_made
-    (slice-lawful s.graph r.well_made (Slice u) refl s.listed u m (running-on m s r)).still
-    (graph-left s (Slice u) (slice-moves s u) (slice u m).progress) refl
+  -- UNITS are answered lawfully.
+  pub units-answers : AnswersClass s c (after_units (run_units m u)).answer (runs_some u)
+  units-answers = (refl, refl, row-answers s c (units-move s c u is) (run_units m u) row)
 
--- A COLLECTION is answered lawfully,
-pub collect-answers : (m : Machine) (s : State) → IsRunning m s → AnswersAsk s (taken Collect) (do_ask m (taken Collect)).answer
-unfolding do_ask
-collect-answers m s r =
-    (refl, refl, row-answers s Collect (collect-moves s) (collect m) (collect-lawful s.graph r.well_made Collect refl s.listed m (running-on m s r)))
+  -- THEY LEAVE A MACHINE that runs.
+  pub units-runs : IsRunning (after_units (run_units m u)).machine (next s (taken c) (after_units (run_units m u)).answer)
+  units-runs = runs-from (run_units m u).machine (next s (taken c) (after_units (run_units m u)).answer)
+      s.graph (after_events s.listed (run_units m u).events) r.well_made row.still
+      (graph-left s c (units-move s c u is) (run_units m u).progress)
+      (no_deed-lists c (ap is_deed is) (after_events s.listed (run_units m u).events) (Some (reply_to_units (run_units m u).progress)))
 
--- and leaves a machine that runs.
-pub collect-runs : (m : Machine) (s : State) → IsRunning m s →
-    IsRunning (do_ask m (taken Collect)).machine (next s (taken Collect) (do_ask m (taken Collect)).answer)
-unfolding do_ask
-collect-runs m s r = runs-from (collect m).machine (next s (taken Collect) (replying (collect m).events (reply_to_units (collect m).progress)))
-    s.graph (after_events s.listed (collect m).events) r.well_made
-    (collect-lawful s.graph r.well_made Collect refl s.listed m (running-on m s r)).still
-    (graph-left s Collect (collect-moves s) (collect m).progress) refl
+-- Script collections
 
--- Gc
+module _ (m : Machine) (s : State) (c : Command) (r : IsRunning m s) (is : class_of c ≡ collects_scripts) where
+  none : is_deed (class_of c) ≡ false
+  none = ap is_deed is
 
--- it is done, and leaves the graph
-gc-done : (s : State) → (Done ≡ reply_to s.graph Gc) × (step s.graph Gc ≡ s.graph)
-unfolding refusal_of reply_if_taken changed
-gc-done s = (refl, refl)
+  lawful : GcIsLawful s.graph s.listed c (gc m)
+  lawful = gc-lawful s.graph r.well_made c (ap is_script_collection is) s.listed m (running-on m s r)
 
--- GC is answered lawfully,
-pub gc-answers : (m : Machine) (s : State) → IsRunning m s → AnswersAsk s (taken Gc) (do_ask m (taken Gc)).answer
-unfolding do_ask
-gc-answers m s r =
-    let l : GcIsLawful s.graph s.listed (gc m) = gc-lawful s.graph r.well_made s.listed m (running-on m s r) in (
-      refl,
-      refl,
-      record {
-        replies = inl (gc-done s).0;
-        quiet = λ q. absurd (false≢true q);
-        each = subst (λ g. EachMayBe g s.listed Gc (gc m).events) (sym (gc-done s).1) l.each;
-        rising = le-leb (runs (unlinked_numbers (gc m).events)) 1 l.few;
-        abandonment = l.begins;
-      },
-    )
+  -- an abandonment stands first
+  begins-placed : has_abandonment_in_place c Done (gc m).events ≡ true
+  begins-placed = grind (arith, lawful.begins, ap is_script_collection is)
 
--- and leaves a machine that runs.
-pub gc-runs : (m : Machine) (s : State) → IsRunning m s → IsRunning (do_ask m (taken Gc)).machine (next s (taken Gc) (do_ask m (taken Gc)).answer)
-unfolding do_ask
-gc-runs m s r = runs-from (gc m).machine (next s (taken Gc) (replying (gc m).events Done)) s.graph (after_events s.listed (gc m).events) r.well_made
-    (gc-lawful s.graph r.well_made s.listed m (running-on m s r)).still (gc-done s).1 refl
+  -- A SCRIPT COLLECTION is answered lawfully.
+  pub gc-answers : AnswersClass s c (after_gc (gc m)).answer collects_scripts
+  gc-answers = (
+    refl,
+    refl,
+    record {
+      replies = inl (sym (no_deed-reply c none (objects_of s.graph)));
+      quiet = λ q. absurd (false≢true q);
+      each = subst (λ g. EachMayBe g s.listed c (gc m).events) (sym (no_deed-leaves c none s.graph)) lawful.each;
+      rising = subst (λ n. IsTrue (nat_le (runs (unlinked_numbers (gc m).events)) n)) (sym (ap runs_in is))
+          (le-leb (runs (unlinked_numbers (gc m).events)) 1 lawful.few);
+      abandonment = begins-placed;
+    },
+  )
+
+  -- IT LEAVES A MACHINE that runs.
+  pub gc-runs : IsRunning (after_gc (gc m)).machine (next s (taken c) (after_gc (gc m)).answer)
+  gc-runs = runs-from (gc m).machine (next s (taken c) (after_gc (gc m)).answer) s.graph (after_events s.listed (gc m).events) r.well_made
+      lawful.still (no_deed-graph c none s.graph (Some Done)) (no_deed-lists c none (after_events s.listed (gc m).events) (Some Done))

@@ -1,23 +1,38 @@
 -- A COMMAND OF THE MUTATOR IS REFUSED, OR WANTS MEMORY, OR IS DONE: what then becomes of the graph and of the listed names.
-use Rattle.std.proofs.Common.{arith, ◌≡◌, Bool, true, false, List, [], Option, Some, None, refl, ap}
+use Rattle.std.proofs.Common.{arith, ◌≡◌, Bool, true, false, List, [], Option, Some, None, refl, ap, ◌∙◌, not}
 use Rattle.cc_names.specs.declared.name.Name.{Name}
 use Rattle.cc_model.specs.declared.command.Command.{Command}
 use Rattle.cc_model.specs.declared.item.Refusal.{Refusal}
 use Rattle.cc_model.specs.declared.item.Refusal.TheVariants.{NoMemory}
 use Rattle.cc_model.specs.declared.item.Reply.{Reply}
 use Rattle.cc_model.specs.declared.item.Reply.TheVariants.{Refused}
+use Rattle.cc_model.specs.Mutating.{Saying, takes_memory_to_say, class_of, is_deed}
 use Rattle.cc_model.specs.Asks.{taken}
-use Rattle.cc_model.specs.Answers.{replying}
+use Rattle.cc_model.specs.Answers.{replying, Answer}
 use Rattle.cc_model.specs.Checks.{Objects, refusal_of, reply_if_taken, named_or_nothing}
 use Rattle.cc_model.specs.Graph as graph
 use Rattle.cc_model.specs.Graph.{Graph, changed, step}
-use Rattle.cc_model.specs.Heap.{objects_of}
+use Rattle.cc_model.specs.Heap.{objects_of, Heap}
 use Rattle.cc_model.specs.Effects.{effects, takes_memory}
-use Rattle.cc_model.specs.Listed.{listed}
+use Rattle.cc_model.specs.Listed.{listed, after_events, after_reply}
 use Rattle.cc_model.specs.Lawful.{State, next, graph_after, is_refused, is_without_memory, state_of}
-use Rattle.cc_model.specs.Collecting.{Machine, later_answers}
-use Rattle.cc_model.specs.Derivations.{leads_in, why_of}
-use Rattle.cc_model.specs.Run.{Turn, answering, with_effects, mutate, explain, turn_of}
+use Rattle.cc_model.specs.Collecting.{Machine, later_answers, next_answer}
+use Rattle.cc_model.specs.Run.{Turn, answering, with_effects, mutate, if_granted, said, say, unless_refused, turn_of}
+use Rattle.cc_model.proofs.NoDeeds.{no_deed-graph, no_deed-lists}
+
+-- Whatever holds where memory is wanted and where it is there holds of the turn.
+pub granted-cases : (m : Machine) (takes : Bool) (done : Machine → Turn) (P : Turn → Type 0) →
+    (takes ≡ true → P (answering (record m { memory = later_answers m.memory }) [] (Refused NoMemory))) →
+    ((memory : List Bool) → P (done (record m { memory = memory }))) → P (if_granted m takes done)
+granted-cases m false done P unmet met = met m.memory
+granted-cases m true done P unmet met = go (next_answer m.memory)
+  where
+    used : Machine
+    used = record m { memory = later_answers m.memory }
+
+    go : (answer : Bool) → P (elim (not answer) [ true ↦ answering used [] (Refused NoMemory) | false ↦ done used ])
+    go true = met (later_answers m.memory)
+    go false = unmet refl
 
 -- Whatever holds where the command is refused, where it wants memory and where it is done, holds of the turn.
 pub mutate-cases : (m : Machine) (c : Command) (P : Turn → Type 0) →
@@ -27,13 +42,28 @@ pub mutate-cases : (m : Machine) (c : Command) (P : Turn → Type 0) →
     P (with_effects (record m { memory = memory }) (reply_if_taken (objects_of m.heap) c) (effects m.heap c))) →
     P (mutate m c)
 unfolding mutate
-mutate-cases m c P refused unmet done = grind arith
+mutate-cases m c P refused unmet done = go (refusal_of (objects_of m.heap) c) refl
+  where
+    go : (o : Option Refusal) → refusal_of (objects_of m.heap) c ≡ o → P (unless_refused m c o)
+    go (Some refusal) e = refused refusal e
+    go None e = granted-cases m (takes_memory m.heap c) (λ n. with_effects n (reply_if_taken (objects_of m.heap) c) (effects m.heap c)) P
+        (unmet e) (done e)
 
--- Whatever holds where a way is told and where memory is wanted holds of the turn that answers `why`.
-pub explain-cases : (m : Machine) (x : Name) (P : Turn → Type 0) →
-    P (record { machine = record m { memory = later_answers m.memory }; answer = why_of (leads_in m.heap) x }) →
-    P (answering (record m { memory = later_answers m.memory }) [] (Refused NoMemory)) → P (explain m x)
-explain-cases m x P told unmet = grind arith
+-- What is said
+
+-- WHAT IS SAID LEAVES THE MACHINE, but for memory's answers.
+pub say-leaves : (m : Machine) (q : Saying) (P : Machine → Type 0) → ((memory : List Bool) → P (record m { memory = memory })) → P (say m q).machine
+say-leaves m q P keeps = granted-cases m (takes_memory_to_say q) (λ n. turn_of n (said m.heap q)) (λ (u : Turn). P u.machine)
+    (λ e. keeps (later_answers m.memory)) keeps
+
+-- what is said tells no event
+pub said-silent : (h : Heap) (q : Saying) → (said h q).events ≡ []
+said-silent h q = grind arith
+
+-- the turn tells none either, with memory or without
+pub say-silent : (m : Machine) (q : Saying) → (say m q).answer.events ≡ []
+say-silent m q = granted-cases m (takes_memory_to_say q) (λ n. turn_of n (said m.heap q)) (λ (u : Turn). u.answer.events ≡ [])
+    (λ e. refl) (λ memory. said-silent m.heap q)
 
 -- Replies
 
@@ -72,7 +102,7 @@ listed-refused names c refusal = grind arith
 -- the state after a refusal that leaves the graph is the state before it
 next-state : (s : State) (c : Command) (refusal : Refusal) → graph_after s.graph c (Some (Refused refusal)) ≡ s.graph →
     next s (taken c) (replying [] (Refused refusal)) ≡ s
-next-state s c refusal e = λ i. record { graph = e i; listed = listed-refused s.listed c refusal i }
+next-state s c refusal e = λ i. state_of (e i) (listed-refused s.listed c refusal i)
 
 -- a command that is refused leaves the state
 pub next-refused : (s : State) (c : Command) (refusal : Refusal) → refusal_of (graph.objects_of s.graph) c ≡ Some refusal →
@@ -82,3 +112,10 @@ next-refused s c refusal e = next-state s c refusal (graph_after-refused s.graph
 -- and so does one that wants memory
 pub next-unmet : (s : State) (c : Command) → next s (taken c) (replying [] (Refused NoMemory)) ≡ s
 next-unmet s c = next-state s c NoMemory refl
+
+-- a command that does no deed leaves the state where nothing is told, whatever is replied
+pub next-no_deed : (s : State) (c : Command) (a : Answer) → is_deed (class_of c) ≡ false → a.events ≡ [] → next s (taken c) a ≡ s
+next-no_deed s c a none silent = λ i. state_of (no_deed-graph c none s.graph a.reply i) (after i)
+  where
+    after : listed s.listed c a.events a.reply ≡ s.listed
+    after = ap (λ es. listed s.listed c es a.reply) silent ∙ no_deed-lists c none s.listed a.reply

@@ -2,9 +2,9 @@
 use Rattle.std.proofs.Common.{arith, ◌≡◌, ◌≢◌, ℕ, Bool, true, false, List, [], ◌∷◌, ◌++◌, Option, Some, None, is_some, refl, sym, ◌∙◌, ap, subst, inl, inr}
 use Rattle.std.proofs.lemmas.List.{append_assoc, append-nil}
 use Rattle.cc_names.specs.declared.name.Name.{Name}
-use Rattle.cc_model.specs.declared.command.Command.TheVariants.{Slice, Collect, Gc}
 use Rattle.cc_model.specs.declared.item.Event.{Event}
 use Rattle.cc_model.specs.Answers.{Answer}
+use Rattle.cc_model.specs.Mutating.{Class, so_many, whole, runs, collects_scripts, class_of}
 use Rattle.cc_model.specs.Asks.{Ask, taken}
 use Rattle.cc_model.specs.Heap.{Heap}
 use Rattle.cc_model.specs.Snapshot.{Snapshot}
@@ -12,8 +12,8 @@ use Rattle.cc_model.specs.Sweep.{collect_scripts}
 use Rattle.cc_model.specs.Units.{first_untraversed}
 use Rattle.cc_model.specs.End.{Progress, went_on, UnitDone, granted, node_or_end, unit}
 use Rattle.cc_model.specs.Collecting.{Machine, UnitsDone, no_units, next_answer, units_done, enough_units, to_the_end, finish_running, slice, starting_anew, unless_stopped, collect, gc}
-use Rattle.cc_model.specs.Run.{Turn, do_ask, turns, machine_after}
-use Rattle.cc_laws_run.specs.Followed.{first_units, then_later, first_collection}
+use Rattle.cc_model.specs.Run.{Turn, do_ask, turns, machine_after, do_class}
+use Rattle.cc_laws_run.specs.Followed.{first_units, then_later, first_collection, first_units_of}
 use Rattle.cc_laws_run.specs.Missing.{AreTold}
 use Rattle.cc_laws_run.proofs.QuietUnits.{collect-none}
 use Rattle.cc_laws_run.proofs.UnitLawful.{unit-cases}
@@ -53,9 +53,13 @@ collect-begins m =
 -- the answer to an ask begins with what the first collection tells under it
 ask-begins : (m : Machine) (ask : Ask) → BeginsWith (first_units m ask).events (do_ask m ask).answer.events
 unfolding do_ask gc
-ask-begins m (taken (Slice n)) = ([], sym (append-nil (slice n m).events))
-ask-begins m (taken Collect) = collect-begins m
-ask-begins m (taken Gc) = ((collect_scripts (finish_running m).machine.heap).events, refl)
+ask-begins m (taken c) = go (class_of c)
+  where
+    go : (k : Class) → BeginsWith (first_units_of m (do_class m c k).machine k).events (do_class m c k).answer.events
+    go (runs (so_many n)) = ([], sym (append-nil (slice n m).events))
+    go (runs whole) = collect-begins m
+    go collects_scripts = ((collect_scripts (finish_running m).machine.heap).events, refl)
+    go k = ((do_class m c k).answer.events, refl)
 ask-begins m ask = ((do_ask m ask).answer.events, refl)
 
 -- nothing is told where the collection goes on

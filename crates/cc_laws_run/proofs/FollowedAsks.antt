@@ -2,14 +2,15 @@
 -- abandoned itself. One that begins right after `gc` can't miss what was lost.
 use Rattle.std.specs.Prelude.{IsTrue}
 use Rattle.std.specs.List.{list_all}
-use Rattle.std.proofs.Common.{◌≡◌, ◌≢◌, ℕ, zero, suc, ◌<◌, true, List, [], ◌∷◌, ◌++◌, None, refl, sym, ◌∙◌, ap, subst, arith}
+use Rattle.std.proofs.Common.{◌≡◌, ◌≢◌, ℕ, zero, suc, ◌<◌, true, List, [], ◌∷◌, ◌++◌, None, refl, sym, ◌∙◌, ap, subst, arith, false}
 use Rattle.std.proofs.lemmas.Bool.{false≢true, and_parts}
 use Rattle.cc_lists.specs.Members.{Among}
 use Rattle.cc_names.specs.declared.name.Name.{Name}
 use Rattle.cc_model.specs.declared.command.Command.{Command}
-use Rattle.cc_model.specs.declared.command.Command.TheVariants.{Nothing, Version2, Why, Slice, Collect, Gc, Census}
+use Rattle.cc_model.specs.declared.command.Command.TheVariants.{Gc}
 use Rattle.cc_model.specs.declared.item.Event.{Event}
 use Rattle.cc_model.specs.declared.item.Event.TheVariants.{Abandoned}
+use Rattle.cc_model.specs.Mutating.{Class, so_many, whole, says, does, runs, collects_scripts, class_of, is_deed}
 use Rattle.cc_model.specs.Asks.{Ask, taken}
 use Rattle.cc_model.specs.Graph.{Graph}
 use Rattle.cc_model.specs.WellMade.{IsWellMade}
@@ -20,18 +21,19 @@ use Rattle.cc_model.specs.Units.{begun, with_empty_buffer}
 use Rattle.cc_model.specs.End.{Progress, went_on, at_end, refused}
 use Rattle.cc_model.specs.Lawful.{State, next}
 use Rattle.cc_model.specs.Collecting.{Machine, UnitsDone, no_units, one_unit, units_done, enough_units, to_the_end, finish_running, slice, starting_anew, collect, gc}
-use Rattle.cc_model.specs.Run.{Turn, mutate, do_ask, machine_after}
+use Rattle.cc_model.specs.Run.{Turn, mutate, do_ask, machine_after, do_class}
 use Rattle.cc_model.proofs.UnitsEnd.{to_the_end-stops}
+use Rattle.cc_model.proofs.NoDeeds.{no_deed-in_range}
 use Rattle.cc_laws_heap.specs.Sound.{IsSound}
 use Rattle.cc_laws_run.specs.Running.{IsRunning, ask_in_range}
 use Rattle.cc_laws_run.specs.Doomed.{IsDoomed, IsDoomedNow, IsSuspectedNow, KeepsReflectors, AreUnlinked, garbage}
-use Rattle.cc_laws_run.specs.Followed.{first_units, first_collection}
-use Rattle.cc_laws_run.specs.Missing.{MissesNone, begins_one, lost}
+use Rattle.cc_laws_run.specs.Followed.{first_units, first_collection, first_units_of}
+use Rattle.cc_laws_run.specs.Missing.{MissesNone, begins_one, lost, has_units}
 use Rattle.cc_laws_run.specs.Spent.{IsSpent}
-use Rattle.cc_laws_run.proofs.CommandCases.{mutate-cases, explain-cases}
+use Rattle.cc_laws_run.proofs.CommandCases.{mutate-cases, say-leaves}
 use Rattle.cc_laws_run.proofs.TouchedCommands.{doomed-effects}
 use Rattle.cc_laws_run.proofs.DoomedBegin.{collected-doomed}
-use Rattle.cc_laws_run.proofs.CollectionsLawful.{running-on, slice-runs, collect-runs, gc-runs}
+use Rattle.cc_laws_run.proofs.CollectionsLawful.{running-on}
 use Rattle.cc_laws_run.proofs.PlainLawful.{any-runs}
 use Rattle.cc_laws_run.proofs.QuietUnits.{gc-collects, running-going}
 use Rattle.cc_laws_run.proofs.MissesLost.{lost-doomed}
@@ -119,19 +121,22 @@ mutate-follows m c ds sound keeps d = mutate-cases m c (λ (u : Turn). IsDoomedN
     (λ e f. d)
     (λ e memory. (d.0, d.1, doomed-effects d.0 ds m.heap c sound.well_formed keeps d.2))
 
+-- A COLLECTION THAT CAN'T MISS NAMES, under a command of any class
+class-follows : (m : Machine) (s : State) (c : Command) (ds : List Name) → IsRunning m s → KeepsReflectors ds → IsDoomedNow m ds → (k : Class) →
+    let n = (do_class m c k).machine in let d = first_units_of m n k in IsFollowed ds d.events d.progress n
+unfolding slice
+class-follows m s c ds r keeps d (says q) = (refl, say-leaves m q (λ n. IsDoomedNow n ds) (λ memory. d))
+class-follows m s c ds r keeps d does = (refl, mutate-follows m c ds r.sound keeps d)
+class-follows m s c ds r keeps d (runs (so_many u)) = settled s.graph r.well_made ds (slice u m) (units-settle m s ds r d u)
+class-follows m s c ds r keeps d (runs whole) = let t = ended m s ds r d in
+    stopped s.graph r.well_made ds m (collect m).machine t (collect-spent s.graph r.well_made ds m t)
+class-follows m s c ds r keeps d collects_scripts = gc-follows m s ds r d
+
 -- A COLLECTION THAT CAN'T MISS NAMES, under any ask
 pub ask-follows : (m : Machine) (s : State) (ask : Ask) (ds : List Name) → IsRunning m s → KeepsReflectors ds → IsDoomedNow m ds →
     IsFollowed ds (first_units m ask).events (first_units m ask).progress (do_ask m ask).machine
-unfolding do_ask slice
-ask-follows m s (taken (Slice u)) ds r keeps d = settled s.graph r.well_made ds (slice u m) (units-settle m s ds r d u)
-ask-follows m s (taken Collect) ds r keeps d = let t = ended m s ds r d in
-    stopped s.graph r.well_made ds m (collect m).machine t (collect-spent s.graph r.well_made ds m t)
-ask-follows m s (taken Gc) ds r keeps d = gc-follows m s ds r d
-ask-follows m s (taken Nothing) ds r keeps d = (refl, d)
-ask-follows m s (taken Version2) ds r keeps d = (refl, d)
-ask-follows m s (taken Census) ds r keeps d = (refl, d)
-ask-follows m s (taken (Why x)) ds r keeps d = (refl, explain-cases m x (λ (u : Turn). IsDoomedNow u.machine ds) d d)
-ask-follows m s (taken c) ds r keeps d = (refl, mutate-follows m c ds r.sound keeps d)
+unfolding do_ask
+ask-follows m s (taken c) ds r keeps d = class-follows m s c ds r keeps d (class_of c)
 ask-follows m s _ ds r keeps d = (refl, d)
 
 -- The ask that begins it
@@ -143,17 +148,29 @@ module _ (m : Machine) (s : State) (ds : List Name) (r : IsRunning m s) (none : 
   some-settle zero p = absurd (omega (arith, p))
   some-settle (suc n) p = units_done-settle s.graph r.well_made ds n (one_unit m []) (first-settles s.graph r.well_made ds s.listed m (running-on m s r) none doomed)
 
+  -- under a command that has units
+  has_units-follow : (c : Command) (k : Class) → has_units k ≡ true →
+      let n = (do_class m c k).machine in let d = first_units_of m n k in IsFollowed ds d.events d.progress n
+  unfolding slice
+  has_units-follow c (runs (so_many (suc n))) e = settled s.graph r.well_made ds (slice (suc n) m) (some-settle (suc n) (omega arith))
+  has_units-follow c (runs whole) e = let t = some-settle (enough_units m) (omega arith) in
+      stopped s.graph r.well_made ds m (collect m).machine t (collect-spent s.graph r.well_made ds m t)
+  has_units-follow c _ e = absurd (false≢true e)
+
   -- under an ask that begins a collection
   pub begin-follows : (ask : Ask) → begins_one ask ≡ true → IsFollowed ds (first_units m ask).events (first_units m ask).progress (do_ask m ask).machine
-  unfolding do_ask slice
-  begin-follows (taken (Slice (suc n))) e = settled s.graph r.well_made ds (slice (suc n) m) (some-settle (suc n) (omega arith))
-  begin-follows (taken Collect) e = let t = some-settle (enough_units m) (omega arith) in
-      stopped s.graph r.well_made ds m (collect m).machine t (collect-spent s.graph r.well_made ds m t)
+  unfolding do_ask
+  begin-follows (taken c) e = has_units-follow c (class_of c) e
   begin-follows _ e = absurd (false≢true e)
+
+-- units are no deed
+has_units-no_deed : (k : Class) → has_units k ≡ true → is_deed k ≡ false
+has_units-no_deed k e = grind arith
 
 -- an ask that begins a collection leaves a machine that runs
 pub begin-runs : (m : Machine) (s : State) (ask : Ask) → IsRunning m s → begins_one ask ≡ true → IsRunning (do_ask m ask).machine (next s ask (do_ask m ask).answer)
-begin-runs m s ask r e = grind (arith, slice-runs, collect-runs)
+begin-runs m s (taken c) r e = any-runs m s (taken c) r (no_deed-in_range c (has_units-no_deed (class_of c) e))
+begin-runs m s _ r e = absurd (false≢true e)
 
 -- Asks in a row
 
@@ -202,7 +219,7 @@ followed-gone m s asks ds r f unrefused x i = grind (arith, first_collection-app
 -- a machine that runs does so after `gc`
 pub after_gc-runs : (m : Machine) (s : State) → IsRunning m s → (t : State) × IsRunning (gc m).machine t
 unfolding do_ask
-after_gc-runs m s r = (next s (taken Gc) (do_ask m (taken Gc)).answer, gc-runs m s r)
+after_gc-runs m s r = (next s (taken Gc) (do_ask m (taken Gc)).answer, any-runs m s (taken Gc) r refl)
 
 -- A COLLECTION THAT BEGINS RIGHT AFTER `gc` CAN'T MISS WHAT WAS LOST.
 pub after_gc-follows : (m : Machine) (s : State) (ask : Ask) (asks : List Ask) → IsRunning m s → IsSuspectedNow m → begins_one ask ≡ true →

@@ -3,6 +3,7 @@ use Rattle.std.proofs.Common.{arith, ◌≡◌, ℕ, zero, suc, Bool, List, ◌+
 use Rattle.cc_names.specs.declared.name.Name.{Name}
 use Rattle.cc_model.specs.declared.command.Command.TheVariants.{Collect}
 use Rattle.cc_model.specs.declared.item.Event.{Event}
+use Rattle.cc_model.specs.Mutating.{Running, so_many, whole}
 use Rattle.cc_model.specs.Graph.{Graph}
 use Rattle.cc_model.specs.WellMade.{IsWellMade}
 use Rattle.cc_model.specs.Heap.{Heap}
@@ -10,6 +11,7 @@ use Rattle.cc_model.specs.Snapshot.{Snapshot}
 use Rattle.cc_model.specs.End.{Progress, went_on, refused, unit}
 use Rattle.cc_model.specs.Listed.{after_events}
 use Rattle.cc_model.specs.Collecting.{Machine, UnitsDone, next_answer, no_units, one_unit, units_done, enough_units, to_the_end, finish_running, slice, starting_anew, collect, unless_stopped}
+use Rattle.cc_model.specs.Run.{run_units}
 use Rattle.cc_laws_run.proofs.UnitLawful.{RunsOn, UnitIsLawful, unit-lawful}
 
 -- the units that are left, by what the last one came to
@@ -72,7 +74,7 @@ module _ (g : Graph) (well : IsWellMade g) (P : Manner) (step : EachKeeps g P) w
   units_done-holds n d t = units_done-keep (HoldsOn g P) one_unit-holds n d t
 
   -- those of a slice
-  pub slice-holds : (n : ℕ) (m : Machine) → HoldsOn g P (no_units m) → HoldsOn g P (slice n m)
+  slice-holds : (n : ℕ) (m : Machine) → HoldsOn g P (no_units m) → HoldsOn g P (slice n m)
   unfolding slice
   slice-holds n m t = units_done-holds n (no_units m) t
 
@@ -81,7 +83,7 @@ module _ (g : Graph) (well : IsWellMade g) (P : Manner) (step : EachKeeps g P) w
   finish-holds m t = finish-cases m (HoldsOn g P) (units_done-holds (enough_units m) (no_units m) t) (λ e. t)
 
   -- those of a whole collection, where it does not matter what the last unit came to
-  pub collect-holds : ((h : Heap) (o : Option Snapshot) (es : List Event) (p : Progress) → P h o es p → P h o es went_on) →
+  collect-holds : ((h : Heap) (o : Option Snapshot) (es : List Event) (p : Progress) → P h o es p → P h o es went_on) →
       (m : Machine) → HoldsOn g P (no_units m) → HoldsOn g P (collect m)
   unfolding collect
   collect-holds anew m t =
@@ -89,3 +91,9 @@ module _ (g : Graph) (well : IsWellMade g) (P : Manner) (step : EachKeeps g P) w
       let first : HoldsOn g P d = finish-holds m t in
       unless_stopped-cases d (HoldsOn g P) (λ e. first)
       (λ e. units_done-holds (enough_units d.machine) (starting_anew d) (record { names = first.names; runs = first.runs; holds = anew d.machine.heap d.machine.snapshot d.events d.progress first.holds }))
+
+  -- those of a number of units, or of a whole collection
+  pub run_units-holds : ((h : Heap) (o : Option Snapshot) (es : List Event) (p : Progress) → P h o es p → P h o es went_on) →
+      (u : Running) (m : Machine) → HoldsOn g P (no_units m) → HoldsOn g P (run_units m u)
+  run_units-holds anew (so_many n) m t = slice-holds n m t
+  run_units-holds anew whole m t = collect-holds anew m t

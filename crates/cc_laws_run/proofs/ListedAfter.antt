@@ -2,7 +2,7 @@
 use Rattle.std.proofs.Common.{◌≡◌, ℕ, ◌+◌, ◌<◌, Bool, true, false, List, [], ◌∷◌, ◌++◌, map, length, Option, Some, None, refl, sym, ◌∙◌, ap, subst, ⊎_elim}
 use Rattle.std.specs.Prelude.{IsTrue}
 use Rattle.std.specs.List.{filter}
-use Rattle.std.proofs.lemmas.Bool.{true≢false}
+use Rattle.std.proofs.lemmas.Bool.{true≢false, ltb-true, and_parts}
 use Rattle.std.proofs.lemmas.List.{append-nil, get_or-set_same}
 use Rattle.std.proofs.lemmas.List.Elements.{filter-append}
 use Rattle.cc_lists.specs.Members.{Among, has}
@@ -15,10 +15,11 @@ use Rattle.cc_names.proofs.NameTests.{same_name-exact}
 use Rattle.cc_names.specs.Sizes.{bank_length}
 use Rattle.cc_model.specs.declared.command.Command.{Command}
 use Rattle.cc_model.specs.declared.command.Command.TheVariants.{Native, Script, WeakMap, Proxy, Wrap}
-use Rattle.cc_model.specs.Ranges.{in_range, is_slots}
+use Rattle.cc_model.specs.Ranges.{in_range, is_slots, is_register}
 use Rattle.cc_model.specs.Checks.{refusal_of, reply_if_taken, reflector_of, named_or_nothing}
 use Rattle.cc_model.specs.Graph as graph
-use Rattle.cc_model.specs.Graph.{Graph, changed, unless_refused, step}
+use Rattle.cc_model.specs.Deeds.{deed_of}
+use Rattle.cc_model.specs.Graph.{Graph, changed, unless_refused, step, done_to}
 use Rattle.cc_model.specs.Reached.{Reached, held}
 use Rattle.cc_model.specs.WellMade.{IsWellMade}
 use Rattle.cc_model.specs.Heap.{Heap, HeapNative, register, objects_of, has_reflector}
@@ -33,7 +34,6 @@ use Rattle.cc_laws_heap.proofs.ScriptNames.{script_names-named}
 use Rattle.cc_laws_heap.proofs.NameLists.{is_not_among-from}
 use Rattle.cc_laws_heap.proofs.Holding.{has_reflector-there, has_reflector-none}
 use Rattle.cc_laws_heap.proofs.RepliesAlike.{refusal_of-alike, objects-stand}
-use Rattle.cc_laws_heap.proofs.CommandsSound.{below-first}
 use Rattle.cc_laws_heap.proofs.CommandsStand.{freed-unreached}
 use Rattle.cc_laws_run.proofs.Listing.{AreListed, AreListed-from, AreListed-native, AreListed-script, AreListed-freed, after_events-freed, filter-second, has-listed}
 use Rattle.cc_laws_run.proofs.NamesAfter.{NamesAfter, made_natives, made_scripts, made_reflector}
@@ -64,7 +64,7 @@ step-taken g c t = ap (λ o. unless_refused o g (changed g c)) t
 
 -- a native that was made is reached
 made-reached : (h : Heap) (g : Graph) (d n : ℕ) → IsWellMade g → StandsFor h g → d < bank_length → Reached (changed g (Native d n)) (native (h.natives_made + 1))
-unfolding changed
+unfolding changed done_to deed_of
 made-reached h g d n w s room = held (N d) (native (h.natives_made + 1))
     (get_or-set_same g.native_registers d (Some (native (length g.natives + 1))) None (subst (λ l. d < l) (sym w.registers.0) room)
     ∙ ap (λ k. Some (native (k + 1))) (sym s.natives_made))
@@ -77,7 +77,7 @@ made-not_freed h g (Native d n) ks sound w s r t told k m i = ⊎_elim
     (subst (λ es. Among (freed_event k) es) (sym told) (Among-map freed_event k ks m))
     (subst (λ f. Reached f (native k))
     (sym (step-taken g (Native d n) (sym (refusal_of-alike (objects_of h) (graph.objects_of g) (objects-stand h g s) (Native d n)) ∙ t)))
-    (subst (λ x. Reached (changed g (Native d n)) x) e (made-reached h g d n w s (below-first d (is_slots n) r)))))
+    (subst (λ x. Reached (changed g (Native d n)) x) e (made-reached h g d n w s (ltb-true d bank_length (and_parts (is_register d) (is_slots n) r).0)))))
     (λ n. absurd n) i
 made-not_freed h g c ks sound w s r t told k m i = i
 

@@ -1,30 +1,60 @@
 -- THE PLAIN RUN IS LAWFUL: each ask is answered lawfully, and leaves a machine that runs.
 use Rattle.std.specs.Prelude.{IsTrue}
-use Rattle.std.proofs.Common.{arith, Bool, List, [], ◌∷◌, refl}
+use Rattle.std.proofs.Common.{arith, Bool, List, [], ◌∷◌, refl, ◌≡◌, false}
 use Rattle.std.specs.List.{list_all}
-use Rattle.std.proofs.lemmas.Bool.{and_parts}
+use Rattle.std.proofs.lemmas.Bool.{and_parts, true≢false}
 use Rattle.cc_names.specs.Allowance.{Allowance}
-use Rattle.cc_model.specs.declared.command.Command.TheVariants.{Slice, Collect, Gc}
-use Rattle.cc_model.specs.Asks.{Ask, taken}
-use Rattle.cc_model.specs.Lawful.{State, AnswersAsk, IsLawfulFrom, IsLawful, start, next}
+use Rattle.cc_model.specs.Mutating.{Class, says, does, runs, collects_scripts, class_of, is_deed}
+use Rattle.cc_model.specs.Asks.{Ask, taken, long, bad}
+use Rattle.cc_model.specs.Lawful.{State, AnswersAsk, IsLawfulFrom, IsLawful, start, next, AnswersClass}
 use Rattle.cc_model.specs.Collecting.{Machine, empty_machine}
-use Rattle.cc_model.specs.Run.{do_ask, turns, plain_run}
-use Rattle.cc_laws_run.specs.Running.{IsRunning, ask_in_range}
-use Rattle.cc_laws_run.proofs.Answered.{ask-answers}
-use Rattle.cc_laws_run.proofs.RunsOn.{empty-runs, ask-runs}
-use Rattle.cc_laws_run.proofs.CollectionsLawful.{slice-answers, slice-runs, collect-answers, collect-runs, gc-answers, gc-runs}
+use Rattle.cc_model.specs.Run.{do_ask, turns, plain_run, do_class}
+use Rattle.cc_model.specs.declared.command.Command.{Command}
+use Rattle.cc_model.specs.Ranges.{in_range}
+use Rattle.cc_model.proofs.NoDeeds.{no_deed-in_range}
+use Rattle.cc_laws_run.specs.Running.{IsRunning, ask_in_range, moves_none, moves_no_collection}
+use Rattle.cc_laws_run.proofs.Answered.{mutate-answers, say-answers}
+use Rattle.cc_laws_run.proofs.RunsOn.{empty-runs, mutate-runs, say-runs}
+use Rattle.cc_laws_run.proofs.CollectionsLawful.{units-answers, units-runs, gc-answers, gc-runs}
 
--- each ask is answered lawfully
-any-answers : (m : Machine) (s : State) (ask : Ask) → IsRunning m s → IsTrue (ask_in_range ask) → AnswersAsk s ask (do_ask m ask).answer
-any-answers m s ask r i = grind (arith, slice-answers, collect-answers, gc-answers, ask-answers)
+-- each command is answered lawfully, by its class
+class-answers : (m : Machine) (s : State) (c : Command) → IsRunning m s → IsTrue (in_range c) → (k : Class) → class_of c ≡ k →
+    AnswersClass s c (do_class m c k).answer k
+class-answers m s c r i (says q) e = say-answers m s c q r e
+class-answers m s c r i does e = mutate-answers m s c r i e
+class-answers m s c r i (runs u) e = units-answers m s c u r e
+class-answers m s c r i collects_scripts e = gc-answers m s c r e
 
--- and leaves a machine that runs
+-- each command leaves a machine that runs, by its class
+class-runs : (m : Machine) (s : State) (c : Command) → IsRunning m s → IsTrue (in_range c) → (k : Class) → class_of c ≡ k →
+    IsRunning (do_class m c k).machine (next s (taken c) (do_class m c k).answer)
+class-runs m s c r i (says q) e = say-runs m s c q r e
+class-runs m s c r i does e = mutate-runs m s c r i
+class-runs m s c r i (runs u) e = units-runs m s c u r e
+class-runs m s c r i collects_scripts e = gc-runs m s c r e
+
+-- EACH ASK is answered lawfully.
+pub any-answers : (m : Machine) (s : State) (ask : Ask) → IsRunning m s → IsTrue (ask_in_range ask) → AnswersAsk s ask (do_ask m ask).answer
+unfolding do_ask
+any-answers m s long r i = refl
+any-answers m s bad r i = refl
+any-answers m s (taken c) r i = class-answers m s c r i (class_of c) refl
+
+-- EACH ASK leaves a machine that runs.
 pub any-runs : (m : Machine) (s : State) (ask : Ask) → IsRunning m s → IsTrue (ask_in_range ask) →
     IsRunning (do_ask m ask).machine (next s ask (do_ask m ask).answer)
-any-runs m s (taken (Slice u)) r i = slice-runs m s u r
-any-runs m s (taken Collect) r i = collect-runs m s r
-any-runs m s (taken Gc) r i = gc-runs m s r
-any-runs m s ask r i = ask-runs m s ask r i refl
+unfolding do_ask
+any-runs m s long r i = r
+any-runs m s bad r i = r
+any-runs m s (taken c) r i = class-runs m s c r i (class_of c) refl
+
+-- an ask that moves a collection is in range
+pub moving-in_range : (ask : Ask) → moves_no_collection ask ≡ false → IsTrue (ask_in_range ask)
+moving-in_range (taken c) e = no_deed-in_range c (moving (class_of c) e)
+  where
+    moving : (k : Class) → moves_none k ≡ false → is_deed k ≡ false
+    moving k e = grind arith
+moving-in_range _ e = absurd (true≢false e)
 
 -- asks in a row are answered lawfully from a machine that runs
 asks-lawful : (m : Machine) (s : State) (asks : List Ask) → IsRunning m s → IsTrue (list_all ask_in_range asks) → IsLawfulFrom s asks (turns m asks)

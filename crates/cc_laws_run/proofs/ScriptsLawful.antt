@@ -1,5 +1,5 @@
 -- `gc` IS LAWFUL: a running collection is finished, and a script collection frees what no register reaches.
-use Rattle.std.proofs.Common.{◌≡◌, ◌+◌, ◌≤◌, true, List, [], ◌∷◌, ◌++◌, map, Option, None, refl, sym, ◌∙◌, ap, subst, arith, count_by}
+use Rattle.std.proofs.Common.{◌≡◌, ◌+◌, ◌≤◌, true, List, [], ◌∷◌, ◌++◌, map, Option, None, refl, sym, ◌∙◌, ap, subst, arith, count_by, ◌||◌}
 use Rattle.std.proofs.lemmas.Bool.{or_right}
 use Rattle.std.proofs.lemmas.List.{append-nil}
 use Rattle.std.proofs.lemmas.Grind.{flat_map-append}
@@ -10,7 +10,7 @@ use Rattle.cc_lists.proofs.Counting.{count_by-cons}
 use Rattle.cc_names.specs.declared.name.Name.{Name}
 use Rattle.cc_names.specs.Names.{same_name, is_native}
 use Rattle.cc_names.proofs.NameTests.{same_name-refl}
-use Rattle.cc_model.specs.declared.command.Command.TheVariants.{Gc}
+use Rattle.cc_model.specs.declared.command.Command.{Command}
 use Rattle.cc_model.specs.declared.item.Event.{Event}
 use Rattle.cc_model.specs.declared.item.Event.TheVariants.{Freed}
 use Rattle.cc_model.specs.Graph.{Graph}
@@ -22,7 +22,7 @@ use Rattle.cc_model.specs.Sweep.{collect_scripts}
 use Rattle.cc_model.specs.End.{Progress}
 use Rattle.cc_model.specs.Collecting.{Machine, UnitsDone, finish_running, gc}
 use Rattle.cc_model.specs.Listed.{after_events}
-use Rattle.cc_model.specs.Lawful.{MayBe, EachMayBe, has_none, begins_with_at_most_one, runs, unlinked_in, unlinked_numbers}
+use Rattle.cc_model.specs.Lawful.{MayBe, EachMayBe, has_none, begins_with_at_most_one, runs, unlinked_in, unlinked_numbers, is_gc, runs_units}
 use Rattle.cc_laws_heap.specs.Rounds.{is_not_among, FreesNames}
 use Rattle.cc_laws_heap.proofs.NameLists.{names-some}
 use Rattle.cc_laws_heap.proofs.CollectedColours.{collect_scripts-sound, collect_scripts-invariant, collect_scripts-frees}
@@ -52,9 +52,9 @@ FreeLast-freed (x ∷ xs) once = (again, FreeLast-freed xs (λ y. omega (arith, 
         gone (subst (λ y. Among y xs) same f.1)
 
 -- a script collection is lawful
-pub record GcIsLawful (g : Graph) (names : List Name) (d : UnitsDone) : Type 0 where
+pub record GcIsLawful (g : Graph) (names : List Name) (c : Command) (d : UnitsDone) : Type 0 where
   pub still : RunsOn g (after_events names d.events) d.machine.heap d.machine.snapshot
-  pub each : EachMayBe g names Gc d.events
+  pub each : EachMayBe g names c d.events
   pub few : runs (unlinked_numbers d.events) ≤ 1
   pub begins : begins_with_at_most_one d.events ≡ true
 
@@ -62,10 +62,14 @@ pub record GcIsLawful (g : Graph) (names : List Name) (d : UnitsDone) : Type 0 w
 begins-units : (p : Progress) (es fs : List Event) → TellsOnly p es → has_none fs ≡ true → begins_with_at_most_one (es ++ fs) ≡ true
 begins-units p es fs o n = grind (arith, begins-none, has_none-append)
 
-module _ (g : Graph) (well : IsWellMade g) where
+module _ (g : Graph) (well : IsWellMade g) (c : Command) (collects : is_gc c ≡ true) where
+  -- it may unlink natives, too
+  moves : (runs_units c || is_gc c) ≡ true
+  moves = or_right (runs_units c) (is_gc c) collects
+
   -- A SCRIPT COLLECTION
   scripts-lawful : (names : List Name) (h : Heap) (s : Option Snapshot) → RunsOn g names h s →
-      RunsOn g (after_events names (collect_scripts h).events) (collect_scripts h).heap None × EachMayBe g names Gc (collect_scripts h).events
+      RunsOn g (after_events names (collect_scripts h).events) (collect_scripts h).heap None × EachMayBe g names c (collect_scripts h).events
   scripts-lawful names h s r = (
     record {
       sound = collect_scripts-sound h r.sound;
@@ -76,7 +80,7 @@ module _ (g : Graph) (well : IsWellMade g) where
           (f.natives ∙ ap (λ ys. filter (is_not_among ys) (native_names h)) (sym freed_are))
           (f.scripts ∙ ap (λ ys. filter (is_not_among ys) (script_names h)) (sym freed_are));
     },
-    each-from g Gc o.events names may (subst FreeLast (sym f.told) (FreeLast-freed xs f.once)),
+    each-from g c o.events names may (subst FreeLast (sym f.told) (FreeLast-freed xs f.once)),
   )
     where
       o : Outcome
@@ -91,22 +95,22 @@ module _ (g : Graph) (well : IsWellMade g) where
       freed_are : freed_names o.events ≡ xs
       freed_are = ap freed_names f.told ∙ freed_names-freed xs
 
-      may : (e : Event) → Among e o.events → MayBe g names Gc e
+      may : (e : Event) → Among e o.events → MayBe g names c e
       may e i =
           let a = Among-map_cases Freed xs e (subst (Among e) f.told i) in
-          subst (MayBe g names Gc) a.2 (
+          subst (MayBe g names c) a.2 (
             there-listed h names a.0 r.listed (f.were_there a.0 a.1),
             collect_scripts-unreached h g a.0 r.sound well r.stands (subst (λ d. Among d o.events) (sym a.2) i),
-            or_right (is_native a.0) true refl,
+            or_right (is_native a.0) (is_gc c) collects,
           )
 
   -- GC
-  pub gc-lawful : (names : List Name) (m : Machine) → RunsOn g names m.heap m.snapshot → GcIsLawful g names (gc m)
+  pub gc-lawful : (names : List Name) (m : Machine) → RunsOn g names m.heap m.snapshot → GcIsLawful g names c (gc m)
   unfolding gc
   gc-lawful names m r = record {
     still = subst (λ l. RunsOn g l o.heap d.machine.snapshot) (sym (after_events-append d.events o.events names))
-        (subst (RunsOn g (after_events (after_events names d.events) o.events) o.heap) (sym (finish-drops g well Gc refl names m r)) scripts.0);
-    each = each-append g Gc d.events o.events names first.each scripts.1;
+        (subst (RunsOn g (after_events (after_events names d.events) o.events) o.heap) (sym (finish-drops g well c moves names m r)) scripts.0);
+    each = each-append g c d.events o.events names first.each scripts.1;
     few = subst (λ ks. runs ks ≤ 1) (sym unlinked) row.few;
     begins = subst (λ es. begins_with_at_most_one (es ++ o.events) ≡ true) (sym first.told) (begins-units d.progress first.later o.events first.only none);
   }
@@ -114,16 +118,16 @@ module _ (g : Graph) (well : IsWellMade g) where
       d : UnitsDone
       d = finish_running m
 
-      first : UnitsAreLawful g names Gc [] d
-      first = finish-lawful g well Gc refl names m r
+      first : UnitsAreLawful g names c [] d
+      first = finish-lawful g well c moves names m r
 
-      row : IsLawfulRow g names Gc 1 d
-      row = row-lawful g names Gc 0 [] d first refl (omega arith)
+      row : IsLawfulRow g names c 1 d
+      row = row-lawful g names c 0 [] d first refl (omega arith)
 
       o : Outcome
       o = collect_scripts d.machine.heap
 
-      scripts : RunsOn g (after_events (after_events names d.events) o.events) o.heap None × EachMayBe g (after_events names d.events) Gc o.events
+      scripts : RunsOn g (after_events (after_events names d.events) o.events) o.heap None × EachMayBe g (after_events names d.events) c o.events
       scripts = scripts-lawful (after_events names d.events) d.machine.heap d.machine.snapshot first.still
 
       frees : (xs : List Name) × FreesNames d.machine.heap xs o

@@ -6,7 +6,7 @@ use Rattle.std.proofs.lemmas.Bool.{and_parts}
 use Rattle.cc_lists.specs.Members.{Among}
 use Rattle.cc_names.specs.declared.name.Name.{Name}
 use Rattle.cc_model.specs.declared.command.Command.{Command}
-use Rattle.cc_model.specs.declared.command.Command.TheVariants.{Nothing, Version2, Why, Slice, Collect, Gc, Census}
+use Rattle.cc_model.specs.Mutating.{Class, Running, says, does, runs, collects_scripts, class_of}
 use Rattle.cc_model.specs.Asks.{Ask, taken}
 use Rattle.cc_model.specs.Ranges.{in_range}
 use Rattle.cc_model.specs.WellFormed.{IsWellFormed, names_there}
@@ -15,20 +15,20 @@ use Rattle.cc_model.specs.Effects.{effects}
 use Rattle.cc_model.specs.Sweep.{collect_scripts}
 use Rattle.cc_model.specs.Lawful.{State, next}
 use Rattle.cc_model.specs.Collecting.{Machine, no_units, finish_running, gc}
-use Rattle.cc_model.specs.Run.{Turn, mutate, do_ask, machine_after}
+use Rattle.cc_model.specs.Run.{Turn, mutate, do_ask, machine_after, do_class, run_units}
 use Rattle.cc_laws_heap.specs.Sound.{IsSound}
 use Rattle.cc_laws_heap.proofs.Taken.{IsTaken-from}
 use Rattle.cc_laws_heap.proofs.CommandsSound.{effects-sound}
 use Rattle.cc_laws_run.specs.Doomed.{KeepsReflectors}
 use Rattle.cc_laws_run.specs.Spent.{IsSpent}
 use Rattle.cc_laws_run.specs.Running.{IsRunning, ask_in_range}
-use Rattle.cc_laws_run.proofs.CommandCases.{mutate-cases, explain-cases}
+use Rattle.cc_laws_run.proofs.CommandCases.{mutate-cases, say-leaves}
 use Rattle.cc_laws_run.proofs.TouchedCommands.{command-leaves}
 use Rattle.cc_laws_run.proofs.CollectionsLawful.{running-on}
 use Rattle.cc_laws_run.proofs.PlainLawful.{any-runs}
 use Rattle.cc_laws_run.proofs.SpentViews.{spent-less, spent-left}
 use Rattle.cc_laws_run.proofs.SpentGone.{collect_scripts-less, collected-gone}
-use Rattle.cc_laws_run.proofs.HoldingUnits.{HoldsOn, slice-holds, finish-holds, collect-holds}
+use Rattle.cc_laws_run.proofs.HoldingUnits.{HoldsOn, finish-holds, run_units-holds}
 use Rattle.cc_laws_run.proofs.SpentUnits.{Spending, each-spends}
 
 -- What is spent
@@ -73,19 +73,24 @@ mutate-spends m c ds sound i keeps d = mutate-cases m c (λ (u : Turn). IsSpent 
     (λ e f. d)
     (λ e memory. effects-spend m.heap c ds sound.well_formed (effects-sound m.heap c sound i (IsTaken-from (objects_of m.heap) c e)).well_formed keeps d)
 
+-- units leave them spent
+units-spend : (m : Machine) (s : State) (u : Running) (ds : List Name) → IsRunning m s → IsSpent m.heap ds → IsSpent (run_units m u).machine.heap ds
+units-spend m s u ds r d =
+    (run_units-holds s.graph r.well_made (Spending ds) (each-spends s.graph ds) (λ h o es p e. e) u m (spending-on m s ds r d)).holds
+
+-- a command of each class leaves them spent
+class-spends : (m : Machine) (s : State) (c : Command) (ds : List Name) → IsRunning m s → IsTrue (in_range c) → KeepsReflectors ds → IsSpent m.heap ds →
+    (k : Class) → IsSpent (do_class m c k).machine.heap ds
+class-spends m s c ds r i keeps d (says q) = say-leaves m q (λ n. IsSpent n.heap ds) (λ memory. d)
+class-spends m s c ds r i keeps d does = mutate-spends m c ds r.sound i keeps d
+class-spends m s c ds r i keeps d (runs u) = units-spend m s u ds r d
+class-spends m s c ds r i keeps d collects_scripts = gc-spends m s ds r d
+
 -- WHAT IS SPENT STAYS SO under any ask.
 pub ask-spends : (m : Machine) (s : State) (ask : Ask) (ds : List Name) → IsRunning m s → IsTrue (ask_in_range ask) → KeepsReflectors ds →
     IsSpent m.heap ds → IsSpent (do_ask m ask).machine.heap ds
 unfolding do_ask
-ask-spends m s (taken (Slice u)) ds r i keeps d = (slice-holds s.graph r.well_made (Spending ds) (each-spends s.graph ds) u m (spending-on m s ds r d)).holds
-ask-spends m s (taken Collect) ds r i keeps d =
-    (collect-holds s.graph r.well_made (Spending ds) (each-spends s.graph ds) (λ h o es p e. e) m (spending-on m s ds r d)).holds
-ask-spends m s (taken Gc) ds r i keeps d = gc-spends m s ds r d
-ask-spends m s (taken Nothing) ds r i keeps d = d
-ask-spends m s (taken Version2) ds r i keeps d = d
-ask-spends m s (taken Census) ds r i keeps d = d
-ask-spends m s (taken (Why x)) ds r i keeps d = explain-cases m x (λ (u : Turn). IsSpent u.machine.heap ds) d d
-ask-spends m s (taken c) ds r i keeps d = mutate-spends m c ds r.sound i keeps d
+ask-spends m s (taken c) ds r i keeps d = class-spends m s c ds r i keeps d (class_of c)
 ask-spends m s _ ds r i keeps d = d
 
 -- so after any asks in a row

@@ -10,11 +10,12 @@ use Rattle.cc_model.specs.declared.item.Event.{Event}
 use Rattle.cc_model.specs.declared.item.Event.TheVariants.{Unlinked, Freed, Abandoned}
 use Rattle.cc_model.specs.Slots.{Slots}
 use Rattle.cc_model.specs.Checks.{slot_at}
+use Rattle.cc_model.specs.Deeds.{Deed, deed_of}
 use Rattle.cc_model.specs.Heap.{Heap, Outcome, silently, after, native_at, register, objects_of, set_register, set_slot}
 use Rattle.cc_model.specs.Cascade.{cascade, take_up, let_go}
 use Rattle.cc_model.specs.Colours.{marked}
 use Rattle.cc_model.specs.Sweep.{unmarked, without_dead_entries, without_script, let_native_go, sweep_one, sweep_each, sweep, collect_scripts}
-use Rattle.cc_model.specs.Effects.{effects, hold_native, store_native, move_slot, make_native, with_native}
+use Rattle.cc_model.specs.Effects.{effects, hold_native, store_native, move_slot, make_native, with_native, done_in}
 use Rattle.cc_model.specs.End.{root_each, empty_slot, empty_each, slots_now, unlink, unlink_each, unroot_each, take_away}
 use Rattle.cc_model.specs.Lawful.{is_abandonment}
 use Rattle.cc_laws_heap.proofs.Freed.{freed_event}
@@ -135,7 +136,12 @@ make_native-none : (h : Heap) (d n : ℕ) → TellsNone (make_native h d n).even
 unfolding make_native
 make_native-none h d n = let_go-none (set_register (with_native h n) (N d) (Some (native (h.natives_made + 1)))) (register (with_native h n) (N d))
 
+-- A deed tells none.
+done_in-none : (h : Heap) (d : Deed) → TellsNone (done_in h d).events
+unfolding done_in
+done_in-none h d = grind (arith, make_native-none, hold_native-none, store_native-none, move_slot-none)
+
 -- A command tells none.
 pub effects-none : (h : Heap) (c : Command) → TellsNone (effects h c).events
 unfolding effects
-effects-none h c = grind (arith, make_native-none, hold_native-none, let_go-none, store_native-none, move_slot-none)
+effects-none h c = done_in-none h (deed_of (objects_of h) c)

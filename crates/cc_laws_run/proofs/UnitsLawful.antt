@@ -5,12 +5,14 @@ use Rattle.std.proofs.lemmas.Grind.{flat_map-append}
 use Rattle.cc_names.specs.declared.name.Name.{Name}
 use Rattle.cc_model.specs.declared.command.Command.{Command}
 use Rattle.cc_model.specs.declared.item.Event.{Event}
+use Rattle.cc_model.specs.Mutating.{Running, so_many, whole, runs as runs_some}
 use Rattle.cc_model.specs.Graph.{Graph}
 use Rattle.cc_model.specs.WellMade.{IsWellMade}
 use Rattle.cc_model.specs.End.{Progress, went_on, refused, UnitDone, unit}
 use Rattle.cc_model.specs.Collecting.{Machine, UnitsDone, next_answer, no_units, one_unit, units_done, enough_units, to_the_end, finish_running, slice, starting_anew, collect}
 use Rattle.cc_model.specs.Listed.{after_events}
-use Rattle.cc_model.specs.Lawful.{EachMayBe, runs_units, is_gc, has_none, ends_with_one, runs, unlinked_numbers}
+use Rattle.cc_model.specs.Lawful.{EachMayBe, runs_units, is_gc, has_none, ends_with_one, runs, unlinked_numbers, runs_in}
+use Rattle.cc_model.specs.Run.{run_units}
 use Rattle.cc_model.proofs.UnitsEnd.{to_the_end-stops}
 use Rattle.cc_laws_run.proofs.EachNamed.{after_events-append, each-append}
 use Rattle.cc_laws_run.proofs.RunsOfNumbers.{runs-append, has_none-append, ends_with_one-append}
@@ -129,3 +131,8 @@ module _ (g : Graph) (well : IsWellMade g) (c : Command) (moves : (runs_units c 
       go : (p : Progress) → IsPlaced p d.events → IsLawfulRow g names c 2 (stopped_by p)
       go refused placed = record { still = first.still; each = first.each; few = omega (arith, first.few); placed = first.placed }
       go _ placed = second placed
+
+  -- UNITS, so many or those of a whole collection
+  pub units-lawful : (u : Running) (m : Machine) → RunsOn g names m.heap m.snapshot → IsLawfulRow g names c (runs_in (runs_some u)) (run_units m u)
+  units-lawful (so_many n) m r = slice-lawful n m r
+  units-lawful whole m r = collect-lawful m r

@@ -1,17 +1,22 @@
 -- ONE COLLECTION FOLLOWED THROUGH ASKS: the one that runs, or else the first that they begin.
 use Rattle.std.specs.Prelude.{List, [], ◌∷◌, ◌++◌}
-use Rattle.cc_model.specs.declared.command.Command.TheVariants.{Slice, Collect, Gc}
+use Rattle.cc_model.specs.Mutating.{so_many, whole, Class, runs, collects_scripts, class_of}
 use Rattle.cc_model.specs.Asks.{Ask, taken}
 use Rattle.cc_model.specs.End.{went_on, at_end, refused}
 use Rattle.cc_model.specs.Collecting.{Machine, UnitsDone, no_units, to_the_end, finish_running, slice}
 use Rattle.cc_model.specs.Run.{do_ask}
 
--- its units under one ask: a slice has those of one collection; `collect` and `gc` bring it to its end,
--- and a second collection of `collect` has other units
+-- its units from a machine to another one, by the class of a command: a slice has those of one collection; a whole one and `gc`
+-- bring it to its end, and a second collection has other units
+abbrev pub first_units_of : Machine → Machine → Class → UnitsDone
+first_units_of m n (runs (so_many u)) = slice u m
+first_units_of m n (runs whole) = to_the_end (no_units m)
+first_units_of m n collects_scripts = finish_running m
+first_units_of m n _ = no_units n
+
+-- its units under one ask
 abbrev pub first_units : Machine → Ask → UnitsDone
-first_units m (taken (Slice n)) = slice n m
-first_units m (taken Collect) = to_the_end (no_units m)
-first_units m (taken Gc) = finish_running m
+first_units m (taken c) = first_units_of m (do_ask m (taken c)).machine (class_of c)
 first_units m ask = no_units (do_ask m ask).machine
 
 -- units, and then later ones where the collection went on

@@ -1,8 +1,8 @@
 -- WHAT MEMORY ANSWERS, and how often it says no.
 use Rattle.std.specs.Prelude.{◌≡◌, ℕ, ◌+◌, Bool, true, false, not, List, [], ◌∷◌, count_by, Option, Some, None}
 use Rattle.cc_model.specs.Answers.{Answer}
+use Rattle.cc_model.specs.Mutating.{Class, collects_scripts, class_of}
 use Rattle.cc_model.specs.Asks.{Ask, taken}
-use Rattle.cc_model.specs.declared.command.Command.TheVariants.{Gc}
 use Rattle.cc_model.specs.declared.item.Reply.{Reply}
 use Rattle.cc_model.specs.Lawful.{is_without_memory, is_abandonment}
 use Rattle.cc_model.specs.Collecting.{Machine}
@@ -21,8 +21,12 @@ abbrev pub noes_of_reply : Option Reply → ℕ
 noes_of_reply None = 0
 noes_of_reply (Some reply) = elim (is_without_memory reply) [ true ↦ 1 | false ↦ 0 ]
 
+abbrev pub noes_told_by : Class → Answer → ℕ
+noes_told_by collects_scripts a = count_by is_abandonment a.events
+noes_told_by _ a = noes_of_reply a.reply
+
 abbrev pub noes_told : Ask → Answer → ℕ
-noes_told (taken Gc) a = count_by is_abandonment a.events
+noes_told (taken c) a = noes_told_by (class_of c) a
 noes_told ask a = noes_of_reply a.reply
 
 abbrev pub all_noes_told : List Ask → List Answer → ℕ

@@ -5,10 +5,11 @@ use Rattle.cc_lists.specs.Members.{Among}
 use Rattle.cc_names.specs.Allowance.{Allowance}
 use Rattle.cc_names.specs.declared.name.Name.{Name}
 use Rattle.cc_names.specs.Names.{native, behind}
-use Rattle.cc_model.specs.declared.command.Command.TheVariants.{Nothing, Slice, Collect, Gc}
+use Rattle.cc_model.specs.declared.command.Command.TheVariants.{Nothing, Gc}
 use Rattle.cc_model.specs.declared.item.Event.{Event}
 use Rattle.cc_model.specs.declared.item.Event.TheVariants.{Abandoned}
 use Rattle.cc_model.specs.Answers.{Answer}
+use Rattle.cc_model.specs.Mutating.{so_many, whole, Class, runs, class_of}
 use Rattle.cc_model.specs.Asks.{Ask, taken}
 use Rattle.cc_model.specs.Heap.{Heap}
 use Rattle.cc_model.specs.View.{view}
@@ -25,10 +26,15 @@ use Rattle.cc_laws_run.specs.Followed.{first_collection}
 abbrev pub lost : Heap → List Name
 lost h = filter (λ x. list_all (λ k. is_unreached (view h) (native k)) (behind x)) (garbage h)
 
+-- a unit or more, or a whole collection
+abbrev pub has_units : Class → Bool
+has_units (runs (so_many (suc n))) = true
+has_units (runs whole) = true
+has_units _ = false
+
 -- asks that begin a collection where none runs
 abbrev pub begins_one : Ask → Bool
-begins_one (taken (Slice (suc n))) = true
-begins_one (taken Collect) = true
+begins_one (taken c) = has_units (class_of c)
 begins_one ask = false
 
 -- blank lines and comments

@@ -1,8 +1,8 @@
 -- A MACHINE THAT RUNS, beside the graph and the names that a census would list.
 use Rattle.std.specs.Prelude.{◌≡◌, Bool, true, false, List, [], ◌∷◌, Option, Some, None}
-use Rattle.cc_model.specs.declared.command.Command.TheVariants.{Slice, Collect, Gc}
 use Rattle.cc_model.specs.Ranges.{in_range}
 use Rattle.cc_model.specs.Answers.{Answer}
+use Rattle.cc_model.specs.Mutating.{Class, says, does, runs, collects_scripts, class_of}
 use Rattle.cc_model.specs.Asks.{Ask, long, bad, taken}
 use Rattle.cc_model.specs.Heap.{Heap}
 use Rattle.cc_model.specs.View.{view}
@@ -37,12 +37,18 @@ ask_in_range long = true
 ask_in_range bad = true
 ask_in_range (taken c) = in_range c
 
+-- a command of this class moves no collection
+abbrev pub moves_none : Class → Bool
+moves_none (says q) = true
+moves_none does = true
+moves_none (runs u) = false
+moves_none collects_scripts = false
+
 -- an ask that moves no collection
 abbrev pub moves_no_collection : Ask → Bool
-moves_no_collection (taken (Slice u)) = false
-moves_no_collection (taken Collect) = false
-moves_no_collection (taken Gc) = false
-moves_no_collection ask = true
+moves_no_collection long = true
+moves_no_collection bad = true
+moves_no_collection (taken c) = moves_none (class_of c)
 
 -- the graph and the names that a census would list, after asks and the answers to them
 abbrev pub state_after : State → List Ask → List Answer → State
