@@ -14,7 +14,7 @@ use Rattle.cc_model.specs.Graph as graph
 use Rattle.cc_model.specs.Graph.{Graph, changed, step}
 use Rattle.cc_model.specs.Heap.{objects_of, Heap}
 use Rattle.cc_model.specs.Effects.{effects, takes_memory}
-use Rattle.cc_model.specs.Listed.{listed, after_events, after_reply}
+use Rattle.cc_model.specs.Listed.{listed}
 use Rattle.cc_model.specs.Lawful.{State, next, graph_after, is_refused, is_without_memory, state_of}
 use Rattle.cc_model.specs.Collecting.{Machine, later_answers, next_answer}
 use Rattle.cc_model.specs.Run.{Turn, answering, with_effects, mutate, if_granted, said, say, unless_refused, turn_of}
