@@ -29,7 +29,7 @@ use Rattle.cc_model.specs.WellFormed.{native_names, script_names}
 use Rattle.cc_model.specs.Counts.{times}
 use Rattle.cc_model.specs.Lawful.{State, Explains, AnswersCommand, EachMayBe, is_listed, is_refused, is_abandoning, has_none, has_abandonment_in_place, runs, runs_allowed, unlinked_numbers, AnswersClass, deed_may_want_memory, class_may_want_memory}
 use Rattle.cc_model.specs.Collecting.{Machine}
-use Rattle.cc_model.specs.Run.{Turn, mutate, said, say}
+use Rattle.cc_model.specs.Run.{Turn, turn_of, mutate, said, say}
 use Rattle.cc_model.proofs.NoDeeds.{no_deed-reply}
 use Rattle.cc_laws_heap.proofs.Freed.{freed_event}
 use Rattle.cc_laws_heap.proofs.EndingEvents.{TellsOf-freed}
@@ -183,7 +183,7 @@ said-done s c none t = record {
 
 -- a way is told as the graph tells it
 path-answers : (m : Machine) (s : State) (x : Name) → IsRunning m s → Explains s.graph x (say m (path x)).answer
-path-answers m s x r = granted-cases m true (λ n. record { machine = n; answer = said m.heap (path x) }) (λ (u : Turn). Explains s.graph x u.answer)
+path-answers m s x r = granted-cases m true (λ n. turn_of n (said m.heap (path x))) (λ (u : Turn). Explains s.graph x u.answer)
     (λ e. inr refl)
     (λ memory. inl (why-alike m.heap s.graph r.sound.well_formed r.well_made r.stands x))
 

@@ -12,7 +12,7 @@ use Rattle.cc_model.specs.Heap.{objects_of, Heap, Outcome}
 use Rattle.cc_model.specs.Effects.{effects, takes_memory}
 use Rattle.cc_model.specs.End.{Progress}
 use Rattle.cc_model.specs.Collecting.{Machine, next_answer, later_answers, UnitsDone, no_units, gc, reply_to_units}
-use Rattle.cc_model.specs.Run.{Turn, answering, if_granted, unless_refused, mutate, after_units, after_gc, do_ask, said, say, run_units, do_class}
+use Rattle.cc_model.specs.Run.{Turn, turn_of, answering, if_granted, unless_refused, mutate, after_units, after_gc, do_ask, said, say, run_units, do_class}
 use Rattle.cc_laws_run.specs.Memory.{with_memory, noes, noes_of_reply, noes_told, noes_told_by}
 use Rattle.cc_laws_run.proofs.Unabandoned.{abandonments, TellsNone, effects-none}
 use Rattle.cc_laws_run.proofs.CommandCases.{taken-granted, said-silent}
@@ -58,12 +58,12 @@ reply-noes o c = ap (λ b. elim b [ true ↦ 1 | false ↦ 0 ]) (taken-granted o
 
 -- a turn that asks no memory and tells nothing
 silent-use : (m : Machine) (a : Answer) → noes_of_reply a.reply ≡ 0 → TellsNone a.events →
-    TurnUse (λ memory. record { machine = with_memory m memory; answer = a }) in_reply m.memory (record { machine = m; answer = a })
+    TurnUse (λ memory. turn_of (with_memory m memory) a) in_reply m.memory (turn_of m a)
 silent-use m a reply events = record { used = []; any = λ more. refl; said_no = sym reply; ample = λ e. record { same = refl; memory = e; reply = reply; events = events } }
 
 -- a machine with other heaps, and an answer
 abbrev leaving : (Heap → Heap) → Answer → Machine → Turn
-leaving f a n = record { machine = record n { heap = f n.heap }; answer = a }
+leaving f a n = turn_of (record n { heap = f n.heap }) a
 
 -- What is done where memory is there uses one answer where it takes some, and none elsewhere.
 granted-use : (m : Machine) (takes : Bool) (f : Heap → Heap) (a : Answer) → noes_of_reply a.reply ≡ 0 → TellsNone a.events →

@@ -14,10 +14,10 @@ use Rattle.cc_model.specs.Graph as graph
 use Rattle.cc_model.specs.Graph.{Graph, changed, step}
 use Rattle.cc_model.specs.Heap.{objects_of, Heap}
 use Rattle.cc_model.specs.Effects.{effects, takes_memory}
-use Rattle.cc_model.specs.Listed.{listed, after_events, after_reply}
-use Rattle.cc_model.specs.Lawful.{State, next, graph_after, is_refused, is_without_memory}
+use Rattle.cc_model.specs.Listed.{listed}
+use Rattle.cc_model.specs.Lawful.{State, next, graph_after, is_refused, is_without_memory, state_of}
 use Rattle.cc_model.specs.Collecting.{Machine, later_answers, next_answer}
-use Rattle.cc_model.specs.Run.{Turn, answering, with_effects, mutate, if_granted, said, say, unless_refused}
+use Rattle.cc_model.specs.Run.{Turn, answering, with_effects, mutate, if_granted, said, say, unless_refused, turn_of}
 use Rattle.cc_model.proofs.NoDeeds.{no_deed-graph, no_deed-lists}
 
 -- Whatever holds where memory is wanted and where it is there holds of the turn.
@@ -53,7 +53,7 @@ mutate-cases m c P refused unmet done = go (refusal_of (objects_of m.heap) c) re
 
 -- WHAT IS SAID LEAVES THE MACHINE, but for memory's answers.
 pub say-leaves : (m : Machine) (q : Saying) (P : Machine → Type 0) → ((memory : List Bool) → P (record m { memory = memory })) → P (say m q).machine
-say-leaves m q P keeps = granted-cases m (takes_memory_to_say q) (λ n. record { machine = n; answer = said m.heap q }) (λ (u : Turn). P u.machine)
+say-leaves m q P keeps = granted-cases m (takes_memory_to_say q) (λ n. turn_of n (said m.heap q)) (λ (u : Turn). P u.machine)
     (λ e. keeps (later_answers m.memory)) keeps
 
 -- what is said tells no event
@@ -62,7 +62,7 @@ said-silent h q = grind arith
 
 -- the turn tells none either, with memory or without
 pub say-silent : (m : Machine) (q : Saying) → (say m q).answer.events ≡ []
-say-silent m q = granted-cases m (takes_memory_to_say q) (λ n. record { machine = n; answer = said m.heap q }) (λ (u : Turn). u.answer.events ≡ [])
+say-silent m q = granted-cases m (takes_memory_to_say q) (λ n. turn_of n (said m.heap q)) (λ (u : Turn). u.answer.events ≡ [])
     (λ e. refl) (λ memory. said-silent m.heap q)
 
 -- Replies
@@ -102,7 +102,7 @@ listed-refused names c refusal = grind arith
 -- the state after a refusal that leaves the graph is the state before it
 next-state : (s : State) (c : Command) (refusal : Refusal) → graph_after s.graph c (Some (Refused refusal)) ≡ s.graph →
     next s (taken c) (replying [] (Refused refusal)) ≡ s
-next-state s c refusal e = λ i. record { graph = e i; listed = listed-refused s.listed c refusal i }
+next-state s c refusal e = λ i. state_of (e i) (listed-refused s.listed c refusal i)
 
 -- a command that is refused leaves the state
 pub next-refused : (s : State) (c : Command) (refusal : Refusal) → refusal_of (graph.objects_of s.graph) c ≡ Some refusal →
@@ -115,7 +115,7 @@ next-unmet s c = next-state s c NoMemory refl
 
 -- a command that does no deed leaves the state where nothing is told, whatever is replied
 pub next-no_deed : (s : State) (c : Command) (a : Answer) → is_deed (class_of c) ≡ false → a.events ≡ [] → next s (taken c) a ≡ s
-next-no_deed s c a none silent = λ i. record {
-  graph = no_deed-graph c none s.graph a.reply i;
-  listed = (ap (λ es. after_reply (after_events s.listed es) c a.reply) silent ∙ no_deed-lists c none s.listed a.reply) i;
-}
+next-no_deed s c a none silent = λ i. state_of (no_deed-graph c none s.graph a.reply i) (after i)
+  where
+    after : listed s.listed c a.events a.reply ≡ s.listed
+    after = ap (λ es. listed s.listed c es a.reply) silent ∙ no_deed-lists c none s.listed a.reply

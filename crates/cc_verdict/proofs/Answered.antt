@@ -1,10 +1,8 @@
 -- LINES THAT ANSWER A COMMAND by events and a reply, and go on.
-use Rattle.std.proofs.Common.{◌≡◌, ℕ, List, [], ◌∷◌, ◌++◌, map, Option, Some, None, refl, sym, ap, subst, ◌∙◌}
+use Rattle.std.proofs.Common.{arith, ◌≡◌, ℕ, List, [], ◌∷◌, ◌++◌, map, Option, Some, None, refl, sym, ap, subst, ◌∙◌}
 use Rattle.std.specs.Prelude.{IsTrue}
-use Rattle.std.proofs.lemmas.Bool.{false≢true}
 use Rattle.cc_names.specs.declared.name.Name.{Name}
 use Rattle.cc_model.specs.declared.command.Command.{Command}
-use Rattle.cc_model.specs.declared.command.Command.TheVariants.{Nothing, Why, Collect, Gc, Census}
 use Rattle.cc_model.specs.declared.item.Reply.{Reply}
 use Rattle.cc_model.specs.declared.item.Event.{Event}
 use Rattle.cc_model.specs.Texts.{text_of_event, text_of_reply}
@@ -38,17 +36,11 @@ lines-of_answer (e ∷ events) reply rest = ap (λ ls. text_of_event e ∷ ls) (
 
 -- the parts of an answer to a command that is heard
 taken-parts : (s : State) (c : Command) (a : Answer) → IsTrue (is_heard c) → AnswersTaken s c a → (a.listed ≡ []) × (a.steps ≡ []) × ReplyAnswers s c a a.reply
-taken-parts s Nothing a is l = absurd (false≢true is)
-taken-parts s Census a is l = absurd (false≢true is)
-taken-parts s (Why x) a is l = absurd (false≢true is)
-taken-parts s c a is l = l
+taken-parts s c a is l = grind arith
 
 parts-taken : (s : State) (c : Command) (events : List Event) (reply : Reply) → IsTrue (is_heard c) → AnswersCommand s c reply events →
     AnswersTaken s c (replying events reply)
-parts-taken s Nothing events reply is l = absurd (false≢true is)
-parts-taken s Census events reply is l = absurd (false≢true is)
-parts-taken s (Why x) events reply is l = absurd (false≢true is)
-parts-taken s c events reply is l = (refl, refl, l)
+parts-taken s c events reply is l = grind arith
 
 abbrev answer_of : List Event → List Name → List Step → Option Reply → Answer
 answer_of events names steps reply = record { events = events; listed = names; steps = steps; reply = reply }
@@ -121,10 +113,7 @@ heard-hears asks h lines i = subst (Hears asks h) (sym i.lines_are) (heard-hears
 -- The place after
 
 row-of_reply : (row : Row) (c : Command) (events : List Event) (reply : Reply) → row_after row (taken c) (replying events reply) ≡ row_after row (taken c) (replying [] reply)
-row-of_reply row Collect events reply = refl
-row-of_reply row Nothing events reply = refl
-row-of_reply row Gc events reply = refl
-row-of_reply row c events reply = refl
+row-of_reply row c events reply = grind arith
 
 -- where the reply may end the answer, a check stands behind it where the answer leads
 pub place-ended : (p : Place) (c : Command) (events : List Event) (reply : Reply) → MayEnd (with_all (hearing p c) events) reply →

@@ -1,16 +1,16 @@
 -- COLLECTIONS LEAVE THE GRAPH, and no reply by the graph is want of memory.
 use Rattle.std.proofs.Common.{◌≡◌, Bool, true, false, Option, Some, None, refl, sym, ap, ◌∙◌, arith}
-use Rattle.std.proofs.lemmas.Bool.{false≢true}
 use Rattle.cc_names.specs.declared.name.Name.{Name}
 use Rattle.cc_model.specs.declared.command.Command.{Command}
-use Rattle.cc_model.specs.declared.command.Command.TheVariants.{Slice, Collect, Gc}
 use Rattle.cc_model.specs.declared.item.Refusal.{Refusal}
 use Rattle.cc_model.specs.declared.item.Refusal.TheVariants.{Empty, Kind, Slot, Full}
 use Rattle.cc_model.specs.declared.item.Reply.{Reply}
 use Rattle.cc_model.specs.declared.item.Reply.TheVariants.{Refused}
+use Rattle.cc_model.specs.Mutating.{Class, class_of, is_deed, is_units, is_script_collection}
 use Rattle.cc_model.specs.Checks.{Objects, named_or_nothing, refusal_of, refused_or, reply_if_taken, lacks_object, has_wrong_object, has_no_slot, has_wrong_content, is_full}
-use Rattle.cc_model.specs.Graph.{Graph, changed, objects_of, reply_to, step, unless_refused}
-use Rattle.cc_model.specs.Lawful.{State, graph_after, is_gc, is_refused, is_without_memory, may_want_memory, runs_units}
+use Rattle.cc_model.specs.Graph.{Graph, objects_of, reply_to, step}
+use Rattle.cc_model.specs.Lawful.{State, class_may_want_memory, graph_after, is_gc, is_refused, is_without_memory, may_want_memory, runs_units}
+use Rattle.cc_model.proofs.NoDeeds.{no_deed-allowed, no_deed-leaves}
 
 -- Replies by the graph
 
@@ -61,37 +61,36 @@ graph_after-granted g c = ap (λ b. elim b [ true ↦ g | false ↦ step g c ]) 
 
 -- Collections in units
 
-unless-same : (r : Option Refusal) (g : Graph) → unless_refused r g g ≡ g
-unless-same None g = refl
-unless-same (Some refusal) g = refl
+-- units are no deed
+units-no_deed : (k : Class) → is_units k ≡ true → is_deed k ≡ false
+units-no_deed k e = grind arith
 
 -- collections in units leave the graph
 pub units-stay : (g : Graph) (c : Command) → runs_units c ≡ true → step g c ≡ g
-unfolding changed
-units-stay g (Slice u) e = unless-same (refusal_of (objects_of g) (Slice u)) g
-units-stay g Collect e = unless-same (refusal_of (objects_of g) Collect) g
-units-stay g c e = absurd (false≢true e)
+units-stay g c e = no_deed-leaves c (units-no_deed (class_of c) e) g
 
 -- the graph refuses no collection in units
 pub units-allowed : (o : Objects) (c : Command) → runs_units c ≡ true → refusal_of o c ≡ None
-unfolding refusal_of
-units-allowed o (Slice u) e = refl
-units-allowed o Collect e = refl
-units-allowed o c e = absurd (false≢true e)
+units-allowed o c e = no_deed-allowed c (units-no_deed (class_of c) e) o
 
 -- collections in units may want memory
 pub units-want : (s : State) (c : Command) → runs_units c ≡ true → may_want_memory s c ≡ true
-units-want s (Slice u) e = refl
-units-want s Collect e = refl
-units-want s c e = absurd (false≢true e)
+units-want s c e = wants (class_of c) e
+  where
+    wants : (k : Class) → is_units k ≡ true → class_may_want_memory s c k ≡ true
+    wants k e = grind arith
+
+-- a script collection runs no units
+apart : (k : Class) → is_units k ≡ true → is_script_collection k ≡ false
+apart k e = grind arith
 
 -- collections in units are not `gc`
 pub units-no_gc : (c : Command) → runs_units c ≡ true → is_gc c ≡ false
-units-no_gc (Slice u) e = refl
-units-no_gc Collect e = refl
-units-no_gc c e = absurd (false≢true e)
+units-no_gc c e = apart (class_of c) e
 
 -- `gc` runs no units
 pub gc-no_units : (c : Command) → is_gc c ≡ true → runs_units c ≡ false
-gc-no_units Gc e = refl
-gc-no_units c e = absurd (false≢true e)
+gc-no_units c e = units (class_of c) e
+  where
+    units : (k : Class) → is_script_collection k ≡ true → is_units k ≡ false
+    units k e = grind arith
