@@ -123,11 +123,11 @@ module _ (h : Heap) (g : Graph) (w : IsWellFormed h) (well : IsWellMade g) (s : 
   done_in-follows (map_made d) m Q f = object-follows d (effects_of.with_object h Map 0 None) (graph.with_script g weak_map) refl Q
       (Follows-map (Reached g) h g well start) f
   done_in-follows (proxy_made d x) m Q f = proxy-follows d x m.0.reached (behind x m.0) m.0.made Q f
-  done_in-follows (native_held d x) m Q f = f (Reached g) (Follows-hold (Reached g) h g d x x refl m.reached start)
+  done_in-follows (native_held d x) m Q f = f (Reached g) (Follows-hold (Reached g) h g d x x refl m.1.reached start)
   done_in-follows (script_held d x) m Q f = f (Reached g) (Follows-hold_script (Reached g) h g d x x refl m.reached start)
   done_in-follows (script_copied d x) m Q f = f (Reached g) (Follows-script_register (Reached g) h g d x x refl m.reached start)
   done_in-follows (native_stored d i x) m Q f = f (Reached g)
-      (Follows-store (Reached g) h g d i x x refl m.reached (register-reached g (N d)) (native-preserved g d) start)
+      (Follows-store (Reached g) h g d i x x refl m.0.reached (register-reached g (N d)) (native-preserved g d) start)
   done_in-follows (slot_moved d i r j) m Q f = f (Reached g) (Follows-move (Reached g) h g d i r j (slot_at (graph.objects_of g) (N r) j)
       (slot_at-alike (heap.objects_of h) (graph.objects_of g) a (N r) j) (slot_at-reached g (N r) j) (register-reached g (N d)) (register-reached g (N r)) native-preserved start)
   done_in-follows (script_stored x i y) m Q f = f (Reached g) (Follows-put_script (Reached g) h g x i y m.0.reached (behind x m.0) m.1.reached start)

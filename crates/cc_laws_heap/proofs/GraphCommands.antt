@@ -14,7 +14,7 @@ use Rattle.cc_model.specs.declared.item.Refusal.{Refusal}
 use Rattle.cc_model.specs.Ranges.{in_range}
 use Rattle.cc_model.specs.Slots.{Slots, empty_slots}
 use Rattle.cc_model.specs.Entries.{entry, is_entry_of, with_entry, without_entry}
-use Rattle.cc_model.specs.Checks.{slot_at, reflector_of, refusal_of}
+use Rattle.cc_model.specs.Checks.{slot_at, reflector_of, is_map_in, refusal_of}
 use Rattle.cc_model.specs.Graph.{Graph, GraphScript, plain_object, weak_map, proxy, numbered, script_in, delegate_in, slots_in, objects_of, register, set_register, set_slot, move_slot, preserve, wrapped, set_entry, as_preserved, as_wrapped, with_slot, with_reflector_slot, with_native, with_script, with_proxy, empty_graph, done_to, changed, unless_refused, step}
 use Rattle.cc_model.specs.Deeds.{Deed, nothing_done, native_made, plain_made, map_made, proxy_made, native_held, script_held, script_copied, native_stored, slot_moved, script_stored, reflector_held, reflector_preserved, entry_written, object_exposed, deed_of}
 use Rattle.cc_model.specs.WellMade.{IsWellMade, IsMadeEntry}
@@ -140,25 +140,29 @@ module _ (g : Graph) (w : IsWellMade g) where
   object_made-well d o fits room = IsWellMade-script_register (with_script g o) d (Some (object (length g.scripts + 1)))
       (IsWellMade-with_script g o w fits room) (was_made-script (with_script g o) (length g.scripts + 1) o (numbered-push g.scripts o))
 
+  -- a weak map that was made has no slots
+  map-named : (x : Option Name) → OfSome (MadeScript g) x → is_map_in (objects_of g) x ≡ true → OfSome (λ y. MadeScript g y × (is_none (slots_in g y) ≡ true)) x
+  map-named x m e = grind arith
+
   -- WHAT IS DONE LEAVES THE GRAPH WELL MADE.
   done_to-well : (d : Deed) → MayBeDoneTo g d → IsWellMade (done_to g d)
   unfolding done_to
   done_to-well nothing_done m = w
   done_to-well (native_made d n) m = IsWellMade-native_register (with_native g n) d (Some (native (length g.natives + 1)))
-      (IsWellMade-with_native g n w m.0 m.1) (was_made-native (with_native g n) (length g.natives + 1) _ (numbered-push g.natives _))
+      (IsWellMade-with_native g n w m.few m.room) (was_made-native (with_native g n) (length g.natives + 1) _ (numbered-push g.natives _))
   done_to-well (plain_made d n) m = object_made-well d (plain_object (empty_slots n)) (ScriptFits-plain n m.0 g) m.1
   done_to-well (map_made d) m = object_made-well d weak_map (ScriptFits-map g) m
-  done_to-well (proxy_made d x) m = proxy-well g w d x m.0.made m.1
-  done_to-well (native_held d x) m = IsWellMade-native_register g d x w m.made
+  done_to-well (proxy_made d x) m = proxy-well g w d x m.0.made m.2
+  done_to-well (native_held d x) m = IsWellMade-native_register g d x w m.1.made
   done_to-well (script_held d x) m = IsWellMade-script_register g d x w m.made
   done_to-well (script_copied d x) m = IsWellMade-script_register g d x w m.made
-  done_to-well (native_stored d i x) m = native_slot-well g w (register g (N d)) i x (native_register-made g w d) m.made
+  done_to-well (native_stored d i x) m = native_slot-well g w (register g (N d)) i x (native_register-made g w d) m.0.made
   done_to-well (slot_moved d i s j) m = move-well g w (register g (N d)) i (register g (N s)) j (slot_at (objects_of g) (N s) j)
       (native_register-made g w d) (native_register-made g w s) (slot_at-made g w (N s) j)
   done_to-well (script_stored x i y) m = put-well g w x i y m.0.made m.1.made
   done_to-well (reflector_held d x) m = IsWellMade-script_register (wrapped g x) d (reflector_of x) (wrapped-well g w x) (wrapped-made g w x m.made)
   done_to-well (reflector_preserved x) m = preserve-well g w x (OfSome-then (MadeScript g) (Made g) (MadeScript-made g) x m.made)
-  done_to-well (entry_written a k v) m = set_entry-well g w a k v m.is_map m.key.made m.value.made
+  done_to-well (entry_written a k v) m = set_entry-well g w a k v (map-named a m.the_map.made m.is_map) m.key.made m.value.made
   done_to-well (object_exposed x) m = w
 
   -- A command that is not refused leaves the graph well made.

@@ -32,6 +32,7 @@ pub mod ScriptNames
 pub mod Coloured
 pub mod ColourChanges
 pub mod Naming
+pub mod Resting
 pub mod MayBeDone
 pub mod CommandsSound
 pub mod NativesKeepScripts
