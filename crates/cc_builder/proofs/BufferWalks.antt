@@ -7,7 +7,7 @@ use Rattle.cc_lists.specs.Walks.{HasDistinctKeys, left_at}
 use Rattle.cc_lists.proofs.Walks.{next_key-among, left-next}
 use Rattle.cc_names.specs.declared.name.Name.{Name}
 use Rattle.cc_names.specs.Names.{native}
-use Rattle.cc_model.specs.Heap.{Heap, Buffered}
+use Rattle.cc_model.specs.Heap.{Heap, Buffered, buffered_as}
 use Rattle.cc_counted.specs.Suspects.{number_behind, is_in_buffer, is_purple_in}
 use Rattle.cc_builder.specs.BuildSteps.{purple_name}
 
@@ -20,7 +20,7 @@ abbrev pub IsOnceEach : List Buffered → Type 0
 IsOnceEach bs = HasDistinctKeys (λ b. b.number) bs
 
 abbrev place_of : ℕ → Bool → Buffered
-place_of k purple = record { number = k; purple = purple }
+place_of k purple = buffered_as k purple
 
 -- what is buffered stands in the list,
 buffered-among : (bs : List Buffered) (k : ℕ) → is_in_buffer bs k ≡ true → Among (place_of k (is_purple_in bs k)) bs

@@ -5,7 +5,7 @@ use Rattle.std.proofs.lemmas.List.{map_push, take-map}
 use Rattle.cc_lists.specs.Members.{Among}
 use Rattle.cc_names.specs.declared.name.Name.{Name}
 use Rattle.cc_names.specs.Names.{native, is_native, natives_in}
-use Rattle.cc_model.specs.Snapshot.{Mapping, Node, Snapshot, traversed}
+use Rattle.cc_model.specs.Snapshot.{Mapping, Node, Snapshot, traversed, snapshot_by}
 use Rattle.cc_model.specs.Units.{with_state, with_node, passed_over}
 use Rattle.cc_counted.specs.declared.held.Held.{Held}
 use Rattle.cc_graph.specs.Shown.{Vertex, Edge, Hyperedge, Rooms, vertex, number_of, with_vertex}
@@ -15,14 +15,10 @@ use Rattle.cc_builder.specs.BuildSteps.{with_vertex_of, with_reference, with_nex
 use Rattle.cc_builder.proofs.BuildNodes.{with_vertex-either, references-append, mapping_by, mappings-alike, first-append, vertex_name-append, number_of-at}
 use Rattle.cc_builder.proofs.BuildStates.{IsSampleOf, nodes-with_vertex, nodes-traversed, nodes-passed, names-passed}
 
--- a snapshot by its parts
-abbrev pub parts : List ℕ → List Node → List (Name × Name) → List Mapping → Snapshot
-parts cs ns rs ms = record { candidates = cs; nodes = ns; references = rs; mappings = ms }
-
 pub snapshot-same : (cs ds : List ℕ) (ns os : List Node) (rs qs : List (Name × Name)) (ms ls : List Mapping) → cs ≡ ds → ns ≡ os → rs ≡ qs → ms ≡ ls →
-    parts cs ns rs ms ≡ parts ds os qs ls
+    snapshot_by cs ns rs ms ≡ snapshot_by ds os qs ls
 snapshot-same cs ds ns os rs qs ms ls e f g h =
-    ap (λ c. parts c ns rs ms) e ∙ ap (λ n. parts ds n rs ms) f ∙ ap (λ r. parts ds os r ms) g ∙ ap (λ m. parts ds os qs m) h
+    ap (λ c. snapshot_by c ns rs ms) e ∙ ap (λ n. snapshot_by ds n rs ms) f ∙ ap (λ r. snapshot_by ds os r ms) g ∙ ap (λ m. snapshot_by ds os qs m) h
 
 -- THE NODES CLOSE THE REFERENCES AND THE MAPPINGS, as the building keeps it
 pub record HasEndsWithin (b : Built) : Type 0 where

@@ -6,8 +6,9 @@ use Rattle.cc_names.specs.declared.name.Name.TheVariants as name
 use Rattle.cc_names.specs.Names.{native, is_native, natives_in, same_name}
 use Rattle.cc_model.specs.Heap.{Heap}
 use Rattle.cc_model.specs.WellFormed.{script_names}
-use Rattle.cc_model.specs.Snapshot.{NodeState, untraversed, gone, traversed, Node, Mapping, Snapshot}
+use Rattle.cc_model.specs.Snapshot.{NodeState, untraversed, gone, traversed, Node, Mapping, Snapshot, snapshot_by}
 use Rattle.cc_model.specs.Units.{first_untraversed, to_note, after_node}
+use Rattle.cc_model.specs.Fresh.{node}
 use Rattle.cc_graph.specs.Shown.{Vertex, Edge, Hyperedge, Shown}
 use Rattle.cc_graph.specs.Closed.{AreHyperedgesWithin}
 use Rattle.cc_heaps.specs.Keyed.{Keyed}
@@ -27,7 +28,7 @@ abbrev pub state_behind : Vertex → NodeState
 state_behind v = elim (is_native v.name) [ true ↦ state_by_sample v.sampled | false ↦ traversed None ]
 
 abbrev pub node_with : NodeState → Vertex → Node
-node_with state v = record { name = v.name; state = state }
+node_with state v = node v.name state
 
 -- the nodes, of which so many are behind
 abbrev pub nodes_of : ℕ → List Vertex → List Node
@@ -51,12 +52,7 @@ mapping_of vs m = record { the_map = option_map (vertex_name vs) m.the_map; key 
 
 -- THE SNAPSHOT that a graph holds
 abbrev pub snapshot_of : Built → Snapshot
-snapshot_of b = record {
-  candidates = flat_map natives_in (vertex_names (take b.candidates b.graph.nodes));
-  nodes = nodes_of b.next b.graph.nodes;
-  references = map (reference_of b.graph.nodes) b.graph.edges;
-  mappings = map (mapping_of b.graph.nodes) b.graph.hyperedges;
-}
+snapshot_of b = snapshot_by (flat_map natives_in (vertex_names (take b.candidates b.graph.nodes))) (nodes_of b.next b.graph.nodes) (map (reference_of b.graph.nodes) b.graph.edges) (map (mapping_of b.graph.nodes) b.graph.hyperedges)
 
 -- an object that was made: a native whose number was given, or a script object that is in the heaps
 abbrev pub WasMade : Heap → Name → Type 0

@@ -12,7 +12,7 @@ use Rattle.cc_model.specs.declared.command.Command.TheVariants.{Native, Script, 
 use Rattle.cc_model.specs.declared.item.Refusal.{Refusal}
 use Rattle.cc_model.specs.Slots.{empty_slots}
 use Rattle.cc_model.specs.Checks.{slot_at, value_at, native_of, reflector_of, refusal_of}
-use Rattle.cc_model.specs.Graph.{Graph, GraphNative, GraphScript, plain_object, weak_map, proxy, numbered, native_in, script_in, objects_of, register, source, set_register, set_native, set_script, set_slot, preserve, wrapped, set_entry, as_preserved, as_wrapped, with_slot, with_reflector_slot, with_script_slot, with_native, with_script, with_proxy, changed, unless_refused, step}
+use Rattle.cc_model.specs.Graph.{Graph, GraphNative, GraphScript, plain_object, weak_map, proxy, numbered, native_in, script_in, objects_of, register, source, set_register, set_native, set_script, set_slot, preserve, wrapped, set_entry, as_preserved, as_wrapped, with_slot, with_reflector_slot, with_script_slot, with_native, with_script, with_proxy, changed, unless_refused, step, new_graph_native}
 use Rattle.cc_model.specs.WellMade.{was_made}
 use Rattle.cc_laws_heap.proofs.Face.{Grows-change_native, KeepsReflector-slot, change_numbered, is_some-found, numbered-change, numbered-change_other, numbered-push_old, set_script-is}
 use Rattle.std.proofs.lemmas.Bool.Decides.{eqb_tells}
@@ -90,7 +90,7 @@ Stays-with_native : (g : Graph) (n : ℕ) → Stays g (with_native g n)
 Stays-with_native g n = record { limits = refl; made = made }
   where
     new : GraphNative
-    new = record { slots = empty_slots n; preserved = false; reflector = None }
+    new = new_graph_native n
 
     made : (x : Name) → IsTrue (was_made g x) → IsTrue (was_made (with_native g n) x)
     made (name.Native j) m = push-there g.natives new j.0 m

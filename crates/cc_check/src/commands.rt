@@ -2,7 +2,7 @@
 ghost use Rattle.std.specs.Prelude.{◌≡◌, IsTrue};
 ghost use Rattle.cc_model.specs.Graph.{step};
 ghost use Rattle.cc_model.specs.Graph as graph;
-ghost use Rattle.cc_model.specs.Lawful.{is_gc, may_free, may_unlink, may_want_memory, runs_allowed, runs_units};
+ghost use Rattle.cc_model.specs.Lawful.{is_gc, may_free, may_unlink, may_want_memory, runs_allowed, runs_units, state_of};
 ghost use Rattle.cc_check.specs.Standing.{lists};
 
 use cc_listed::Listed;
@@ -73,7 +73,7 @@ pub(crate) fn leaves_graph(command: Command) -> bool
 /// Whether it may want memory, where the graph does not refuse it: `wset` for a new entry alone, `wrap` where the reflector is not
 /// listed.
 pub(crate) fn may_want_memory(graph: &ObjectGraph, listed: &Listed, command: Command) -> bool
-    ensures { result ≡ may_want_memory (record { graph = graph.now; listed = listed.now }) command }
+    ensures { result ≡ may_want_memory (state_of graph.now listed.now) command }
 {
     match command {
         Command::Native(_, _)

@@ -12,6 +12,7 @@ ghost use Rattle.cc_model.specs.Listed.{census_order};
 ghost use Rattle.cc_model.specs.Quiet.{CensusIsQuiet, ListsReached};
 ghost use Rattle.cc_model.specs.Reached.{Reached};
 ghost use Rattle.cc_model.specs.WellMade.{IsWellMade};
+ghost use Rattle.cc_model.specs.Lawful.{state_of};
 ghost use Rattle.cc_verdict.specs.Hearing.{IsOfGarbage};
 ghost use Rattle.cc_check.specs.Standing.{IsFoundIn, IsOf, row_meant};
 
@@ -114,7 +115,7 @@ impl Known {
         requires well_made { IsWellMade graph.now }
         requires known { IsOf self.old graph.now }
         requires names { names.now ≡ census_order listed.now }
-        ensures quiet { IfOk result (λ b. IsTrue b ↔ CensusIsQuiet (row_meant row) (record { graph = graph.now; listed = listed.now }) (taken command.Census)) }
+        ensures quiet { IfOk result (λ b. IsTrue b ↔ CensusIsQuiet (row_meant row) (state_of graph.now listed.now) (taken command.Census)) }
         ensures known { OnOk result (IsOf self.new graph.now) }
     {
         match row {
@@ -133,7 +134,7 @@ impl Known {
         requires well_made { IsWellMade graph.now }
         requires known { IsOf self.old graph.now }
         requires names { names.now ≡ census_order listed.now }
-        ensures exactly { IfOk result (λ b. IsTrue b ↔ ListsReached (record { graph = graph.now; listed = listed.now })) }
+        ensures exactly { IfOk result (λ b. IsTrue b ↔ ListsReached (state_of graph.now listed.now)) }
         ensures known { OnOk result (IsOf self.new graph.now) }
     {
         self.find(graph)?;

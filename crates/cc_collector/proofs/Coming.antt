@@ -6,7 +6,7 @@ use Rattle.cc_model.specs.Telling.{Telling, TellsEvents}
 use Rattle.cc_model.specs.Heap.{Heap}
 use Rattle.cc_model.specs.End.{Progress, went_on, at_end, refused}
 use Rattle.cc_model.specs.Sweep.{collect_scripts}
-use Rattle.cc_model.specs.Collecting.{Machine, UnitsDone, slice, collect, gc, then_scripts}
+use Rattle.cc_model.specs.Collecting.{Machine, UnitsDone, slice, collect, gc, then_scripts, units_came}
 use Rattle.cc_model.proofs.Tellings.{TellsEvents-trans}
 use Rattle.cc_laws_run.specs.Memory.{with_memory}
 use Rattle.cc_heaps.specs.Keyed.{Keyed}
@@ -14,7 +14,7 @@ use Rattle.cc_builder.specs.Building.{Built}
 use Rattle.cc_gc.specs.Sparing.{SparesWhatIsReached}
 use Rattle.cc_collector.specs.Kept.{RunsIn, machine_of}
 use Rattle.cc_collector.specs.Collected.{counted_one, SparesInEachGraph, LedTo, IsSliced, IsCollected, IsSwept}
-use Rattle.cc_collector.specs.Units.{units_came, HasGoneOn, HasStopped, Keeps, HasDoneUnit, HasDoneAll, HasFinished}
+use Rattle.cc_collector.specs.Units.{HasGoneOn, HasStopped, Keeps, HasDoneUnit, HasDoneAll, HasFinished}
 use Rattle.cc_collector.proofs.Rows.{IsUnit-silent, ComeTo, ComeTo-went_on, ComeTo-stopped, HasStopped-from, collect-alone, collect-refused, collect-both, gc-alone, gc-after}
 use Rattle.cc_collector.proofs.Keeping.{Keeps-then}
 use Rattle.cc_collector.proofs.Spared.{slice-spares, collect-spares, gc-spares}

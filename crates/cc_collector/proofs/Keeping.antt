@@ -13,7 +13,7 @@ use Rattle.cc_model.specs.Suspected.{IsSuspected}
 use Rattle.cc_model.specs.Sweep.{collect_scripts}
 use Rattle.cc_model.specs.Snapshot.{Snapshot, white_natives}
 use Rattle.cc_model.specs.Units.{begun, with_empty_buffer, first_untraversed}
-use Rattle.cc_model.specs.End.{went_on, at_end, refused, unit, may_be_refused, take_away, give_back, granted, abandoned, node_or_end, going_on}
+use Rattle.cc_model.specs.End.{went_on, at_end, refused, unit, may_be_refused, take_away, give_back, granted, abandoned, node_or_end, going_on, unit_came}
 use Rattle.cc_model.proofs.Tellings.{Tells-nil}
 use Rattle.cc_laws_heap.specs.Ending.{TakesAway}
 use Rattle.cc_laws_heap.specs.Rounds.{is_not_among, FreesNames}
@@ -30,7 +30,7 @@ use Rattle.cc_heaps.proofs.Kept.{kept-alone}
 use Rattle.cc_builder.specs.Building.{Built, IsNodeUnit, snapshot_of}
 use Rattle.cc_unlink.specs.Whites.{whites_of, AreUnreached, AreWhiteIn}
 use Rattle.cc_collector.specs.Kept.{RunsIn, GoesOn, machine_of, running_snapshot}
-use Rattle.cc_collector.specs.Units.{unit_came, Keeps, HasDoneUnit}
+use Rattle.cc_collector.specs.Units.{Keeps, HasDoneUnit}
 
 -- Units one after the other
 
@@ -170,7 +170,7 @@ node-refused v w b ks t t₁ r asks candidates e runs stands suspected told = re
   unit = record {
     memory = false;
     is = unit-refused v.heap (Some (snapshot_of b)) asks
-        ∙ ap (λ (h : Heap). unit_came (machine_of h None) (Abandoned ∷ []) refused) (ap (λ (js : List ℕ). give_back js v.heap) (sym candidates) ∙ sym (ap (λ (k : Keyed). k.heap) e));
+        ∙ ap (λ (h : Heap). unit_came h None (Abandoned ∷ []) refused) (ap (λ (js : List ℕ). give_back js v.heap) (sym candidates) ∙ sym (ap (λ (k : Keyed). k.heap) e));
   };
   told = told;
   keeps = record {
@@ -205,8 +205,8 @@ module _ (v : Keyed) (b : Built) (g : Shown) (r : RunsIn v (Some b)) (traversed 
       memory = true;
       is = unit-granted v.heap (Some (snapshot_of b))
           ∙ (ap (node_or_end v.heap (snapshot_of b)) traversed
-          ∙ (ap (λ (ks : List ℕ). unit_came (machine_of (take_away ks v.heap).heap None) (take_away ks v.heap).events at_end) (sym whites)
-          ∙ ap (λ (h : Heap). unit_came (machine_of h None) (take_away (whites_of g v.heap) v.heap).events at_end) (sym heap)));
+          ∙ (ap (λ (ks : List ℕ). unit_came (take_away ks v.heap).heap None (take_away ks v.heap).events at_end) (sym whites)
+          ∙ ap (λ (h : Heap). unit_came h None (take_away (whites_of g v.heap) v.heap).events at_end) (sym heap)));
     };
     told = told;
     keeps = record {

@@ -6,12 +6,12 @@ use Rattle.cc_model.specs.declared.item.Event.{Event}
 use Rattle.cc_model.specs.Snapshot.{Snapshot}
 use Rattle.cc_model.specs.Units.{first_untraversed}
 use Rattle.cc_model.specs.End.{Progress, went_on, at_end, refused, UnitDone, unit, may_be_refused, granted, node_or_end}
-use Rattle.cc_model.specs.Collecting.{Machine, UnitsDone, no_units, one_unit, units_done, next_answer, slice, collect, gc, to_the_end, enough_units, finish_running, then_scripts}
+use Rattle.cc_model.specs.Collecting.{Machine, UnitsDone, no_units, one_unit, units_done, next_answer, slice, collect, gc, to_the_end, enough_units, finish_running, then_scripts, units_came}
 use Rattle.cc_model.proofs.UnitsEnd.{units_done-done, units_done-to_the_end}
 use Rattle.cc_laws_run.specs.Memory.{with_memory}
 use Rattle.cc_laws_run.proofs.Face.{unit-cases}
 use Rattle.cc_collector.specs.Collected.{counted_one, units_counted}
-use Rattle.cc_collector.specs.Units.{units_came, IsUnit, HasGoneOn, HasStopped}
+use Rattle.cc_collector.specs.Units.{IsUnit, HasGoneOn, HasStopped}
 
 -- One unit
 

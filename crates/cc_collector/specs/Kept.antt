@@ -4,7 +4,7 @@ use Rattle.cc_model.specs.Heap.{Heap}
 use Rattle.cc_model.specs.View.{view}
 use Rattle.cc_model.specs.Colours.{HasColourInvariant}
 use Rattle.cc_model.specs.Snapshot.{Snapshot}
-use Rattle.cc_model.specs.Collecting.{Machine}
+use Rattle.cc_model.specs.Collecting.{Machine, machine_at}
 use Rattle.cc_laws_snapshot.specs.Kinds.{IsFreshIn}
 use Rattle.cc_laws_run.specs.Doomed.{IsSuspectedNow}
 use Rattle.cc_graph.specs.Held.{AreHeld}
@@ -20,7 +20,7 @@ running_snapshot c = option_map snapshot_of c
 
 -- the heaps and the running collection, as the plain run has them
 abbrev pub machine_of : Heap → Option Built → Machine
-machine_of h c = record { heap = h; snapshot = running_snapshot c; memory = [] }
+machine_of h c = machine_at h (running_snapshot c) []
 
 -- NOTHING IS FORGOTTEN between these: if references led to each native that nothing reaches from a suspect, from a script
 -- object that nothing reaches either, or from a candidate of the running collection, they do so now

@@ -5,8 +5,8 @@ use Rattle.cc_names.specs.declared.name.Name.{Name}
 use Rattle.cc_model.specs.Telling.{Telling, TellsEvents}
 use Rattle.cc_model.specs.declared.item.Event.{Event}
 use Rattle.cc_model.specs.WellFormed.{native_names, script_names}
-use Rattle.cc_model.specs.End.{Progress, went_on, at_end, UnitDone, unit}
-use Rattle.cc_model.specs.Collecting.{Machine, UnitsDone, no_units, units_done}
+use Rattle.cc_model.specs.End.{Progress, went_on, at_end, unit, unit_came}
+use Rattle.cc_model.specs.Collecting.{Machine, no_units, units_done, units_came}
 use Rattle.cc_laws_run.specs.Memory.{with_memory}
 use Rattle.cc_heaps.specs.Keyed.{Keyed}
 use Rattle.cc_heaps.specs.Standing.{StillStands}
@@ -15,18 +15,10 @@ use Rattle.cc_builder.specs.Building.{Built}
 use Rattle.cc_collector.specs.Kept.{ForgetsNothing, RunsIn, machine_of}
 use Rattle.cc_collector.specs.Collected.{units_counted}
 
--- what a unit came to
-abbrev pub unit_came : Machine → List Event → Progress → UnitDone
-unit_came m events progress = record { heap = m.heap; snapshot = m.snapshot; events = events; progress = progress }
-
 -- ONE UNIT leads from one machine to another, for some answer of memory
 pub record IsUnit (old new : Machine) (events : List Event) (progress : Progress) : Type 0 where
   pub memory : Bool
-  pub is : unit old.heap old.snapshot memory ≡ unit_came new events progress
-
--- what units came to
-abbrev pub units_came : Machine → List Event → Progress → UnitsDone
-units_came m events progress = record { machine = m; events = events; progress = progress }
+  pub is : unit old.heap old.snapshot memory ≡ unit_came new.heap new.snapshot events progress
 
 -- SO MANY UNITS WENT ON: with any later answers of memory there are answers that lead here, and what follows follows
 pub record HasGoneOn (so_far : ℕ) (before now : Machine) : Type 0 where

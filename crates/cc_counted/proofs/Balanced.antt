@@ -6,7 +6,7 @@ use Rattle.cc_lists.proofs.Counting.{count_by-some, counted_is}
 use Rattle.cc_names.specs.Names.{native, same_name}
 use Rattle.cc_names.proofs.NameTests.{same_name-refl, same_name-true}
 use Rattle.cc_model.specs.Heap.{Heap, HeapNative, Buffered, native_at}
-use Rattle.cc_model.specs.Cascade.{at_rest}
+use Rattle.cc_model.specs.Cascade.{at_rest, draining_at}
 use Rattle.cc_model.specs.WellFormed.{native_names}
 use Rattle.cc_model.specs.Counts.{refs_to, slots_of_natives, times}
 use Rattle.cc_laws_heap.specs.Balance.{HasDistinctNumbers, waiting, living, IsBalanced, count_of, has_place, places}
@@ -96,7 +96,7 @@ module _ (c : Counts) (owned : List ℕ) (b : IsBalanced owned (at_rest (heap_of
 
 -- where no native waits, nothing is in between
 pub resting : (l : Lists) → l.queue ≡ [] → draining_of l [] ≡ at_rest (heap_of (counts_of l))
-resting l none = ap (λ ks. record { heap = heap_of (counts_of l); queue = map (the_number (keyed l.cells)) ks; events = [] }) none
+resting l none = ap (λ ks. draining_at (heap_of (counts_of l)) (map (the_number (keyed l.cells)) ks) []) none
 
 pub IsBalanced-owned : (l : Lists) → IsPlaced l → l.queue ≡ [] → (owned : List ℕ) → AreOwned owned (counts_of l) → IsBalanced owned (draining_of l [])
 IsBalanced-owned l p none owned o = subst (IsBalanced owned) (sym (resting l none)) (balanced-owned (counts_of l) (natives-distinct l p) owned o)

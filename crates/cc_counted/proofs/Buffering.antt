@@ -3,7 +3,7 @@ use Rattle.std.proofs.Common.{◌≡◌, ℕ, List, [], ◌∷◌, drop, map, Op
 use Rattle.cc_lists.specs.Members.{Among}
 use Rattle.cc_lists.specs.Walks.{first_of}
 use Rattle.cc_names.specs.declared.number.NKey.{NKey}
-use Rattle.cc_model.specs.Heap.{Buffered}
+use Rattle.cc_model.specs.Heap.{Buffered, buffered_as}
 use Rattle.cc_purple.specs.Marks.{Marked, marked_as, holds_key, is_purple, first_key, key_after}
 use Rattle.cc_counted.specs.Counts.{number_at, the_number}
 use Rattle.cc_counted.specs.Suspects.{is_in_buffer, is_purple_in, front_number, number_behind}
@@ -96,7 +96,7 @@ live-behind l p key o e = live-mark l p o (key_after l.marks key) e (after-there
 
 -- The front taken out.
 module _ (l : Lists) (p : IsPlaced l) (m : Marked) (ms : List Marked) (front : l.marks ≡ m ∷ ms) where
-  pub buffer-selected : (counts_of l).buffer ≡ record { number = the_number (counts_of l) m.key; purple = m.purple } ∷ (counts_of (record l { marks = ms })).buffer
+  pub buffer-selected : (counts_of l).buffer ≡ buffered_as (the_number (counts_of l) m.key) m.purple ∷ (counts_of (record l { marks = ms })).buffer
   buffer-selected = ap (map (marked_number (keyed l.cells))) front
 
   pub live-selected : is_some (number_at (counts_of l) m.key) ≡ true
@@ -126,20 +126,20 @@ front-taken old new o f e = grind arith
 pub selected : (old new : Lists) → IsPlaced old → (o : Option (NKey × Bool)) →
     option_map (λ (front : NKey × Bool). marked_as front.0.0 front.1) o ≡ first_of old.marks → new ≡ record old { marks = drop 1 old.marks } →
     MatchOption o (((counts_of old).buffer ≡ []) × (counts_of new ≡ counts_of old))
-    (λ front. ((counts_of old).buffer ≡ record { number = the_number (counts_of old) front.0.0; purple = front.1 } ∷ (counts_of new).buffer)
+    (λ front. ((counts_of old).buffer ≡ buffered_as (the_number (counts_of old) front.0.0) front.1 ∷ (counts_of new).buffer)
     × (counts_of new ≡ record (counts_of old) { buffer = (counts_of new).buffer }) × (is_some (number_at (counts_of old) front.0.0) ≡ true))
 selected old new p o f e = go o (front-taken old new o f e)
   where
     go : (o : Option (NKey × Bool)) → MatchOption o ((old.marks ≡ []) × (counts_of new ≡ counts_of old)) (λ front. old ≡ record new { marks = marked_as front.0.0 front.1 ∷ new.marks }) →
         MatchOption o (((counts_of old).buffer ≡ []) × (counts_of new ≡ counts_of old))
-        (λ front. ((counts_of old).buffer ≡ record { number = the_number (counts_of old) front.0.0; purple = front.1 } ∷ (counts_of new).buffer)
+        (λ front. ((counts_of old).buffer ≡ buffered_as (the_number (counts_of old) front.0.0) front.1 ∷ (counts_of new).buffer)
         × (counts_of new ≡ record (counts_of old) { buffer = (counts_of new).buffer }) × (is_some (number_at (counts_of old) front.0.0) ≡ true))
     go None h = (ap (map (marked_number (keyed old.cells))) h.0, h.1)
     go (Some front) t =
         let m : Marked = marked_as front.0.0 front.1 in
         let marks : old.marks ≡ m ∷ new.marks = ap (λ (l : Lists). l.marks) t in
         let same : record old { marks = new.marks } ≡ new = ap (λ (l : Lists). record l { marks = new.marks }) t in (
-          buffer-selected old p m new.marks marks ∙ ap (λ (l : Lists). record { number = the_number (counts_of old) front.0.0; purple = front.1 } ∷ (counts_of l).buffer) same,
+          buffer-selected old p m new.marks marks ∙ ap (λ (l : Lists). buffered_as (the_number (counts_of old) front.0.0) front.1 ∷ (counts_of l).buffer) same,
           ap (λ (l : Lists). counts_of l) (sym same) ∙ ap (λ (l : Lists). record (counts_of old) { buffer = (counts_of l).buffer }) same,
           live-selected old p m new.marks marks,
         )

@@ -5,8 +5,8 @@ use Rattle.std.proofs.lemmas.List.{length-set}
 use Rattle.cc_names.specs.Names.{native}
 use Rattle.cc_model.specs.declared.item.Event.{Event}
 use Rattle.cc_model.specs.Telling.{Telling}
-use Rattle.cc_model.specs.Heap.{Heap, HeapNative, Outcome, silently, change_native, with_native_slot}
-use Rattle.cc_model.specs.Cascade.{Draining, give_up, drain, at_rest, drained, cascade}
+use Rattle.cc_model.specs.Heap.{Heap, HeapNative, Outcome, silently, change_native, with_native_slot, outcome_of}
+use Rattle.cc_model.specs.Cascade.{Draining, give_up, drain, at_rest, drained, cascade, draining_at}
 use Rattle.cc_model.specs.End.{empty_slot}
 use Rattle.cc_model.proofs.Tellings.{Tells-nil}
 use Rattle.cc_laws_heap.proofs.Face.{count_at-found, drained-balanced, native_at-number, native_at-there, times-cons_same}
@@ -26,10 +26,6 @@ use Rattle.cc_counted.proofs.Writing.{placed-written}
 use Rattle.cc_counted.proofs.SlotBalance.{content-live, keyed-written, heap-written, IsBalanced-written}
 use Rattle.cc_counted.proofs.Balanced.{resting}
 
--- an outcome by its parts
-abbrev with_events : Heap → List Event → Outcome
-with_events h es = record { heap = h; events = es }
-
 -- A cascade keeps the balance.
 pub balanced-cascade : (old new : Lists) (before after : Telling) (k : ℕ) (owned : List ℕ) → old.queue ≡ [] → ComesTo old new before after (cascade (heap_of (counts_of old)) k) →
     IsBalanced (k ∷ owned) (draining_of old []) → IsBalanced owned (draining_of new [])
@@ -38,10 +34,10 @@ balanced-cascade old new before after k owned none t b =
     let h : Heap = heap_of (counts_of old) in
     let done = drained-balanced owned h k (subst (IsBalanced (k ∷ owned)) (resting old none) b) in
     let d : Draining = drain (length h.natives) (give_up (at_rest h) k) in
-    let at : (heap : Heap) (queue : List ℕ) → d.heap ≡ heap → d.queue ≡ queue → IsBalanced owned (record { heap = heap; queue = queue; events = [] }) =
+    let at : (heap : Heap) (queue : List ℕ) → d.heap ≡ heap → d.queue ≡ queue → IsBalanced owned (draining_at heap queue []) =
     λ heap queue e q.
-    subst (λ g. IsBalanced owned (record { heap = g; queue = queue; events = [] })) e
-    (subst (λ ks. IsBalanced owned (record { heap = d.heap; queue = ks; events = [] })) q (IsBalanced-events owned d [] done.0)) in
+    subst (λ g. IsBalanced owned (draining_at g queue [])) e
+    (subst (λ ks. IsBalanced owned (draining_at d.heap ks [])) q (IsBalanced-events owned d [] done.0)) in
     at (heap_of (counts_of new)) (map (the_number (keyed new.cells)) new.queue) t.heap
     (done.1 ∙ sym (ap (map (the_number (keyed new.cells))) t.emptied))
 
@@ -168,7 +164,7 @@ module _ (l : Lists) (p : IsPlaced l) (key : ℕ) (c : Placed) (at : cell_at l.c
         outcome = ap (empty_slot h c.number i) name-held
             ∙ (ap (λ g. cascade g (the_number (keyed l.cells) j)) (sym heap-emptied)
             ∙ (ap (cascade (heap_of (counts_of emptied_lists))) (sym same-number)
-            ∙ ap (λ (g : Heap). with_events g (cascade (heap_of (counts_of emptied_lists)) (the_number (keyed cells) j)).events) t.heap));
+            ∙ ap (λ (g : Heap). outcome_of g (cascade (heap_of (counts_of emptied_lists)) (the_number (keyed cells) j)).events) t.heap));
         told = t.told;
       }
         where

@@ -4,7 +4,7 @@ use Rattle.std.proofs.lemmas.List.{map-append}
 use Rattle.cc_lists.proofs.Members.{Among-append}
 use Rattle.cc_model.specs.declared.item.Event.{Event}
 use Rattle.cc_model.specs.Heap.{HeapNative, Buffered, empty_heap}
-use Rattle.cc_model.specs.Cascade.{Draining, fallen, given_up, give_up}
+use Rattle.cc_model.specs.Cascade.{Draining, fallen, given_up, give_up, draining_at}
 use Rattle.cc_laws_heap.proofs.Face.{lower_native}
 use Rattle.cc_counted.specs.Counts.{no_limits}
 use Rattle.cc_counted.specs.Lists.{Placed, Lists, cell_at, with_one_less, draining_of, IsPlaced, suspected, waiting}
@@ -14,7 +14,7 @@ use Rattle.cc_counted.proofs.Marking.{buffer-with_mark, buffer-without_key, with
 
 -- heaps with these natives and this buffer, and this queue, while natives are deleted
 abbrev pub draining_with : List HeapNative → List Buffered → List ℕ → List Event → Draining
-draining_with ns bs ks es = record { heap = record (empty_heap no_limits) { natives = ns; buffer = bs }; queue = ks; events = es }
+draining_with ns bs ks es = draining_at (record (empty_heap no_limits) { natives = ns; buffer = bs }) ks es
 
 -- they are the same where their lists are
 pub draining-same : (ns ms : List HeapNative) (bs cs : List Buffered) (ks js : List ℕ) (es : List Event) → ns ≡ ms → bs ≡ cs → ks ≡ js →

@@ -6,14 +6,14 @@ use Rattle.cc_lists.proofs.Held.{map-replicate}
 use Rattle.cc_lists.specs.Members.{Among}
 use Rattle.cc_lists.proofs.Members.{Among-append, Among-left, Among-right, Among-map_cases}
 use Rattle.cc_model.specs.Slots.{empty_slots}
-use Rattle.cc_model.specs.Heap.{HeapNative, Buffered}
+use Rattle.cc_model.specs.Heap.{HeapNative, Buffered, buffered_as, new_native}
 use Rattle.cc_model.specs.Heap as heap
 use Rattle.cc_model.specs.WellFormed.{IsRising}
 use Rattle.cc_laws_heap.proofs.Face.{IsRising-push, native_at-named}
 use Rattle.cc_counted.specs.declared.held.Held.{Held}
 use Rattle.cc_counted.specs.Counts.{number_at, number_or_none, the_number, name_of, is_live, heap_of}
 use Rattle.cc_counted.specs.Owning.{HasKeys, Makes}
-use Rattle.cc_counted.specs.Lists.{Placed, Lists, cell_at, reflector_placed, keyed, names_in, shown, shown_at, marked_number, counts_of, IsPlaced, made}
+use Rattle.cc_counted.specs.Lists.{Placed, Lists, cell_at, reflector_placed, keyed, names_in, shown, shown_at, marked_number, counts_of, IsPlaced, made, shown_with}
 use Rattle.cc_counted.proofs.Places.{cell_number, number_at-cells, reflector_at-cells, number_at-cell, number_at-found, the_number-cell, natives-numbers, natives-rising, native_at-cell, native-key, one_key}
 use Rattle.cc_lists.proofs.ListWrites.{map-agree}
 use Rattle.cc_names.specs.Sizes.{most_slots}
@@ -115,7 +115,7 @@ module _ (l : Lists) (p : IsPlaced l) (key : ℕ) (d : Placed) (cells : List (Op
     marked = λ m n. with_mark-there unmarked q key d at false l.marks q.marked m n;
   }
 
-  pub natives-made : (counts_of (made l cells key)).natives ≡ (counts_of l).natives ++ record { number = d.number; slots = empty_slots size; preserved = d.preserved; count = d.count } ∷ []
+  pub natives-made : (counts_of (made l cells key)).natives ≡ (counts_of l).natives ++ shown_with (empty_slots size) d ∷ []
   natives-made =
       map-append (shown_at cells) l.order (key ∷ [])
       ∙ (ap (λ ns. ns ++ shown_at cells key ∷ []) (map-agree (shown_at cells) (shown_at l.cells) l.order each)
@@ -125,15 +125,15 @@ module _ (l : Lists) (p : IsPlaced l) (key : ℕ) (d : Placed) (cells : List (Op
       each k m =
           let f = p.in_order k m in
           ap (shown (keyed cells)) (others k (other-key k f.0 f.1) ∙ f.1)
-          ∙ (ap (λ ys. record { number = f.0.number; slots = ys; preserved = f.0.preserved; count = f.0.count })
+          ∙ (ap (λ ys. shown_with ys f.0)
           (names-same (keyed l.cells) (keyed cells) f.0.slots (λ x w. (slot-same x (p.held k f.0 x f.1 w)).0))
           ∙ ap (shown (keyed l.cells)) (sym f.1))
 
       names : names_in (keyed cells) d.slots ≡ empty_slots size
       names = ap (names_in (keyed cells)) empty ∙ map-replicate (name_of (keyed cells)) size None
 
-      last : shown_at cells key ≡ record { number = d.number; slots = empty_slots size; preserved = d.preserved; count = d.count }
-      last = ap (shown (keyed cells)) at ∙ ap (λ ys. record { number = d.number; slots = ys; preserved = d.preserved; count = d.count }) names
+      last : shown_at cells key ≡ shown_with (empty_slots size) d
+      last = ap (shown (keyed cells)) at ∙ ap (λ ys. shown_with ys d) names
 
   pub buffer-made : size ≤ most_slots → (counts_of (made l cells key)).buffer ≡ heap.with_mark false d.number (counts_of l).buffer
   buffer-made few =
@@ -141,7 +141,7 @@ module _ (l : Lists) (p : IsPlaced l) (key : ℕ) (d : Placed) (cells : List (Op
       buffer-with_mark unmarked q key d at false l.marks q.marked
       ∙ ap (heap.with_mark false d.number)
       (map-agree (marked_number (keyed cells)) (marked_number (keyed l.cells)) l.marks
-      (λ m n. ap (λ j. record { number = j; purple = m.purple }) (the_number-there m.key (p.marked m n))))
+      (λ m n. ap (λ j. buffered_as j m.purple) (the_number-there m.key (p.marked m n))))
 
   pub key-made : number_at (counts_of (made l cells key)) key ≡ Some d.number
   key-made = number_at-cell cells key d at
@@ -155,8 +155,8 @@ module _ (l : Lists) (p : IsPlaced l) (key : ℕ) (d : Placed) (cells : List (Op
   pub Makes-made : size ≤ most_slots → d.preserved ≡ false → d.reflector ≡ None → d.count ≡ 1 → Makes (counts_of l) (counts_of (made l cells key)) key d.number size
   Makes-made few off bare one = record {
     natives = natives-made
-        ∙ (ap (λ on. (counts_of l).natives ++ record { number = d.number; slots = empty_slots size; preserved = on; count = d.count } ∷ []) off
-        ∙ ap (λ n. (counts_of l).natives ++ record { number = d.number; slots = empty_slots size; preserved = false; count = n } ∷ []) one);
+        ∙ (ap (λ on. (counts_of l).natives ++ record (shown_with (empty_slots size) d) { preserved = on } ∷ []) off
+        ∙ ap (λ n. (counts_of l).natives ++ record (new_native d.number size) { count = n } ∷ []) one);
     buffer = buffer-made few;
     there = key-made;
     others = others-made;

@@ -8,6 +8,7 @@ use Rattle.cc_lists.proofs.Members.{Among-filtered}
 use Rattle.cc_lists.proofs.Filtering.{filter-agree}
 use Rattle.cc_lists.proofs.Searching.{filter-map}
 use Rattle.cc_model.specs.Heap as heap
+use Rattle.cc_model.specs.Heap.{buffered_as}
 use Rattle.cc_purple.specs.Marks.{Marked, marked_as, with_mark, without_key}
 use Rattle.cc_counted.specs.Counts.{the_number}
 use Rattle.cc_counted.specs.Lists.{Placed, Lists, cell_at, keyed, marked_number, IsPlaced}
@@ -25,7 +26,7 @@ module _ (l : Lists) (p : IsPlaced l) (key : ℕ) (c : Placed) (at : cell_at l.c
   -- a mark set
   pub buffer-with_mark : (purple : Bool) (ms : List Marked) → ((m : Marked) → Among m ms → (b : Placed) × (cell_at l.cells m.key ≡ Some b)) →
       map (marked_number (keyed l.cells)) (with_mark purple key ms) ≡ heap.with_mark purple c.number (map (marked_number (keyed l.cells)) ms)
-  buffer-with_mark purple [] there = let it = the_number-cell l.cells key c at in ap (λ k. record { number = k; purple = purple } ∷ []) it
+  buffer-with_mark purple [] there = let it = the_number-cell l.cells key c at in ap (λ k. buffered_as k purple ∷ []) it
   buffer-with_mark purple (m ∷ ms) there = go (buffer-with_mark purple ms (λ n w. there n (inr w))) (m.key == key) refl
     where
       shows : Marked → heap.Buffered

@@ -14,7 +14,7 @@ use Rattle.cc_names.specs.declared.number.NKey.{NKey}
 use Rattle.cc_names.specs.Names.{native, same_name, number_of}
 use Rattle.cc_names.proofs.NameTests.{same_name-true}
 use Rattle.cc_model.specs.Slots.{contents, empty_slots}
-use Rattle.cc_model.specs.Heap.{Heap, HeapNative, Buffered, native_at, set_preserved, with_mark}
+use Rattle.cc_model.specs.Heap.{Heap, HeapNative, Buffered, native_at, set_preserved, with_mark, buffered_as, new_native}
 use Rattle.cc_model.specs.Cascade.{add_ref, at_rest}
 use Rattle.cc_model.specs.WellFormed.{native_names}
 use Rattle.cc_model.specs.Counts.{slots_of_natives, times}
@@ -162,10 +162,10 @@ owned-front old new b front is others o =
 
 -- Where the front of the buffer is taken out, or the buffer is empty, nothing of what is owned changes.
 pub owned-selected : (old new : Counts) (r : Option (NKey × Bool)) → MatchOption r ((old.buffer ≡ []) × (new ≡ old))
-    (λ front. (old.buffer ≡ record { number = the_number old front.0.0; purple = front.1 } ∷ new.buffer)
+    (λ front. (old.buffer ≡ buffered_as (the_number old front.0.0) front.1 ∷ new.buffer)
     × (new ≡ record old { buffer = new.buffer }) × (is_some (number_at old front.0.0) ≡ true)) → Transfers [] [] old new
 owned-selected old new None f others o = subst (AreOwned others) (sym f.1) o
-owned-selected old new (Some front) f others o = owned-front old new (record { number = the_number old front.0.0; purple = front.1 }) f.0 f.1 others o
+owned-selected old new (Some front) f others o = owned-front old new (buffered_as (the_number old front.0.0) front.1) f.0 f.1 others o
 
 -- A native is made: its one reference is the caller's.
 pub owned-made : (old new : Counts) (key number size : ℕ) → ((n : HeapNative) → Among n old.natives → n.number < number) →
@@ -183,7 +183,7 @@ owned-made old new key number size above m others o = record {
 }
   where
     made : HeapNative
-    made = record { number = number; slots = empty_slots size; preserved = false; count = 1 }
+    made = new_native number size
 
     IsCountedIn : HeapNative → Type 0
     IsCountedIn n = n.count ≡ count_by (same_name (native n.number)) (slots_of_natives (heap_of new)) + times n.number (number ∷ others)

@@ -9,6 +9,7 @@ use Rattle.cc_names.specs.Names.{native, same_name}
 use Rattle.cc_model.specs.Slots.{contents}
 use Rattle.cc_model.specs.Heap.{Heap, HeapNative, native_at, change_native, with_native_slot}
 use Rattle.cc_model.specs.Counts.{times}
+use Rattle.cc_model.specs.Cascade.{draining_at}
 use Rattle.cc_laws_heap.specs.Sound.{numbers_of}
 use Rattle.cc_laws_heap.specs.Balance.{waiting, living, IsBalanced, count_of, has_number}
 use Rattle.cc_laws_heap.proofs.Face.{HasDistinctNumbers-change, native_at-change_other, native_at-change_same, times-numbers_of}
@@ -73,8 +74,8 @@ module _ (l : Lists) (p : IsPlaced l) (key : ℕ) (c : Placed) (at : cell_at l.c
   pub IsBalanced-written : is_live (keyed l.cells) x ≡ true → (owned : List ℕ) → IsBalanced (numbers_held (keyed l.cells) x ++ owned) (draining_of l []) →
       IsBalanced (numbers_held (keyed l.cells) (get_or c.slots i None) ++ owned) (draining_of (record l { cells = cells }) [])
   IsBalanced-written live owned b =
-      subst (λ g. IsBalanced (numbers_held (keyed l.cells) content ++ owned) (record { heap = g; queue = map (the_number (keyed cells)) l.queue; events = [] })) (sym heap-written)
-      (subst (λ n. IsBalanced (numbers_held (keyed l.cells) content ++ owned) (record { heap = change_native h c.number written; queue = map (the_number n) l.queue; events = [] })) (sym keyed-written)
+      subst (λ g. IsBalanced (numbers_held (keyed l.cells) content ++ owned) (draining_at g (map (the_number (keyed cells)) l.queue) [])) (sym heap-written)
+      (subst (λ n. IsBalanced (numbers_held (keyed l.cells) content ++ owned) (draining_at (change_native h c.number written) (map (the_number n) l.queue) [])) (sym keyed-written)
       (record {
         distinct = HasDistinctNumbers-change h c.number written (λ n. refl) b.distinct;
         counts = λ j. omega (

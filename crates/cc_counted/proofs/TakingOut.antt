@@ -21,7 +21,7 @@ use Rattle.cc_purple.specs.Marks.{Marked}
 use Rattle.cc_counted.specs.declared.held.Held.{Held}
 use Rattle.cc_counted.specs.declared.held.Held.TheVariants as held
 use Rattle.cc_counted.specs.Counts.{Counts, number_at, number_or_none, the_number, name_of, is_live, numbers_held}
-use Rattle.cc_counted.specs.Lists.{Placed, Lists, cell_at, keyed, shown, shown_at, numbers_in, marked_number, draining_of, IsPlaced, taken_out}
+use Rattle.cc_counted.specs.Lists.{Placed, Lists, cell_at, keyed, shown, shown_at, numbers_in, marked_number, draining_of, IsPlaced, taken_out, shown_with}
 use Rattle.cc_counted.proofs.Places.{cell_number, number_at-cells, number_at-cell, the_number-cell, shown-number, native_at-cell}
 use Rattle.cc_lists.proofs.ListWrites.{map-agree}
 use Rattle.cc_counted.proofs.Changing.{cell-within}
@@ -139,7 +139,7 @@ module _ (owned : List ℕ) (l : Lists) (es : List Event) (p : IsPlaced l) (b : 
       ∙ sym (filter-map (λ (n : HeapNative). not (n.number == c.number)) (shown_at l.cells) l.order))
     where
       shown-same : (k : ℕ) (a : Placed) → cell_at l.cells k ≡ Some a → shown (keyed left.cells) (Some a) ≡ shown numbers (Some a)
-      shown-same k a e = ap (λ ys. record { number = a.number; slots = ys; preserved = a.preserved; count = a.count })
+      shown-same k a e = ap (λ ys. shown_with ys a)
           (names-same numbers (keyed left.cells) a.slots (λ x m. (slot-same k a x e m).0))
 
       each : (k : ℕ) → Among k (without ◌==◌ key l.order) → shown_at left.cells k ≡ shown_at l.cells k

@@ -9,7 +9,7 @@ use Rattle.cc_names.specs.Names.{native}
 use Rattle.cc_model.specs.declared.item.Event.{Event}
 use Rattle.cc_model.specs.declared.item.Event.TheVariants.{Unlinked}
 use Rattle.cc_model.specs.Telling.{Telling, TellsEvents}
-use Rattle.cc_model.specs.Heap.{Heap, Outcome, silently, after as told_before, set_preserved}
+use Rattle.cc_model.specs.Heap.{Heap, Outcome, silently, after as told_before, set_preserved, outcome_of}
 use Rattle.cc_model.specs.End.{empty_slot, empty_each, unlink}
 use Rattle.cc_model.proofs.Tellings.{TellsEvents-trans}
 use Rattle.cc_laws_heap.specs.Balance.{IsBalanced}
@@ -38,7 +38,7 @@ pub record EmptiesSoFar (start now : Lists) (key i : ℕ) (before after : Tellin
   pub balanced : (others : List ℕ) × IsBalanced (was.number ∷ others) (draining_of now [])
   pub keeps : (others : List ℕ) → IsBalanced (was.number ∷ others) (draining_of start []) → IsBalanced (was.number ∷ others) (draining_of now [])
   pub events : List Event
-  pub rest : empty_each was.number i (names_in (keyed start.cells) (drop i was.slots)) (record { heap = heap_of (counts_of now); events = events })
+  pub rest : empty_each was.number i (names_in (keyed start.cells) (drop i was.slots)) (outcome_of (heap_of (counts_of now)) events)
       ≡ empty_each was.number 0 (names_in (keyed start.cells) was.slots) (silently (heap_of (counts_of start)))
   pub told : TellsEvents before after events
 
@@ -80,7 +80,7 @@ module _ (start now next : Lists) (key i : ℕ) (before middle after : Telling) 
       (subst (λ x. Among x s.cell.slots) parts.0
       (Among-contains (get_or s.cell.slots i None) s.cell.slots (Contains-get_or s.cell.slots i None (omega (arith, s.long)))))
 
-  step : empty_slot (heap_of (counts_of now)) number i (name_of (keyed start.cells) content) ≡ record { heap = heap_of (counts_of next); events = f.events }
+  step : empty_slot (heap_of (counts_of now)) number i (name_of (keyed start.cells) content) ≡ outcome_of (heap_of (counts_of next)) f.events
   step =
       let at_number : f.was.number ≡ number = ap (λ (c : Placed). c.number) same-cell ∙ s.number in
       let at_content : get_or f.was.slots i None ≡ content = ap (λ (c : Placed). get_or c.slots i None) same-cell ∙ parts.0 in
@@ -113,23 +113,23 @@ module _ (start now next : Lists) (key i : ℕ) (before middle after : Telling) 
     keeps = λ others b. keeps_balance others (s.keeps others b);
     events = s.events ++ f.events;
     rest =
-        ap (λ n. empty_each number n (names (i + 1)) (record { heap = heap_of (counts_of next); events = s.events ++ f.events })) (add-one i)
+        ap (λ n. empty_each number n (names (i + 1)) (outcome_of (heap_of (counts_of next)) (s.events ++ f.events))) (add-one i)
         ∙ (ap (λ o. empty_each number (suc i) (names (i + 1)) (told_before s.events o)) (sym step)
-        ∙ (ap (λ xs. empty_each number i (names_in (keyed start.cells) xs) (record { heap = heap_of (counts_of now); events = s.events })) (sym (dropped s.was.slots within))
+        ∙ (ap (λ xs. empty_each number i (names_in (keyed start.cells) xs) (outcome_of (heap_of (counts_of now)) s.events)) (sym (dropped s.was.slots within))
         ∙ s.rest));
     told = TellsEvents-trans before middle after s.events f.events s.told f.told;
   }
 
 -- THE NATIVE IS UNLINKED once its slots are empty and its reflector is preserved no longer.
 unlinked : (old mid : Lists) (key : ℕ) (before after : Telling) → IsPlaced old → (e : EmptiesEach old mid key before after) →
-    unlink (heap_of (counts_of old)) e.was.number ≡ record { heap = set_preserved (heap_of (counts_of mid)) e.was.number false; events = Unlinked (native e.was.number) ∷ e.events }
+    unlink (heap_of (counts_of old)) e.was.number ≡ outcome_of (set_preserved (heap_of (counts_of mid)) e.was.number false) (Unlinked (native e.was.number) ∷ e.events)
 unfolding unlink
 unlinked old mid key before after p e = grind (arith, native_at-cell)
 
 module _ (old mid : Lists) (key : ℕ) (before after : Telling) (p : IsPlaced old) (e : EmptiesEach old mid key before after) where
   -- so it is by the number at its key
   pub unlinked-key : unlink (heap_of (counts_of old)) (the_number (counts_of old) key) ≡
-      record { heap = set_preserved (heap_of (counts_of mid)) e.was.number false; events = Unlinked (native e.was.number) ∷ e.events }
+      outcome_of (set_preserved (heap_of (counts_of mid)) e.was.number false) (Unlinked (native e.was.number) ∷ e.events)
   unlinked-key = ap (unlink (heap_of (counts_of old))) (the_number-cell old.cells key e.was e.was_there) ∙ unlinked old mid key before after p e
 
   -- WHAT IS LEFT once the preservation ended

@@ -4,8 +4,8 @@ use Rattle.cc_lists.specs.Members.{Among, without}
 use Rattle.cc_names.specs.Sizes.{most_slots}
 use Rattle.cc_model.specs.declared.item.Event.{Event}
 use Rattle.cc_model.specs.Slots.{Slots}
-use Rattle.cc_model.specs.Heap.{HeapNative, Buffered}
-use Rattle.cc_model.specs.Cascade.{Draining}
+use Rattle.cc_model.specs.Heap.{HeapNative, Buffered, buffered_as, new_native}
+use Rattle.cc_model.specs.Cascade.{Draining, draining_at}
 use Rattle.cc_model.specs.WellFormed.{IsRising}
 use Rattle.cc_purple.specs.Marks.{Marked, with_mark, without_key}
 use Rattle.cc_counted.specs.declared.held.Held.{Held}
@@ -76,10 +76,14 @@ names_in c slots = map (name_of c) slots
 abbrev pub numbers_in : Counts → List (Option Held) → List ℕ
 numbers_in c slots = flat_map (numbers_held c) slots
 
+-- a native, whose slots hold these names
+abbrev pub shown_with : Slots → Placed → HeapNative
+shown_with slots p = record { number = p.number; slots = slots; preserved = p.preserved; count = p.count }
+
 -- a native by names
 abbrev pub shown : Counts → Option Placed → HeapNative
-shown c None = record { number = 0; slots = []; preserved = false; count = 0 }
-shown c (Some p) = record { number = p.number; slots = names_in c p.slots; preserved = p.preserved; count = p.count }
+shown c None = record (new_native 0 0) { count = 0 }
+shown c (Some p) = shown_with (names_in c p.slots) p
 
 -- the native at a key by names
 abbrev pub shown_at : List (Option Placed) → ℕ → HeapNative
@@ -87,7 +91,7 @@ shown_at cells key = shown (keyed cells) (cell_at cells key)
 
 -- a marked key by its number
 abbrev pub marked_number : Counts → Marked → Buffered
-marked_number c m = record { number = the_number c m.key; purple = m.purple }
+marked_number c m = buffered_as (the_number c m.key) m.purple
 
 -- WHAT THE LISTS SHOW
 abbrev pub counts_of : Lists → Counts
@@ -100,7 +104,7 @@ counts_of l = record {
 
 -- and while natives are deleted
 abbrev pub draining_of : Lists → List Event → Draining
-draining_of l events = record { heap = heap_of (counts_of l); queue = map (the_number (keyed l.cells)) l.queue; events = events }
+draining_of l events = draining_at (heap_of (counts_of l)) (map (the_number (keyed l.cells)) l.queue) events
 
 -- THE LISTS FIT TOGETHER: the order has the keys of the natives by rising number, and each key that is held, waits or
 -- stands in the buffer is that of a native

@@ -3,7 +3,7 @@ use Rattle.std.specs.Prelude.{◌≡◌, ◌≢◌, ℕ, ◌+◌, ◌≤◌, ◌
 use Rattle.cc_lists.specs.Members.{Among}
 use Rattle.cc_names.specs.Names.{native, same_name}
 use Rattle.cc_model.specs.Slots.{empty_slots}
-use Rattle.cc_model.specs.Heap.{HeapNative, Buffered, with_mark}
+use Rattle.cc_model.specs.Heap.{HeapNative, Buffered, with_mark, new_native}
 use Rattle.cc_model.specs.WellFormed.{IsRising, native_names}
 use Rattle.cc_model.specs.Counts.{slots_of_natives, times}
 use Rattle.cc_counted.specs.Counts.{Counts, heap_of, number_at, reflector_at}
@@ -35,7 +35,7 @@ CallersOwn ks c = (others : List ℕ) × AreOwned (ks ++ others) c
 
 -- a native was made at a key that held nothing: it stands last and in the buffer, with count one
 pub record Makes (old new : Counts) (key number slots : ℕ) : Type 0 where
-  pub natives : new.natives ≡ old.natives ++ record { number = number; slots = empty_slots slots; preserved = false; count = 1 } ∷ []
+  pub natives : new.natives ≡ old.natives ++ new_native number slots ∷ []
   pub buffer : new.buffer ≡ with_mark false number old.buffer
   pub there : number_at new key ≡ Some number
   pub others : (q : ℕ) → q ≢ key → number_at new q ≡ number_at old q

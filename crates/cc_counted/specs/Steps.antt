@@ -4,7 +4,7 @@ use Rattle.cc_names.specs.Names.{native}
 use Rattle.cc_model.specs.declared.item.Event.{Event}
 use Rattle.cc_model.specs.declared.item.Event.TheVariants.{Freed}
 use Rattle.cc_model.specs.Telling.{Telling, TellsEvents}
-use Rattle.cc_model.specs.Heap.{Outcome, silently}
+use Rattle.cc_model.specs.Heap.{Outcome, silently, outcome_of}
 use Rattle.cc_model.specs.End.{empty_slot, empty_each}
 use Rattle.cc_laws_heap.specs.Balance.{IsBalanced}
 use Rattle.cc_model.specs.Cascade.{give_up_each, free_front, drain}
@@ -63,7 +63,7 @@ pub record EmptiesSlot (old new : Lists) (key i : ℕ) (before after : Telling) 
   pub leaves : LeavesKeys old.cells new.cells
   pub balanced : (others : List ℕ) → IsBalanced (was.number ∷ others) (draining_of old []) → IsBalanced (was.number ∷ others) (draining_of new [])
   pub events : List Event
-  pub outcome : empty_slot (heap_of (counts_of old)) was.number i (name_of (keyed old.cells) (slice_index_or was.slots i None)) ≡ record { heap = heap_of (counts_of new); events = events }
+  pub outcome : empty_slot (heap_of (counts_of old)) was.number i (name_of (keyed old.cells) (slice_index_or was.slots i None)) ≡ outcome_of (heap_of (counts_of new)) events
   pub told : TellsEvents before after events
 
 -- all slots of the native at a key were emptied so
@@ -77,5 +77,5 @@ pub record EmptiesEach (old new : Lists) (key : ℕ) (before after : Telling) : 
   pub leaves : LeavesKeys old.cells new.cells
   pub balanced : (others : List ℕ) → IsBalanced (was.number ∷ others) (draining_of old []) → IsBalanced (was.number ∷ others) (draining_of new [])
   pub events : List Event
-  pub outcome : empty_each was.number 0 (names_in (keyed old.cells) was.slots) (silently (heap_of (counts_of old))) ≡ record { heap = heap_of (counts_of new); events = events }
+  pub outcome : empty_each was.number 0 (names_in (keyed old.cells) was.slots) (silently (heap_of (counts_of old))) ≡ outcome_of (heap_of (counts_of new)) events
   pub told : TellsEvents before after events

@@ -4,7 +4,7 @@ ghost use Rattle.cc_names.specs.Names.{native};
 ghost use Rattle.cc_names.specs.Sizes.{most_slots};
 ghost use Rattle.cc_model.specs.Telling.{TellsEvents};
 ghost use Rattle.cc_model.specs.Slots.{empty_slots};
-ghost use Rattle.cc_model.specs.Heap.{HeapNative, set_preserved, set_slot, suspect, touch, with_mark};
+ghost use Rattle.cc_model.specs.Heap.{HeapNative, set_preserved, set_slot, suspect, touch, with_mark, buffered_as, new_native};
 ghost use Rattle.cc_model.specs.Cascade.{add_ref};
 ghost use Rattle.cc_model.specs.End.{unlink};
 ghost use Rattle.cc_counted.specs.Counts.{no_counts, number_at, reflector_at, the_number, name_of, is_live, numbers_held, heap_of, with_heap, with_reflector, left_with, released, slots_of, count_of, preserved_of, references_of, first_number, number_after};
@@ -68,7 +68,7 @@ impl Counted {
         requires slots { slots ≤ most_slots }
         requires above { (n : HeapNative) → Among n self.old.natives → n.number < no.0 }
         requires owned { CallersOwn [] self.old }
-        ensures natives { OnOk result (self.new.natives ≡ self.old.natives ++ record { number = no.0; slots = empty_slots slots; preserved = false; count = 1 } ∷ []) }
+        ensures natives { OnOk result (self.new.natives ≡ self.old.natives ++ new_native no.0 slots ∷ []) }
         ensures buffer { OnOk result (self.new.buffer ≡ with_mark false no.0 self.old.buffer) }
         ensures key { IfOk result (λ key. number_at self.new key.0 ≡ Some no.0) }
         ensures others { IfOk result (λ key. (q : ℕ) → q ≢ key.0 → number_at self.new q ≡ number_at self.old q) }
@@ -317,7 +317,7 @@ impl Counted {
     /// Takes out the front of the buffer with its mark; none exactly where the buffer is empty.
     pub fn select_next(&mut self) -> Option<(NKey, bool)>
         ensures front { MatchOption result ((self.old.buffer ≡ []) × (self.new ≡ self.old))
-            (λ front. (self.old.buffer ≡ record { number = the_number self.old front.0.0; purple = front.1 } ∷ self.new.buffer) × (self.new ≡ record self.old { buffer = self.new.buffer }) × IsSome (number_at self.old front.0.0)) }
+            (λ front. (self.old.buffer ≡ buffered_as (the_number self.old front.0.0) front.1 ∷ self.new.buffer) × (self.new ≡ record self.old { buffer = self.new.buffer }) × IsSome (number_at self.old front.0.0)) }
         ensures owned { Transfers [] [] self.old self.new }
     {
         self.natives.select_next()

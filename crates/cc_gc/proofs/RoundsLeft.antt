@@ -4,7 +4,7 @@ use Rattle.cc_lists.specs.Members.{Among}
 use Rattle.cc_lists.proofs.Members.{Among-filtered}
 use Rattle.cc_names.specs.declared.name.Name.{Name}
 use Rattle.cc_model.specs.declared.item.Event.{Event}
-use Rattle.cc_model.specs.Heap.{Heap, Outcome, after}
+use Rattle.cc_model.specs.Heap.{Heap, Outcome, after, outcome_of}
 use Rattle.cc_model.specs.Colours.{marked, HasColours, HasColourInvariant}
 use Rattle.cc_model.specs.StandsFor.{StandsFor}
 use Rattle.cc_model.specs.Suspected.{IsSuspected}
@@ -58,7 +58,7 @@ KeepsKeys-round a b c s m w p q =
 -- The rounds that are left
 
 abbrev outcome : Heap → List Event → Outcome
-outcome h es = record { heap = h; events = es }
+outcome h es = outcome_of h es
 
 -- what is in order, whatever is owned besides, is so afterwards
 abbrev pub KeepsOrder : Keyed → Keyed → Type 0
@@ -69,7 +69,7 @@ pub record IsCollecting (old now : Keyed) (before here : Telling) : Type 0 where
   pub left : ℕ
   pub events : List Event
   pub enough : length now.heap.scripts < left
-  pub rest : rounds left (record { heap = now.heap; events = events }) ≡ collect_scripts old.heap
+  pub rest : rounds left (outcome_of now.heap events) ≡ collect_scripts old.heap
   pub told : TellsEvents before here events
   pub keys : KeepsKeys old now
   pub order : KeepsOrder old now

@@ -14,7 +14,7 @@ use Rattle.cc_model.specs.declared.item.Event.TheVariants.{Freed}
 use Rattle.cc_model.specs.Telling.{Telling, TellsEvents}
 use Rattle.cc_model.specs.Counts.{times}
 use Rattle.cc_model.specs.Slots.{empty_slots}
-use Rattle.cc_model.specs.Heap.{Heap, HeapNative, native_at, register, set_register, set_slot, with_native_slot}
+use Rattle.cc_model.specs.Heap.{Heap, HeapNative, native_at, register, set_register, set_slot, with_native_slot, new_native, native_to_make}
 use Rattle.cc_model.specs.Cascade.{take_up, let_go, cascade}
 use Rattle.cc_model.specs.End.{slots_now}
 use Rattle.cc_model.specs.Effects.{hold_native, make_native, with_native}
@@ -194,7 +194,7 @@ module _ (owned : List ℕ) (h k : Heap) (r slots : ℕ) (room : r < bank_length
 
   -- the names of natives after one was made
   named : native_names put ≡ native_names h ++ native (h.natives_made + 1) ∷ []
-  named = map-append (λ (n : HeapNative). native n.number) h.natives (record { number = h.natives_made + 1; slots = empty_slots slots; preserved = false; count = 1 } ∷ [])
+  named = map-append (λ (n : HeapNative). native n.number) h.natives (native_to_make h slots ∷ [])
 
   -- what was there is there still, before the old content is given up
   made-into : NothingLeft h put

@@ -14,7 +14,7 @@ use Rattle.cc_names.specs.declared.number.NKey.{NKey}
 use Rattle.cc_names.specs.Names.{native, reflector}
 use Rattle.cc_names.specs.Sizes.{most_slots}
 use Rattle.cc_model.specs.Slots.{contents, empty_slots}
-use Rattle.cc_model.specs.Heap.{Heap, HeapNative, with_mark}
+use Rattle.cc_model.specs.Heap.{Heap, HeapNative, with_mark, new_native}
 use Rattle.cc_model.specs.Effects.{put_in_register, with_native, make_native}
 use Rattle.cc_laws_heap.proofs.Face.{contents-empty_none, named-member}
 use Rattle.cc_counted.specs.Counts.{Counts, key_left}
@@ -34,15 +34,12 @@ use Rattle.cc_heaps.proofs.Naming.{name_in}
 use Rattle.cc_heaps.proofs.Ordered.{IsInOrder-made}
 use Rattle.cc_heaps.proofs.Registers.{AreLive-same, made-same, registers-same}
 
--- a native as it is made
-abbrev pub made_native : ℕ → ℕ → HeapNative
-made_native number slots = record { number = number; slots = empty_slots slots; preserved = false; count = 1 }
-
-made-named : (objects : List Object) (number n : ℕ) → named_native objects (made_native number n) ≡ made_native number n
-made-named objects number n = ap (λ ss. record (made_native number n) { slots = ss }) (map-replicate (name_in objects) n None)
+-- a native as it is made holds nothing that has a name
+made-named : (objects : List Object) (number n : ℕ) → named_native objects (new_native number n) ≡ new_native number n
+made-named objects number n = ap (λ ss. record (new_native number n) { slots = ss }) (map-replicate (name_in objects) n None)
 
 module _ {owned : List ℕ} (p : Inside) (f : IsFit owned p) (next : Counts) (slots : ℕ) (key : NKey)
-    (natives : next.natives ≡ p.counted.natives ++ made_native (p.natives_made + 1) slots ∷ [])
+    (natives : next.natives ≡ p.counted.natives ++ new_native (p.natives_made + 1) slots ∷ [])
     (buffer : next.buffer ≡ with_mark false (p.natives_made + 1) p.counted.buffer)
     (others : (q : ℕ) → q ≢ key.0 → counts.number_at next q ≡ counts.number_at p.counted q)
     (vacant : counts.number_at p.counted key.0 ≡ None) where
@@ -62,7 +59,7 @@ module _ {owned : List ℕ} (p : Inside) (f : IsFit owned p) (next : Counts) (sl
   named-natives : map (named_native p.scripts) next.natives ≡ (with_native v.heap slots).natives
   named-natives =
       ap (map (named_native p.scripts)) natives
-      ∙ (map-append (named_native p.scripts) p.counted.natives (made_native (p.natives_made + 1) slots ∷ [])
+      ∙ (map-append (named_native p.scripts) p.counted.natives (new_native (p.natives_made + 1) slots ∷ [])
       ∙ ap (λ n. v.heap.natives ++ n ∷ []) (made-named p.scripts (p.natives_made + 1) slots))
 
   pub made-keyed : keyed_of made ≡ record v { heap = with_native v.heap slots; keys = next.keys }
@@ -108,7 +105,7 @@ module _ {owned : List ℕ} (p : Inside) (f : IsFit owned p) (next : Counts) (sl
       script_registers = f.linked.script_registers;
       registers = f.linked.registers;
       held = λ n x m. subst (λ ns. (o : HeapNative) → Among o ns → Among x (contents o.slots) → IsHeldThere p.scripts x) (sym natives)
-          (each-push (λ (o : HeapNative). Among x (contents o.slots) → IsHeldThere p.scripts x) p.counted.natives (made_native (p.natives_made + 1) slots)
+          (each-push (λ (o : HeapNative). Among x (contents o.slots) → IsHeldThere p.scripts x) p.counted.natives (new_native (p.natives_made + 1) slots)
           (λ o a. f.linked.held o x a) (λ a. absurd (contents-empty_none slots x a))) n m;
       one_key = f.linked.one_key;
       one_name = f.linked.one_name;

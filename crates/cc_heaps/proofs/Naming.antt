@@ -14,7 +14,7 @@ use Rattle.cc_names.specs.declared.name.Name.TheVariants as name
 use Rattle.cc_names.specs.Names.{native, same_name, is_native, natives_in}
 use Rattle.cc_model.specs.declared.item.Event.TheVariants.{Unlinked}
 use Rattle.cc_model.specs.Slots.{Slots, contents}
-use Rattle.cc_model.specs.Heap.{Heap, HeapNative, Outcome, native_at, silently, after, change_native, set_slot, set_preserved}
+use Rattle.cc_model.specs.Heap.{Heap, HeapNative, Outcome, native_at, silently, after, change_native, set_slot, set_preserved, outcome_of}
 use Rattle.cc_model.specs.Cascade.{Draining, add_ref, lower, give_up, give_up_each, removed, natives_of_slots, told_free, without_native, free_front, drain, at_rest, drained, cascade, let_go}
 use Rattle.cc_model.specs.Counts.{slots_of_natives, times}
 use Rattle.cc_model.specs.End.{empty_slot, empty_each, slots_now, without_preservation, unlink}
@@ -180,7 +180,7 @@ module _ (objects : List Object) where
     cascade-shown h g k = ap (λ (d : Draining). outcome d) (drained-shown h g k)
       where
         outcome : Draining → Outcome
-        outcome d = record { heap = d.heap; events = d.events }
+        outcome d = outcome_of d.heap d.events
 
     -- What a register or a slot holds taken up, and given up
 
@@ -223,4 +223,4 @@ module _ (objects : List Object) where
       where
         whole : (o : Outcome) → after (Unlinked (native k) ∷ []) (without_preservation k (outcome_shown h objects o)) ≡
             outcome_shown h objects (after (Unlinked (native k) ∷ []) (without_preservation k o))
-        whole o = ap (λ (f : Heap). record { heap = f; events = Unlinked (native k) ∷ o.events }) (set_preserved-shown h o.heap k false)
+        whole o = ap (λ (f : Heap). outcome_of f (Unlinked (native k) ∷ o.events)) (set_preserved-shown h o.heap k false)

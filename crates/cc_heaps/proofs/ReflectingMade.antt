@@ -12,7 +12,7 @@ use Rattle.cc_model.specs.Slots.{reflector_slots}
 use Rattle.cc_model.specs.Graph as graph
 use Rattle.cc_model.specs.Graph.{as_wrapped}
 use Rattle.cc_model.proofs.Places.{script_place-cases}
-use Rattle.cc_model.specs.Heap.{Heap, has_reflector}
+use Rattle.cc_model.specs.Heap.{Heap, has_reflector, new_script}
 use Rattle.cc_model.specs.View.{view, native_edges, script_edges, ReachedIn}
 use Rattle.cc_model.specs.Cascade.{add_ref}
 use Rattle.cc_model.specs.Exposure.{exposed}
@@ -20,7 +20,7 @@ use Rattle.cc_model.specs.Effects.{with_reflector, wrapped}
 use Rattle.cc_model.specs.WellFormed.{IsWellFormed, native_names}
 use Rattle.cc_model.specs.StandsFor.{StandsFor}
 use Rattle.cc_laws_heap.specs.Sound.{IsSound}
-use Rattle.cc_laws_heap.proofs.Face.{AreColoured-from_view, AreColoured-push, Follows-wrapped, HasColourInvariant-from, HoldsTheSame-add_ref, IsWellMade-change_native, KeepsNative-wrapped, blank, contents-empty_none, exposed-sound, follows-stands, in-reached, with_reflector-sound}
+use Rattle.cc_laws_heap.proofs.Face.{AreColoured-from_view, AreColoured-push, Follows-wrapped, HasColourInvariant-from, HoldsTheSame-add_ref, IsWellMade-change_native, KeepsNative-wrapped, contents-empty_none, exposed-sound, follows-stands, in-reached, with_reflector-sound}
 use Rattle.cc_laws_snapshot.proofs.Face.{edges-alike, reached-kept, reflector_made-fresh, reflector_made-suspected, script-edge}
 use Rattle.cc_heaps.specs.Standing.{IsReached, StandsAfter, KeepsFresh, KeepsSuspected, KeepsColours}
 
@@ -40,7 +40,7 @@ made-reached h k w = reached-kept h (with_reflector h k) w (record {
     more x y e = ⊎_elim
         (λ l. Among-left (x, y) (flat_map native_edges (add_ref h k).natives) (flat_map script_edges (with_reflector h k).scripts) l)
         (λ l. let f = Among-flat_map_cases script_edges h.scripts (x, y) l in
-        script-edge (with_reflector h k) f.0 x y (Among-left f.0 h.scripts (blank (reflector k) Reflector reflector_slots None ∷ []) f.1) f.2)
+        script-edge (with_reflector h k) f.0 x y (Among-left f.0 h.scripts (new_script (reflector k) Reflector reflector_slots None ∷ []) f.1) f.2)
         (Among-append (x, y) (flat_map native_edges (add_ref h k).natives) (flat_map script_edges h.scripts) e)
 
 -- and neither does an exposure.
@@ -81,8 +81,8 @@ module _ {owned : List ℕ} (h : Heap) (k : ℕ) (s : IsSound owned h) (there : 
     -- It is black and holds nothing: the colour invariant stays,
     pub reflector_made-colours : KeepsColours h (with_reflector h k)
     reflector_made-colours c = HasColourInvariant-from (with_reflector h k) reflector_made-sound.well_formed
-        (AreColoured-push h.scripts h.script_registers (blank (reflector k) Reflector reflector_slots None) refl
-        (λ o m i. ⊎_elim (λ l. absurd (contents-empty_none reflector_slots o.name l)) (λ e. absurd (cc)) (script_place-cases (blank (reflector k) Reflector reflector_slots None) o.name i))
+        (AreColoured-push h.scripts h.script_registers (new_script (reflector k) Reflector reflector_slots None) refl
+        (λ o m i. ⊎_elim (λ l. absurd (contents-empty_none reflector_slots o.name l)) (λ e. absurd (cc)) (script_place-cases (new_script (reflector k) Reflector reflector_slots None) o.name i))
         (AreColoured-from_view h s.well_formed c))
 
     -- and every snapshot that was fresh is fresh.

@@ -1,7 +1,7 @@
 -- WHAT CALLS DO TO SCRIPT OBJECTS AND SCRIPT REGISTERS: an exposure, a slot written, a register written, an object made.
 use Rattle.cc_heaps.proofs.ObjectsKept.{there-named}
 use Rattle.cc_script.proofs.InOrder.{object_at-left}
-use Rattle.cc_laws_heap.proofs.Face.{IsDelegate, IsNewScript-object, blank, exposed-sound, no_delegate, option_map-found, script_register-sound, script_slot-sound, with_script-sound}
+use Rattle.cc_laws_heap.proofs.Face.{IsDelegate, IsNewScript-object, exposed-sound, no_delegate, option_map-found, script_register-sound, script_slot-sound, with_script-sound}
 use Rattle.cc_lists.proofs.Held.{is_some-none, once-push, map-replicate, map-held}
 use Rattle.std.proofs.Common.{arith, ◌≡◌, ℕ, ◌+◌, ◌<◌, ◌≤◌, false, List, [], ◌∷◌, ◌++◌, map, replicate, Option, Some, None, option_map, refl, sym, ◌∙◌, ap, subst, ⊎_elim, ◌==◌}
 use Rattle.std.specs.Prelude.{IsTrue, slice_set}
@@ -21,7 +21,7 @@ use Rattle.cc_names.specs.declared.kind.Colour.TheVariants.{Black}
 use Rattle.cc_names.specs.Names.{object, reflector, same_name, is_native}
 use Rattle.cc_names.specs.Sizes.{most_slots}
 use Rattle.cc_model.specs.Slots.{empty_slots}
-use Rattle.cc_model.specs.Heap.{Heap, set_register, set_slot}
+use Rattle.cc_model.specs.Heap.{Heap, set_register, set_slot, new_script}
 use Rattle.cc_model.specs.Effects.{with_object}
 use Rattle.cc_model.specs.Exposure.{exposed}
 use Rattle.cc_model.specs.WellFormed.{FitsName}
@@ -202,10 +202,10 @@ module _ (objects : List Object) (one : HasOneKey objects) (whole : AreWhole obj
   whole-made = scripts.whole-made objects new n empty held whole
 
   -- by names it goes last too
-  pub named-made : named_objects made_last ≡ named_objects objects ++ record { name = new.name; kind = new.kind; slots = empty_slots n; delegate = name_held objects new.delegate; colour = new.colour } ∷ []
+  pub named-made : named_objects made_last ≡ named_objects objects ++ record (named_object objects new) { slots = empty_slots n } ∷ []
   named-made = map_push (named_object made_last) objects new
       ∙ (λ i. map-agree (named_object made_last) (named_object objects) objects same i
-      ++ record { name = new.name; kind = new.kind; slots = (ap (map (name_held made_last)) empty ∙ map-replicate (name_held made_last) n None) i; delegate = kept new.delegate held i; colour = new.colour } ∷ [])
+      ++ record (named_object objects new) { slots = (ap (map (name_held made_last)) empty ∙ map-replicate (name_held made_last) n None) i; delegate = kept new.delegate held i } ∷ [])
     where
       kept : (d : Option ℕ) → ((q : ℕ) → d ≡ Some q → IsTrue (is_there objects q)) → name_held made_last d ≡ name_held objects d
       kept None t = refl
@@ -288,7 +288,7 @@ module _ {owned : List ℕ} (p : Inside) (l : IsLinked p) (o : IsInOrder owned (
       go Map t = tt
       go (Proxy d) t = KeepsNames-there p.scripts objects kept d.0 t
 
-  named : named_objects objects ≡ named_objects p.scripts ++ blank (object (p.scripts_made + 1)) kind n its ∷ []
+  named : named_objects objects ≡ named_objects p.scripts ++ new_script (object (p.scripts_made + 1)) kind n its ∷ []
   named = named-made p.scripts l.one_key o.whole new n refl held vacant
 
   -- it is no reflector
@@ -313,7 +313,7 @@ module _ {owned : List ℕ} (p : Inside) (l : IsLinked p) (o : IsInOrder owned (
       subst (λ os. Becomes owned p (with_objects p os (p.scripts_made + 1)) (with_object (heap_of p) kind n its)) (sym e)
       (becomes p l o objects (p.scripts_made + 1) (with_object (heap_of p) kind n its) kept
       (ap (λ scripts. record (heap_of p) { scripts = scripts; scripts_made = p.scripts_made + 1 }) named)
-      (with_script-sound owned (heap_of p) (blank (object (p.scripts_made + 1)) kind n its) (p.scripts_made + 1)
+      (with_script-sound owned (heap_of p) (new_script (object (p.scripts_made + 1)) kind n its) (p.scripts_made + 1)
       (IsNewScript-object (heap_of p) kind n its o.sound.well_formed (made-fits p.scripts (p.scripts_made + 1) what may) is_delegate room) o.sound)
       (one_key-made p.scripts l.one_key o.whole new n refl held vacant)
       (whole-made p.scripts l.one_key o.whole new n refl held vacant)

@@ -18,7 +18,7 @@ use Rattle.cc_model.specs.Exposure.{as_black, exposed, exposed_names}
 use Rattle.cc_script.specs.Objects.{Object, AreWhole, change_object, is_there, name_at, places_of, raised, raised_among, with_colour, with_slot}
 use Rattle.cc_script.proofs.PlacesOf.{slot-place, delegate-place, place-cases}
 use Rattle.cc_script.specs.Walking.{keys_reached}
-use Rattle.cc_heaps.specs.Keyed.{Keyed, Reflects, key_of, name_held, named_object, named_objects, reflectors_by}
+use Rattle.cc_heaps.specs.Keyed.{Keyed, Reflects, key_of, name_held, named_object, named_objects, reflectors_by, named_with}
 use Rattle.cc_heaps.proofs.Reaching.{AreNamesOf, HasOneKey, HasOneName, key-named, name_at-own, reached-alike_from, same-tests}
 use Rattle.cc_heaps.proofs.ScriptsChanged.{KeepsNames, KeepsNames-there}
 
@@ -46,7 +46,7 @@ module _ (f : Object → Object) (keeps : KeepsObjects f) (objects : List Object
   pub named-written : (g : HeapScript → HeapScript) → ((o : Object) → Among o objects → named_object objects (f o) ≡ g (named_object objects o)) →
       named_objects (map f objects) ≡ map g (named_objects objects)
   named-written g same =
-      ap (λ hold. map (λ o. record { name = o.name; kind = o.kind; slots = map hold o.slots; delegate = hold o.delegate; colour = o.colour }) (map f objects)) name_held-written
+      ap (λ hold. map (named_with hold) (map f objects)) name_held-written
       ∙ (map-map (named_object objects) f objects
       ∙ (map-agree (λ o. named_object objects (f o)) (λ o. g (named_object objects o)) objects same
       ∙ sym (map-map g (named_object objects) objects)))

@@ -10,7 +10,7 @@ use Rattle.cc_names.specs.declared.kind.Colour.TheVariants.{White}
 use Rattle.cc_names.specs.Names.{native}
 use Rattle.cc_model.specs.Slots.{Slots, contents}
 use Rattle.cc_model.specs.Reached.{Reached}
-use Rattle.cc_model.specs.Heap.{Heap, HeapScript, Buffered}
+use Rattle.cc_model.specs.Heap.{Heap, HeapScript, Buffered, buffered_as}
 use Rattle.cc_model.specs.View.{view, ReachedIn}
 use Rattle.cc_model.specs.Cascade.{add_ref, cascade}
 use Rattle.cc_model.specs.End.{unlink}
@@ -78,7 +78,7 @@ Front = NKey × Bool
 -- the front of the buffer taken out, where there is one
 abbrev pub TakesFront : Keyed → Keyed → Option Front → Type 0
 TakesFront v w o = MatchOption o ((v.heap.buffer ≡ []) × (w ≡ v))
-    (λ front. (v.heap.buffer ≡ record { number = the_number v front.0.0; purple = front.1 } ∷ w.heap.buffer)
+    (λ front. (v.heap.buffer ≡ buffered_as (the_number v front.0.0) front.1 ∷ w.heap.buffer)
     × (w ≡ changed_to v (record v.heap { buffer = w.heap.buffer })) × IsSome (number_at v front.0.0))
 
 -- The front of the buffer is taken out.

@@ -17,7 +17,7 @@ use Rattle.cc_names.specs.declared.name.Name.TheVariants as name
 use Rattle.cc_names.specs.Names.{native, reflector, same_name}
 use Rattle.cc_names.proofs.NameTests.{same_name-exact}
 use Rattle.cc_model.specs.declared.item.Event.TheVariants.{Freed}
-use Rattle.cc_model.specs.Heap.{Heap, HeapNative, Outcome, after}
+use Rattle.cc_model.specs.Heap.{Heap, HeapNative, Outcome, after, outcome_of}
 use Rattle.cc_model.specs.Cascade.{cascade}
 use Rattle.cc_model.specs.Sweep.{without_script}
 use Rattle.cc_model.specs.Sweep as model
@@ -51,7 +51,7 @@ without_each-scripts (x ∷ xs) h = without_each-scripts xs (without_script h x)
 
 -- what was done to the counted heap, by the names of these script objects, with the rest of other heaps
 abbrev pub left_by : List Object → Heap → Left → Outcome
-left_by objects h l = record { heap = shown h objects (counts.heap_of l.counts); events = l.events }
+left_by objects h l = outcome_of (shown h objects (counts.heap_of l.counts)) l.events
 
 module _ (p : Inside) (scripts : AreScripts p.scripts) where
   abbrev left_named : Heap → Left → Outcome

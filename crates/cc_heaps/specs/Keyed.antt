@@ -28,8 +28,12 @@ pub record Keyed : Type 0 where
 abbrev pub name_held : List Object → Option ℕ → Option Name
 name_held objects x = option_and_then (name_at objects) x
 
+-- a script object, by what its places hold
+abbrev pub named_with : (Option ℕ → Option Name) → Object → HeapScript
+named_with hold o = record { name = o.name; kind = o.kind; slots = map hold o.slots; delegate = hold o.delegate; colour = o.colour }
+
 abbrev pub named_object : List Object → Object → HeapScript
-named_object objects o = record { name = o.name; kind = o.kind; slots = map (name_held objects) o.slots; delegate = name_held objects o.delegate; colour = o.colour }
+named_object objects o = named_with (name_held objects) o
 
 abbrev pub named_objects : List Object → List HeapScript
 named_objects objects = map (named_object objects) objects

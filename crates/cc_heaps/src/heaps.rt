@@ -3,7 +3,7 @@ ghost use Rattle.std.specs.Prelude.{◌≡◌, ◌<◌, ℕ, List, [], ◌∷◌
 ghost use Rattle.cc_names.specs.declared.register.Reg.TheVariants.{N as n_register, S as s_register};
 ghost use Rattle.cc_names.specs.Names.{native};
 ghost use Rattle.cc_names.specs.Sizes.{bank_length};
-ghost use Rattle.cc_model.specs.Heap.{empty_heap, register, suspect};
+ghost use Rattle.cc_model.specs.Heap.{empty_heap, register, suspect, buffered_as};
 ghost use Rattle.cc_model.specs.Cascade.{add_ref, cascade};
 ghost use Rattle.cc_model.specs.Colours.{HasColourInvariant};
 ghost use Rattle.cc_model.specs.End.{unlink};
@@ -180,7 +180,7 @@ impl Heaps {
     /// Takes out the front of the buffer and its mark; none exactly where the buffer is empty.
     pub fn select_next(&mut self) -> Option<(NKey, bool)>
         ensures front { MatchOption result ((self.old.heap.buffer ≡ []) × (self.new ≡ self.old))
-            (λ front. (self.old.heap.buffer ≡ record { number = the_number self.old front.0.0; purple = front.1 } ∷ self.new.heap.buffer)
+            (λ front. (self.old.heap.buffer ≡ buffered_as (the_number self.old front.0.0) front.1 ∷ self.new.heap.buffer)
             × (self.new ≡ changed_to self.old (record self.old.heap { buffer = self.new.heap.buffer }))
             × IsSome (number_at self.old front.0.0)) }
         ensures kept { KeepsHeaps [] [] self.old self.new }

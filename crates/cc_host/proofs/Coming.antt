@@ -10,11 +10,11 @@ use Rattle.cc_names.specs.declared.kind.Kind.{Kind}
 use Rattle.cc_names.specs.declared.kind.Kind.TheVariants.{Reflector, Proxy as proxy_kind}
 use Rattle.cc_names.specs.Names.{native, object, reflector}
 use Rattle.cc_model.specs.Slots.{reflector_slots}
-use Rattle.cc_model.specs.Heap.{Heap, HeapScript, has_reflector, preserve, register}
+use Rattle.cc_model.specs.Heap.{Heap, HeapScript, has_reflector, preserve, register, new_script}
 use Rattle.cc_model.specs.Cascade.{let_go, take_up}
 use Rattle.cc_model.specs.Effects.{hold_native, make_object, make_proxy, with_reflector, with_script, wrapped}
 use Rattle.cc_model.specs.WellFormed.{IsWellFormed, native_names, names_there, script_names}
-use Rattle.cc_laws_heap.proofs.Face.{HoldsTheSame-add_ref, Leaves-let_go, blank, names_there-alike}
+use Rattle.cc_laws_heap.proofs.Face.{HoldsTheSame-add_ref, Leaves-let_go, names_there-alike}
 use Rattle.cc_heaps.specs.Leaving.{NoneCame}
 use Rattle.cc_heaps.proofs.ReflectingMade.{wrapped_by}
 use Rattle.cc_host.specs.Hosted.{Hosted}
@@ -38,7 +38,7 @@ module _ (h : Heap) where
   -- a script object put at the end
   pub script-came : (x : Name) (kind : Kind) (n : ℕ) (d : Option Name) (y : Name) → Among y (names_there (with_script h x kind n d)) → Among y (names_there h) ⊎ (y ≡ x)
   script-came x kind n d y m =
-      let named = map-append (λ (o : HeapScript). o.name) h.scripts (blank x kind n d ∷ []) in
+      let named = map-append (λ (o : HeapScript). o.name) h.scripts (new_script x kind n d ∷ []) in
       ⊎_elim
       (λ l. inl (Among-left y (native_names h) (script_names h) l))
       (λ s. ⊎_elim

@@ -11,7 +11,7 @@ use Rattle.cc_names.specs.Names.{native}
 use Rattle.cc_model.specs.Slots.{Slots, contents, empty_slots}
 use Rattle.cc_model.specs.Checks.{slots_or_none}
 use Rattle.cc_model.specs.Entries.{joints}
-use Rattle.cc_model.specs.Heap.{Heap, HeapNative, native_at, register, set_register, with_native_slot}
+use Rattle.cc_model.specs.Heap.{Heap, HeapNative, native_at, register, set_register, with_native_slot, new_native, native_to_make}
 use Rattle.cc_model.specs.Cascade.{let_go}
 use Rattle.cc_model.specs.Effects.{make_native, with_native}
 use Rattle.cc_model.specs.End.{slots_now}
@@ -40,7 +40,7 @@ slot-holds (Some n) i x l = get_or-set_same n.slots i x None l
 -- `a` before it is made, `b` once the register holds it
 module _ (a b : Heap) (n : ℕ) (wa : IsWellFormed a) (wb : IsWellFormed b) (spared : register a (N spare) ≡ None) (is : b ≡ (make_native a spare n).heap) where
   abbrev one : HeapNative
-  one = record { number = a.natives_made + 1; slots = empty_slots n; preserved = false; count = 1 }
+  one = native_to_make a n
 
   abbrev held : Heap
   held = set_register (with_native a n) (N spare) (Some (native (a.natives_made + 1)))

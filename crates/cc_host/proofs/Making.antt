@@ -10,7 +10,7 @@ use Rattle.cc_names.specs.declared.register.Reg.TheVariants.{N}
 use Rattle.cc_names.specs.Names.{native}
 use Rattle.cc_names.specs.Sizes.{bank_length, most_slots}
 use Rattle.cc_model.specs.Effects.{make_native, make_proxy, with_native}
-use Rattle.cc_model.specs.Heap.{Heap, HeapNative, register, set_register}
+use Rattle.cc_model.specs.Heap.{Heap, HeapNative, register, set_register, new_native, native_to_make}
 use Rattle.cc_model.specs.Cascade.{let_go}
 use Rattle.cc_model.specs.View.{view, ReachedIn, native_edges, script_edges}
 use Rattle.cc_model.specs.Slots.{contents, empty_slots}
@@ -49,7 +49,7 @@ module _ (h k : Heap) (r slots : ℕ) (room : r < bank_length) (few : slots ≤ 
       let given_up = register (with_native h slots) (N r) in
       let f = let_go-frees [] put_in given_up (made-sound [] h k r slots room few allowed sound) in
       let named : native_names put_in ≡ native_names h ++ native (h.natives_made + 1) ∷ [] =
-      map-append (λ (n : HeapNative). native n.number) h.natives (record { number = h.natives_made + 1; slots = empty_slots slots; preserved = false; count = 1 } ∷ []) in
+      map-append (λ (n : HeapNative). native n.number) h.natives (native_to_make h slots ∷ []) in
       ⊎_elim
       (λ l. ⊎_elim
       (λ old. inl (Among-left x (native_names h) (script_names h) old))
@@ -75,7 +75,7 @@ native-reaches_one h k r slots empty w is x d = subst (λ g. ReachedIn (view g) 
 }) x d)
   where
     one : HeapNative
-    one = record { number = h.natives_made + 1; slots = empty_slots slots; preserved = false; count = 1 }
+    one = native_to_make h slots
 
     made : Heap
     made = set_register (with_native h slots) (N r) (Some (native (h.natives_made + 1)))

@@ -14,7 +14,7 @@ use Rattle.cc_model.specs.Graph.{Graph}
 use Rattle.cc_model.specs.Heap.{Heap}
 use Rattle.cc_model.specs.View.{view}
 use Rattle.cc_model.specs.WellFormed.{names_there}
-use Rattle.cc_model.specs.Lawful.{State}
+use Rattle.cc_model.specs.Lawful.{State, state_of}
 use Rattle.cc_model.specs.Snapshot.{Snapshot}
 use Rattle.cc_model.specs.Sweep.{collect_scripts}
 use Rattle.cc_model.specs.Units.{begun, with_empty_buffer}
@@ -151,7 +151,7 @@ module _ (h : Hosted) (r : RunsIn h.heaps h.running) (memory : List Bool) where
 
   -- beside a graph
   abbrev beside : Graph → State
-  beside g = record { graph = g; listed = names_there h.heaps.heap }
+  beside g = state_of g (names_there h.heaps.heap)
 
   -- it runs beside each graph that its heaps stand for
   is-running : (g : IsOfAGraph h) → IsRunning plain (beside g.0)

@@ -9,10 +9,10 @@ use Rattle.cc_names.specs.declared.no_memory.NoMemory.{NoMemory}
 use Rattle.cc_names.specs.declared.kind.Kind.TheVariants.{Reflector}
 use Rattle.cc_names.specs.Names.{native, reflector}
 use Rattle.cc_model.specs.Slots.{reflector_slots}
-use Rattle.cc_model.specs.Heap.{Heap, HeapNative, HeapScript, has_reflector}
+use Rattle.cc_model.specs.Heap.{Heap, HeapNative, HeapScript, has_reflector, new_script}
 use Rattle.cc_model.specs.Effects.{with_script, wrapped}
 use Rattle.cc_model.specs.WellFormed.{IsWellFormed, native_names, script_names, names_there}
-use Rattle.cc_laws_heap.proofs.Face.{blank, native-there, native_names-change, script_names-exposed}
+use Rattle.cc_laws_heap.proofs.Face.{native-there, native_names-change, script_names-exposed}
 use Rattle.cc_heaps.specs.Keyed.{Keyed, IsInOrder}
 use Rattle.cc_heaps.specs.Leaving.{NothingLeft}
 use Rattle.cc_heaps.proofs.ReflectingMade.{wrapped_by}
@@ -27,7 +27,7 @@ grows-wrapped : (h : Heap) (k : ℕ) → IsWellFormed h → Grows h (wrapped h (
 grows-wrapped h k w = go (has_reflector h k)
   where
     one : HeapScript
-    one = blank (reflector k) Reflector reflector_slots None
+    one = new_script (reflector k) Reflector reflector_slots None
 
     go : (b : Bool) → Grows h (wrapped_by h k b)
     go true = record {

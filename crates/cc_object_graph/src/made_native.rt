@@ -2,7 +2,7 @@
 ghost use Rattle.std.specs.Prelude.{◌≡◌, IfOk, None, Some, false, option_map};
 ghost use Rattle.cc_names.specs.Names.{reflector};
 ghost use Rattle.cc_names.specs.Places.{where_set};
-ghost use Rattle.cc_model.specs.Graph.{as_preserved, as_wrapped, with_reflector_slot, with_slot};
+ghost use Rattle.cc_model.specs.Graph.{as_preserved, as_wrapped, with_reflector_slot, with_slot, new_graph_native};
 ghost use Rattle.cc_model.specs.Slots.{empty_slots, reflector_slots};
 
 use crate::slots::Slots;
@@ -32,7 +32,7 @@ impl Model for MadeNative {
 impl MadeNative {
     /// A native with so many empty slots, that was never wrapped.
     pub(crate) fn new(alloc: Global, slots: usize) -> Result<MadeNative, NoMemory>
-        ensures { IfOk result (λ n. n ≡ record { slots = empty_slots slots; preserved = false; reflector = None }) }
+        ensures { IfOk result (λ n. n ≡ new_graph_native slots) }
     {
         Ok(MadeNative {
             slots: Slots::empty(alloc, slots)?,

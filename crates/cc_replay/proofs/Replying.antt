@@ -18,7 +18,7 @@ use Rattle.cc_model.specs.Checks.{refusal_of, reply_if_taken}
 use Rattle.cc_model.specs.Heap.{objects_of}
 use Rattle.cc_model.specs.Effects.{effects, takes_memory}
 use Rattle.cc_model.specs.Lawful.{is_without_memory}
-use Rattle.cc_model.specs.Run.{Turn, answering, with_effects, if_granted, unless_refused, mutate, census_names, take_census, say_nothing, do_ask}
+use Rattle.cc_model.specs.Run.{Turn, answering, with_effects, if_granted, unless_refused, mutate, census_names, take_census, say_nothing, do_ask, turn_of}
 use Rattle.cc_model.specs.Collecting.{Machine, UnitsDone, slice, collect, gc, reply_to_units}
 use Rattle.cc_model.specs.End.{Progress}
 use Rattle.cc_model.proofs.Replies.{is_without_memory-true}
@@ -124,7 +124,7 @@ pub answered-why : (m : Machine) (x : Name) (before mid after : Telling) → Tel
     Tells mid after (of_reply (done_or_nothing (is_led_to (leads_in m.heap) x)) ∷ []) → IsAnswered m m (taken (command.Why x)) before after
 unfolding do_ask
 answered-why m x before mid after steps t =
-    by_turn m m before after (command.Why x) [] (record { machine = with_memory m []; answer = why_of (leads_in m.heap) x }) refl refl refl
+    by_turn m m before after (command.Why x) [] (turn_of (with_memory m []) (why_of (leads_in m.heap) x)) refl refl refl
     (Tells-trans before mid after (map item_of_step (path_to (leads_in m.heap) x)) (of_reply (done_or_nothing (is_led_to (leads_in m.heap) x)) ∷ []) steps t)
 
 -- and where there is none

@@ -7,7 +7,7 @@ use Rattle.cc_names.specs.Names.{native}
 use Rattle.cc_model.specs.declared.item.Event.{Event}
 use Rattle.cc_model.specs.Telling.{Telling, TellsEvents}
 use Rattle.cc_model.proofs.Tellings.{Tells-nil, TellsEvents-trans}
-use Rattle.cc_model.specs.Heap.{Heap, Outcome, silently, after}
+use Rattle.cc_model.specs.Heap.{Heap, Outcome, silently, after, outcome_of}
 use Rattle.cc_model.specs.WellFormed.{IsRising, native_names}
 use Rattle.cc_model.specs.Counts.{times}
 use Rattle.cc_lists.proofs.Numbers.{number-exact}
@@ -131,7 +131,7 @@ in_front k (i ∷ ks) m = go (in_front k ks) m
 
 -- the heaps and what was told so far
 abbrev pub so_far : Keyed → List Event → Outcome
-so_far v es = record { heap = v.heap; events = es }
+so_far v es = outcome_of v.heap es
 
 -- between two steps: what is left to do gives what all of it gives from the begin
 pub record IsPassing (each : List ℕ → Outcome → Outcome) (g : Shown) (first v : Keyed) (next : Option White) (before now : Telling) : Type 0 where

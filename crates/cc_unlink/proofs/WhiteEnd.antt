@@ -4,7 +4,7 @@ use Rattle.std.proofs.lemmas.List.{append-nil}
 use Rattle.cc_lists.specs.Members.{Among}
 use Rattle.cc_names.specs.Names.{native}
 use Rattle.cc_model.specs.Telling.{Telling, TellsEvents}
-use Rattle.cc_model.specs.Heap.{Heap, Outcome, silently, after}
+use Rattle.cc_model.specs.Heap.{Heap, Outcome, silently, after, outcome_of}
 use Rattle.cc_model.specs.Cascade.{cascade}
 use Rattle.cc_model.specs.End.{root_each, unlink_each, unroot_each, take_away}
 use Rattle.cc_model.specs.WellFormed.{native_names}
@@ -19,12 +19,12 @@ use Rattle.cc_heaps.proofs.LeftWith.{left_with-then}
 
 -- what was told before the natives are unrooted stands in front
 unroot_each-after : (ks : List ℕ) (o : Outcome) → unroot_each ks o ≡ after o.events (unroot_each ks (silently o.heap))
-unroot_each-after [] o = ap (λ es. record { heap = o.heap; events = es }) (sym (append-nil o.events))
+unroot_each-after [] o = ap (λ es. outcome_of o.heap es) (sym (append-nil o.events))
 unroot_each-after (k ∷ ks) o =
     let c : Outcome = cascade o.heap k in
     let rest : Outcome = unroot_each ks (silently c.heap) in
     unroot_each-after ks (after o.events c)
-    ∙ (ap (λ es. record { heap = rest.heap; events = es }) (append_assoc o.events c.events rest.events) ∙ ap (after o.events) (sym (unroot_each-after ks c)))
+    ∙ (ap (λ es. outcome_of rest.heap es) (append_assoc o.events c.events rest.events) ∙ ap (after o.events) (sym (unroot_each-after ks c)))
 
 -- the end as a whole is what is told while natives are unlinked, and then what unrooting does
 take_away-parts : (ks : List ℕ) (h : Heap) →

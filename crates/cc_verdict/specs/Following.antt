@@ -7,7 +7,7 @@ use Rattle.cc_model.specs.declared.item.Item.{Item}
 use Rattle.cc_model.specs.Answers.{Answer, all_items_of}
 use Rattle.cc_model.specs.Asks.{Ask}
 use Rattle.cc_model.specs.Graph.{Graph}
-use Rattle.cc_model.specs.Lawful.{State, start, next, IsLawfulFrom}
+use Rattle.cc_model.specs.Lawful.{State, start, next, IsLawfulFrom, state_of}
 use Rattle.cc_model.specs.Quiet.{Row, nothing_yet, row_after, IsQuietFrom}
 
 -- where a check stands between two answers: the graph and the listed names, and how much of the row was asked last
@@ -16,7 +16,7 @@ pub record Place : Type 0 where
   pub row : Row
 
 abbrev pub place : Graph → List Name → Row → Place
-place g names row = record { state = record { graph = g; listed = names }; row = row }
+place g names row = record { state = state_of g names; row = row }
 
 abbrev pub first_place : Allowance → Place
 first_place limits = record { state = start limits; row = nothing_yet }

@@ -22,10 +22,10 @@ use Rattle.cc_model.specs.Entries.{joints, rules_of}
 use Rattle.cc_model.specs.Exposure.{exposed}
 use Rattle.cc_model.specs.Effects.{with_reflector, wrapped}
 use Rattle.cc_model.specs.Graph as graph
-use Rattle.cc_model.specs.Heap.{Heap, HeapScript, has_reflector, set_preserved}
+use Rattle.cc_model.specs.Heap.{Heap, HeapScript, has_reflector, set_preserved, new_script}
 use Rattle.cc_model.specs.View.{view, ReachedIn}
 use Rattle.cc_model.specs.WellFormed.{IsWellFormed, script_names}
-use Rattle.cc_laws_heap.proofs.Face.{IsHeldBlack, blank, exposed-black, has_reflector-none, script_names-exposed}
+use Rattle.cc_laws_heap.proofs.Face.{IsHeldBlack, exposed-black, has_reflector-none, script_names-exposed}
 use Rattle.cc_laws_snapshot.proofs.Face.{edge-from_reflector}
 use Rattle.cc_counted.specs.Counts.{reflector_at}
 use Rattle.cc_script.specs.Objects.{Object, is_there, name_at, colour_at, native_at}
@@ -96,7 +96,7 @@ module _ {owned : List ℕ} (v w : Keyed) (o : IsInOrder owned v) (p : IsInOrder
 module _ {owned : List ℕ} (v w : Keyed) (p : IsInOrder owned w) (k : ℕ) (none : has_reflector v.heap k ≡ false) where
   -- it is the last of the script objects, and black
   made-black : IsHeldBlack (with_reflector v.heap k).scripts (Some (reflector k))
-  made-black = each-push (λ s. Among s.name (reflector k ∷ []) → s.colour ≡ Black) v.heap.scripts (blank (reflector k) Reflector reflector_slots None)
+  made-black = each-push (λ s. Among s.name (reflector k ∷ []) → s.colour ≡ Black) v.heap.scripts (new_script (reflector k) Reflector reflector_slots None)
       (λ s m i. absurd (has_reflector-none v.heap k none
       (⊎_elim (λ e. subst (λ x. Among x (script_names v.heap)) (sym e) (Among-map (λ (q : HeapScript). q.name) s v.heap.scripts m)) (λ t. absurd t) i)))
       (λ i. refl)

@@ -5,7 +5,7 @@ use Rattle.cc_model.specs.declared.item.Reply.TheVariants.{Census as counted}
 use Rattle.cc_model.specs.Answers.{items_of, listing}
 use Rattle.cc_model.specs.Asks.{taken}
 use Rattle.cc_model.specs.Graph.{Graph}
-use Rattle.cc_model.specs.Lawful.{census_of}
+use Rattle.cc_model.specs.Lawful.{census_of, state_of}
 use Rattle.cc_model.specs.Listed.{census_order}
 use Rattle.cc_model.specs.Quiet.{CensusIsQuiet, nothing_yet}
 use Rattle.cc_verdict.specs.Following.{place, place_after}
@@ -31,7 +31,7 @@ returns c =
     ∙ (ap (λ (names : List Name). items_of (listing names (counted c.in_ok-count.count))) c.in_ok-names.ensures.names
     ∙ ap (λ (n : ℕ). items_of (listing (census_order listed) (counted n))) count_is) in
     let quiet : CensusIsQuiet p.row p.state (taken Census) =
-    subst (λ (names : List Name). CensusIsQuiet p.row (record { graph = g; listed = names }) (taken Census)) same (c.in_ok-is_quiet.ensures.quiet.0 c.if-not-branch.false) in
+    subst (λ (names : List Name). CensusIsQuiet p.row (state_of g names) (taken Census)) same (c.in_ok-is_quiet.ensures.quiet.0 c.if-not-branch.false) in
     IsJudged-as c.args.heard (MayRecite (reverse c.list.new.recital.items) (place g now nothing_yet)) (MayAnswer p (taken Census)) c.recite.new.self c.recite.result
     (λ asks line lines hd.
     let law = c.exact_answers_are_recited.ensures.census p asks (line ∷ lines) quiet in

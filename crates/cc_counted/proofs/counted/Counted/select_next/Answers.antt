@@ -6,12 +6,13 @@ use Rattle.cc_counted.specs.Lists.{Lists, counts_of}
 use Rattle.cc_counted.specs.Stored.{Stored}
 use Rattle.cc_counted.proofs.Buffering.{placed-front, selected}
 use Rattle.cc_counted.proofs.counted.Counted.select_next.Goals as goal
+use Rattle.cc_model.specs.Heap.{buffered_as}
 
 pub returns-clause-front : goal.returns-clause-front
 returns-clause-front c =
     let new = c.select_next.new.self.lists in
     subst (λ (v : Counts). MatchOption c.select_next.result ((v.buffer ≡ []) × (counts_of new ≡ v))
-    (λ front. (v.buffer ≡ record { number = the_number v front.0.0; purple = front.1 } ∷ (counts_of new).buffer)
+    (λ front. (v.buffer ≡ buffered_as (the_number v front.0.0) front.1 ∷ (counts_of new).buffer)
     × (counts_of new ≡ record v { buffer = (counts_of new).buffer }) × (is_some (number_at v front.0.0) ≡ true))) c.self.view_is
     (selected c.self.inside.natives.lists new c.self.invariant.placed c.select_next.result c.select_next.ensures.front (ap (λ (s : Stored). s.lists) c.select_next.ensures.lists))
 

@@ -51,22 +51,7 @@ module _ (natives : Vec (Option NKey)) (scripts : Vec (Option SKey)) (limits : A
 
   empty-is : keyed_of p ≡ empty_keyed limits
   empty-is =
-      (λ i. record {
-        heap = record {
-          native_registers = map (named (none_counted i).keys) natives.items;
-          script_registers = map (script_named (none_made i)) scripts.items;
-          natives = map (named_native (none_made i)) (none_counted i).natives;
-          scripts = map (named_object (none_made i)) (none_made i);
-          entries = map (named_entry (none_made i)) (none_set i);
-          buffer = (none_counted i).buffer;
-          natives_made = 0;
-          scripts_made = 0;
-          limits = limits;
-        };
-        keys = (none_counted i).keys;
-        scripts = none_made i;
-        entries = none_set i;
-      })
+      (λ i. keyed_of (record p { counted = none_counted i; scripts = none_made i; weak = none_set i }))
       ∙ (λ i. record {
         heap = record (empty_heap limits) {
           native_registers = none-mapped bank_length natives.items no_natives (named []) refl i;

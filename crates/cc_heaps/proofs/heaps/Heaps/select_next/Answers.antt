@@ -11,6 +11,7 @@ use Rattle.cc_heaps.proofs.FewCounts.{few-owned}
 use Rattle.cc_heaps.proofs.KeysKept.{KeepsKeys-front}
 use Rattle.cc_heaps.proofs.StandingStill.{front-goes_on}
 use Rattle.cc_heaps.proofs.heaps.Heaps.select_next.Goals as goal
+use Rattle.cc_model.specs.Heap.{buffered_as}
 
 -- a key and its mark
 abbrev Front : Type 0
@@ -19,7 +20,7 @@ Front = NKey × Bool
 -- the front of the buffer, where there is one
 abbrev TakesFront : Counts → Counts → Option Front → Type 0
 TakesFront c d o = MatchOption o ((c.buffer ≡ []) × (d ≡ c))
-    (λ front. (c.buffer ≡ record { number = counts.the_number c front.0.0; purple = front.1 } ∷ d.buffer) × (d ≡ record c { buffer = d.buffer }) × IsSome (counts.number_at c front.0.0))
+    (λ front. (c.buffer ≡ buffered_as (counts.the_number c front.0.0) front.1 ∷ d.buffer) × (d ≡ record c { buffer = d.buffer }) × IsSome (counts.number_at c front.0.0))
 
 module _ (p : Inside) (d : Counts) where
   abbrev before : Keyed
@@ -29,7 +30,7 @@ module _ (p : Inside) (d : Counts) where
   after = keyed_of (with_counted p d)
 
   taken-front : (o : Option Front) → TakesFront p.counted d o → MatchOption o ((p.counted.buffer ≡ []) × (after ≡ before))
-      (λ front. (p.counted.buffer ≡ record { number = the_number before front.0.0; purple = front.1 } ∷ d.buffer)
+      (λ front. (p.counted.buffer ≡ buffered_as (the_number before front.0.0) front.1 ∷ d.buffer)
       × (after ≡ changed_to before (record before.heap { buffer = d.buffer })) × IsSome (number_at before front.0.0))
   taken-front None t = (t.0, ap (λ e. keyed_of (with_counted p e)) t.1)
   taken-front (Some front) t = (t.0, ap (λ e. keyed_of (with_counted p e)) t.1, t.2)
@@ -50,7 +51,7 @@ module _ (p : Inside) (d : Counts) where
   ordered-front : (owned : List ℕ) → IsInOrder owned before → (o : Option Front) → TakesFront p.counted d o → IsInOrder owned after
   ordered-front owned f None t = subst (λ e. IsInOrder owned (keyed_of (with_counted p e))) (sym t.1) f
   ordered-front owned f (Some front) t = subst (λ e. IsInOrder owned (keyed_of (with_counted p e))) (sym t.1)
-      (IsInOrder-tail owned before (record { number = counts.the_number p.counted front.0.0; purple = front.1 }) d.buffer t.0 f)
+      (IsInOrder-tail owned before (buffered_as (counts.the_number p.counted front.0.0) front.1) d.buffer t.0 f)
 
 pub invariant_of-self : goal.invariant_of-self
 invariant_of-self c = linked-front c.self.inside c.select_next.new.self c.self.invariant c.select_next.result c.select_next.ensures.front
