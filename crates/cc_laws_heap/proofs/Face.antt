@@ -54,7 +54,7 @@ pub use Rattle.cc_laws_heap.proofs.RepliesAlike.{delegate-stands, objects-stand,
 pub use Rattle.cc_laws_heap.proofs.Rising.{IsRising-filter, IsRising-once}
 pub use Rattle.cc_laws_heap.proofs.RoundParts.{round-entries, round-natives, round-scripts, value_in-filter}
 pub use Rattle.cc_laws_heap.proofs.RoundsStand.{collect_scripts-stands, round-stands, spared-from}
-pub use Rattle.cc_laws_heap.proofs.ScriptCommands.{IsDelegate, IsNewScript-object, blank, make_proxy-sound, no_delegate, with_reflector-sound}
+pub use Rattle.cc_laws_heap.proofs.ScriptCommands.{IsDelegate, IsNewScript-object, make_proxy-sound, no_delegate, with_reflector-sound}
 pub use Rattle.cc_laws_heap.proofs.ScriptNames.{delegate_at-found, entry-named, script-named, script_names-named, scripts-once}
 pub use Rattle.cc_laws_heap.proofs.ScriptsKept.{exposed-sound, hold_script-sound, is_one_of, native-no_script, script_names-exposed, script_slot-sound}
 pub use Rattle.cc_laws_heap.proofs.Shapes.{IsOfNone, delegate_in-shape, further_of, slots_in-graph, slots_in-heap, slots_of_shape}

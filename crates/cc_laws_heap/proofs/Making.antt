@@ -51,10 +51,6 @@ places-with_mark m k bs once j = ⊎_elim
 
 -- A native
 
--- the native that is made
-abbrev pub new_native : Heap → ℕ → HeapNative
-new_native h n = native_to_make h n
-
 module _ (h : Heap) (n : ℕ) (w : IsWellFormed h) where
   -- the names of natives after one was made
   native_names-is : native_names (with_native h n) ≡ native_names h ++ native (h.natives_made + 1) ∷ []

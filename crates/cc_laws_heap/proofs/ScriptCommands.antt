@@ -32,10 +32,6 @@ use Rattle.cc_laws_heap.proofs.ScriptsKept.{native-no_script, script_names-expos
 use Rattle.cc_laws_heap.proofs.Holding.{has_reflector-there, has_reflector-none}
 use Rattle.cc_laws_heap.proofs.ScriptNames.{delegate_at-found}
 
--- a black script object with empty slots
-abbrev pub blank : Name → Kind → ℕ → Option Name → HeapScript
-blank x kind n d = new_script x kind n d
-
 -- one name stands in a list where it is there
 IsIn-one : (names : List Name) (x : Name) → Among x names → IsIn names (Some x)
 IsIn-one names x m = λ y i. ⊎_elim (λ e. subst (λ z. Among z names) e m) (λ n. absurd n) i

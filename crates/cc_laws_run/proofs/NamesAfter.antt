@@ -17,7 +17,7 @@ use Rattle.cc_model.specs.declared.command.Command.{Command}
 use Rattle.cc_model.specs.Slots.{reflector_slots}
 use Rattle.cc_model.specs.Ranges.{in_range}
 use Rattle.cc_model.specs.Checks.{slots_at, reflector_of}
-use Rattle.cc_model.specs.Heap.{Heap, HeapNative, HeapScript, Outcome, silently, register, objects_of, has_reflector, change_native, with_native_slot, set_register, preserve}
+use Rattle.cc_model.specs.Heap.{Heap, HeapNative, HeapScript, Outcome, silently, register, objects_of, has_reflector, change_native, with_native_slot, set_register, preserve, new_script, native_to_make}
 use Rattle.cc_model.specs.Cascade.{take_up, let_go}
 use Rattle.cc_model.specs.Exposure.{exposed}
 use Rattle.cc_model.specs.Deeds.{Deed, nothing_done, native_made, plain_made, map_made, proxy_made, native_held, script_held, script_copied, native_stored, slot_moved, script_stored, reflector_held, reflector_preserved, entry_written, object_exposed, deed_of}
@@ -34,12 +34,10 @@ use Rattle.cc_laws_heap.proofs.Leaving.{numbers_there, Leave-frees}
 use Rattle.cc_laws_heap.proofs.HoldsTheSame.{HoldsTheSame-take_up, HoldsTheSame-add_ref}
 use Rattle.cc_laws_heap.proofs.Owning.{IsIn, take_up-sound}
 use Rattle.cc_laws_heap.proofs.Writes.{native_register-sound, native_slot-sound}
-use Rattle.cc_laws_heap.proofs.Making.{new_native}
 use Rattle.cc_laws_heap.proofs.MadeSound.{with_native-sound}
 use Rattle.cc_laws_heap.proofs.Holding.{IsIn-natives}
 use Rattle.cc_laws_heap.proofs.NativeCommands.{IsIn-take_up, HasSlot, HasSlot-from, HasSlot-take_up, put_in_slot-written, names_there-take_up, IsIn-made}
 use Rattle.cc_laws_heap.proofs.Moving.{taken_out-sound, taken_out-there, HasSlot-taken_out, move_slot-is}
-use Rattle.cc_laws_heap.proofs.ScriptCommands.{blank}
 use Rattle.cc_laws_heap.proofs.Emptying.{let_go-frees}
 use Rattle.cc_laws_heap.proofs.Taken.{IsTaken}
 use Rattle.cc_laws_heap.proofs.MayBeDone.{MayBeDone, may_be_done}
@@ -154,7 +152,7 @@ make_native-names h d n room few allowed s =
       f.0,
       NamesAfter-frees h (set_register (with_native h n) (N d) (Some (native (h.natives_made + 1)))) (native (h.natives_made + 1) ∷ []) f.0
           (put_in_register (with_native h n) d (Some (native (h.natives_made + 1))))
-          (map_push (λ (m : HeapNative). native m.number) h.natives (new_native h n)) refl f.1,
+          (map_push (λ (m : HeapNative). native m.number) h.natives (native_to_make h n)) refl f.1,
     )
 
 -- Commands of script objects
@@ -165,7 +163,7 @@ make_object-names : (h : Heap) (d : ℕ) (kind : Kind) (n : ℕ) (its_delegate :
 make_object-names h d kind n its_delegate = (
   [],
   NamesAfter-scripts h (make_object h d kind n its_delegate) (object (h.scripts_made + 1) ∷ []) refl
-      (map_push (λ (o : HeapScript). o.name) h.scripts (blank (object (h.scripts_made + 1)) kind n its_delegate)),
+      (map_push (λ (o : HeapScript). o.name) h.scripts (new_script (object (h.scripts_made + 1)) kind n its_delegate)),
 )
 
 -- a proxy made of what a register holds
@@ -175,7 +173,7 @@ make_proxy-names h d None held = absurd (cc)
 make_proxy-names h d (Some x) held = (
   [],
   NamesAfter-scripts h (make_proxy h d (Some x)) (object (h.scripts_made + 1) ∷ []) (SameNames-preserve h (Some x)).natives
-      (map_push (λ (o : HeapScript). o.name) (preserve h (Some x)).scripts (blank (object ((preserve h (Some x)).scripts_made + 1)) proxy_kind 0 (Some x))
+      (map_push (λ (o : HeapScript). o.name) (preserve h (Some x)).scripts (new_script (object ((preserve h (Some x)).scripts_made + 1)) proxy_kind 0 (Some x))
       ∙ (ap (λ xs. xs ++ object ((preserve h (Some x)).scripts_made + 1) ∷ []) (SameNames-preserve h (Some x)).scripts
       ∙ ap (λ n. script_names h ++ object (n + 1) ∷ []) (scripts_made-preserve h (Some x)))),
 )
@@ -208,7 +206,7 @@ wrapped-names h d (Some (name.Native k)) w = go (has_reflector h k.0)
         let s : SameNames with_one (with_reflector h k.0) = SameNames-alike with_one (with_reflector h k.0) (HoldsTheSame-add_ref with_one k.0) in (
           [],
           NamesAfter-scripts h (set_register (with_reflector h k.0) (S d) (Some (reflector k.0))) (reflector k.0 ∷ []) s.natives
-              (s.scripts ∙ map_push (λ (o : HeapScript). o.name) h.scripts (blank (reflector k.0) Reflector reflector_slots None)),
+              (s.scripts ∙ map_push (λ (o : HeapScript). o.name) h.scripts (new_script (reflector k.0) Reflector reflector_slots None)),
         )
 
 -- All deeds

@@ -18,7 +18,7 @@ use Rattle.cc_model.specs.Deeds.{Deed, nothing_done, native_made, plain_made, ma
 use Rattle.cc_model.specs.Slots.{reflector_slots}
 use Rattle.cc_model.specs.Entries.{Entry, is_entry_of, with_entry, without_entry, Joint, joints, entry}
 use Rattle.cc_model.specs.Checks.{slot_at, native_of, reflector_of}
-use Rattle.cc_model.specs.Heap.{Heap, HeapNative, HeapScript, change_native, change_script, with_native_slot, with_script_slot, register, set_register, set_slot, objects_of, preserve, has_reflector, delegate_at}
+use Rattle.cc_model.specs.Heap.{Heap, HeapNative, HeapScript, change_native, change_script, with_native_slot, with_script_slot, register, set_register, set_slot, objects_of, preserve, has_reflector, delegate_at, new_script, native_to_make}
 use Rattle.cc_model.specs.View.{view, native_edges, script_edges}
 use Rattle.cc_model.specs.Cascade.{take_up}
 use Rattle.cc_model.specs.Exposure.{slots_of_scripts, exposure_rules, exposed_names, as_black, blackened, exposed}
@@ -27,8 +27,7 @@ use Rattle.cc_model.specs.WellFormed.{IsWellFormed}
 use Rattle.cc_model.specs.Snapshot.{Snapshot}
 use Rattle.cc_model.proofs.Joints.{Gives, its_key, gives-joint, joint-cases, its_value}
 use Rattle.cc_laws_heap.proofs.EntryLists.{with_entry-cases}
-use Rattle.cc_laws_heap.proofs.Making.{contents-empty_none, new_native, native_names-made}
-use Rattle.cc_laws_heap.proofs.ScriptCommands.{blank}
+use Rattle.cc_laws_heap.proofs.Making.{contents-empty_none, native_names-made}
 use Rattle.cc_laws_heap.proofs.ViewEdges.{native_edges-are, script_edges-are}
 use Rattle.cc_laws_snapshot.proofs.SoundView.{named-there}
 use Rattle.cc_laws_run.specs.Doomed.{IsDoomed, KeepsReflectors}
@@ -50,13 +49,13 @@ pub one-untouched : (ds : List Name) (x : Name) → ¬ (Among x ds) → IsUntouc
 one-untouched ds x out y m i = ⊎_elim (λ e. out (subst (λ z. Among z ds) (sym e) i)) (λ b. b) m
 
 -- a native that is made has no edges
-new_native-no_edge : (h : Heap) (n : ℕ) (x y : Name) → ¬ (Among (x, y) (native_edges (new_native h n)))
-new_native-no_edge h n x y m = ⊎_elim (λ c. contents-empty_none n y c) (λ p. absurd (false≢true p.0)) (native_edges-are (new_native h n) x y m).1
+new_native-no_edge : (h : Heap) (n : ℕ) (x y : Name) → ¬ (Among (x, y) (native_edges (native_to_make h n)))
+new_native-no_edge h n x y m = ⊎_elim (λ c. contents-empty_none n y c) (λ p. absurd (false≢true p.0)) (native_edges-are (native_to_make h n) x y m).1
 
 -- a script object that is made has one to its delegate, where it is a proxy, and a reflector one to its native
-blank-edge : (z : Name) (kind : Kind) (n : ℕ) (d : Option Name) (x y : Name) → Among (x, y) (script_edges (blank z kind n d)) →
+blank-edge : (z : Name) (kind : Kind) (n : ℕ) (d : Option Name) (x y : Name) → Among (x, y) (script_edges (new_script z kind n d)) →
     (d ≡ Some y) ⊎ ((k : ℕ) × (z ≡ reflector k) × (native k ≡ y))
-blank-edge z kind n d x y m = ⊎_elim (λ c. inl (blank-holds z kind n d y c)) (λ p. inr p) (script_edges-are (blank z kind n d) x y m).1
+blank-edge z kind n d x y m = ⊎_elim (λ c. inl (blank-holds z kind n d y c)) (λ p. inr p) (script_edges-are (new_script z kind n d) x y m).1
 
 -- a reflector preserved leaves numbers made and entries
 pub scripts_made-preserve : (h : Heap) (x : Option Name) → (preserve h x).scripts_made ≡ h.scripts_made
@@ -86,7 +85,7 @@ Spares-exposed ds h x holder out = Spares-blackened ds h (λ o. has same_name (e
 -- a script object made spares members, where it is none
 Spares-new_object : (ds : List Name) (h : Heap) (kind : Kind) (n : ℕ) (d : Option Name) → ¬ (Among (object (h.scripts_made + 1)) ds) → IsUntouched ds d →
     Spares ds (view h) (view (with_object h kind n d))
-Spares-new_object ds h kind n d out none = Spares-new_script ds h (blank (object (h.scripts_made + 1)) kind n d) out
+Spares-new_object ds h kind n d out none = Spares-new_script ds h (new_script (object (h.scripts_made + 1)) kind n d) out
     (λ x y i m. ⊎_elim
     (λ e. none y (subst (λ z. Among y (option_to_list z)) (sym e) (inl refl)) i)
     (λ f. absurd (cc))
@@ -224,16 +223,16 @@ module _ (ds : List Name) (g : Heap) where
   leaves-make_native h r n out d = leaves-put_in_register (with_native h n) r (Some (native (h.natives_made + 1)))
       (one-untouched ds (native (h.natives_made + 1)) out)
       (leaves-touch ds g larger (h.natives_made + 1) out
-      (leaves-on ds g h larger (omega arith) (omega arith) old (Spares-new_native ds h (new_native h n) (new_native-no_edge h n)) d))
+      (leaves-on ds g h larger (omega arith) (omega arith) old (Spares-new_native ds h (native_to_make h n) (new_native-no_edge h n)) d))
     where
       larger : Heap
-      larger = record h { natives = h.natives ++ new_native h n ∷ []; natives_made = h.natives_made + 1 }
+      larger = record h { natives = h.natives ++ native_to_make h n ∷ []; natives_made = h.natives_made + 1 }
 
       old : (o : HeapNative) → Among o larger.natives → Among (native o.number) ds → IsOf h o
       old o there m = ⊎_elim
           (λ l. (o, l, refl))
           (λ r. ⊎_elim (λ s. absurd (out (subst (λ (p : HeapNative). Among (native p.number) ds) (sym s) m))) (λ b. absurd b) r)
-          (Among-append o h.natives (new_native h n ∷ []) there)
+          (Among-append o h.natives (native_to_make h n ∷ []) there)
 
   -- a script object made, and a script register holds it
   pub leaves-make_object : (h : Heap) (r : ℕ) (kind : Kind) (n : ℕ) (x : Option Name) → ¬ (Among (object (h.scripts_made + 1)) ds) → IsUntouched ds x → Left h →
