@@ -28,7 +28,7 @@ use Rattle.cc_heaps.proofs.StandingAfter.{StandsAfter-from}
 use Rattle.cc_host.specs.Hosted.{spare}
 use Rattle.cc_host.specs.Holding.{IsHeld, IsLetGo}
 use Rattle.cc_host.specs.Missing.{KeepsDoomed}
-use Rattle.cc_host.specs.Steps.{IsReady, IsStep, IsTried}
+use Rattle.cc_host.specs.Changes.{IsReady, IsChange, IsTried}
 use Rattle.cc_host.proofs.KeptDoomed.{doomed-then, hold_native-doomed}
 use Rattle.cc_host.proofs.Composing.{KeepsAll-then, KeepsAll-with, KeepsKeys-later, tells-after}
 use Rattle.cc_host.proofs.Spare.{LeavesRegisters, hold_native-registers, stands-around}
@@ -57,7 +57,7 @@ module _ (v w : Keyed) (is : w ≡ left_with v (hold_native v.heap spare None).h
 
   pub let_go-from : IsInOrder [] v → KeepsAll v w → StandsAfter v.heap w.heap (λ g. graph.set_register g (N spare) None) → IsLetGo v w
   let_go-from order kept stands = record {
-    step = record {
+    change = record {
       kept = kept;
       spared = ap (λ (u : Keyed). get_or u.heap.native_registers spare None) is
           ∙ (ap (λ (rs : Slots). get_or rs spare None) (hold_native-registers v.heap spare None)
@@ -73,18 +73,18 @@ module _ (v w : Keyed) (is : w ≡ left_with v (hold_native v.heap spare None).h
 -- HELD, CHANGED AND LET GO
 module _ {key : NKey} (a b c d : Keyed) (ready : IsReady a) (h : IsHeld key a b) (t : KeepsAll b c) (l : IsLetGo c d) where
   late : IsInOrder [] d
-  late = l.step.kept.order [] (t.order [] (h.kept.order [] ready.order))
+  late = l.change.kept.order [] (t.order [] (h.kept.order [] ready.order))
 
   pub around-kept : KeepsAll a d
-  around-kept = KeepsAll-then a c d ready.order l.none_came (KeepsAll-with a b c (KeepsKeys-later a b c h.keys h.scripts t.keys) h.kept t) l.step.kept
+  around-kept = KeepsAll-then a c d ready.order l.none_came (KeepsAll-with a b c (KeepsKeys-later a b c h.keys h.scripts t.keys) h.kept t) l.change.kept
 
-  pub around-step : (premise : Type 0) (change : Graph → Graph) → LeavesRegisters change → (premise → IsReached a.heap (native_name a (Some key))) →
-      (premise → StandsAfter b.heap c.heap change) → (premise → KeepsDoomed b.heap c.heap) → IsStep premise change a d
-  around-step premise change leaves reached stands doomed = record {
+  pub around-change : (premise : Type 0) (change : Graph → Graph) → LeavesRegisters change → (premise → IsReached a.heap (native_name a (Some key))) →
+      (premise → StandsAfter b.heap c.heap change) → (premise → KeepsDoomed b.heap c.heap) → IsChange premise change a d
+  around-change premise change leaves reached stands doomed = record {
     kept = around-kept;
-    spared = l.step.spared;
-    stands = λ p. stands-around a.heap b.heap c.heap d.heap spare (native_name a (Some key)) change ready.spared leaves (h.stands (reached p)) (stands p) (l.step.stands tt);
-    doomed = λ p. doomed-then a.heap b.heap d.heap (h.doomed (reached p)) (doomed-then b.heap c.heap d.heap (doomed p) (l.step.doomed tt));
+    spared = l.change.spared;
+    stands = λ p. stands-around a.heap b.heap c.heap d.heap spare (native_name a (Some key)) change ready.spared leaves (h.stands (reached p)) (stands p) (l.change.stands tt);
+    doomed = λ p. doomed-then a.heap b.heap d.heap (h.doomed (reached p)) (doomed-then b.heap c.heap d.heap (doomed p) (l.change.doomed tt));
   }
 
   -- where nothing came between, nothing came
@@ -113,15 +113,15 @@ module _ {key : NKey} (a b c : Keyed) (ready : IsReady a) (h : IsHeld key a b) (
       (set-set rs spare content None
       ∙ (ap (set rs spare) (sym (ap (λ (ss : Slots). get_or ss spare None) (HoldsTheSame-take_up a.heap content).beside.native_registers ∙ ready.spared)) ∙ set-get_or rs spare None))
 
-  pub nothing-step : IsTried (IsReached a.heap content) a c
-  nothing-step =
+  pub nothing-change : IsTried (IsReached a.heap content) a c
+  nothing-change =
       let kept = around-kept a b b c ready h (KeepsAll-same b b refl) l in
       record {
         kept = kept;
-        spared = l.step.spared;
+        spared = l.change.spared;
         stands = λ g₀ m₀ s₀. (StandsAfter-from a.heap c.heap (λ g. g) ready.order.sound.well_formed (kept.order [] ready.order).sound.well_formed (λ g m s. m)
             (λ g m s f. subst (λ k. Follows (Reached g) k g) (sym (emptied-is b c l.given_up))
             (Follows-left (Reached g) emptied (let_go emptied (register b.heap (N spare))).heap g (Leaves-let_go emptied (register b.heap (N spare)))
             (subst (λ k. Follows (Reached g) k g) (sym raised) (Follows-left (Reached g) a.heap (take_up a.heap content) g (Leaves-take_up a.heap content) f)))) g₀ m₀ s₀).1;
-        doomed = λ p. doomed-then a.heap b.heap c.heap (h.doomed p) (l.step.doomed tt);
+        doomed = λ p. doomed-then a.heap b.heap c.heap (h.doomed p) (l.change.doomed tt);
       }

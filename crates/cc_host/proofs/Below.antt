@@ -103,42 +103,42 @@ module _ (h : Hosted) (kept : IsKept h) (key : NKey) (live : IsSome (number_at h
 
   module _ (d : Counts) (counts : d ≡ counts_of h.heaps) (i : ℕ) where
     -- it has as many slots by its key as by its name
-    pub step-slots : length (slots_of d key.0) ≡ length (slots_of_any h.heaps.heap (native_name h.heaps (Some key)))
-    step-slots =
+    pub change-slots : length (slots_of d key.0) ≡ length (slots_of_any h.heaps.heap (native_name h.heaps (Some key)))
+    change-slots =
         native_slots-many h kept (record { name = native (the_number h.heaps key.0); key = key.0; mark = h.mark }) key is d counts
         ∙ ap (λ o. length (slots_of_any h.heaps.heap o)) (sym is)
 
     -- past them is nothing
-    pub step-past : length (slots_of d key.0) ≤ i → None ≡ native_in_slot h.heaps.heap (native_name h.heaps (Some key)) i
-    step-past l = sym (ap native_only (get_or_past (slots_of_any h.heaps.heap (native_name h.heaps (Some key))) i None (subst (λ n. n ≤ i) step-slots l)))
+    pub change-past : length (slots_of d key.0) ≤ i → None ≡ native_in_slot h.heaps.heap (native_name h.heaps (Some key)) i
+    change-past l = sym (ap native_only (get_or_past (slots_of_any h.heaps.heap (native_name h.heaps (Some key))) i None (subst (λ n. n ≤ i) change-slots l)))
 
     module _ (y : Option Held) (name : name_of d y ≡ get_or (slots_of d key.0) i None) (lives : IsTrue (is_live d y)) where
       held-as : IsHeldAs h.heaps y (get_or (slots_of_any h.heaps.heap (Some (native (the_number h.heaps key.0)))) i None)
       held-as = native_slot-held h kept (record { name = native (the_number h.heaps key.0); key = key.0; mark = h.mark }) key is d counts i y name lives
 
-      pub step-name : native_name h.heaps (native_held y) ≡ native_in_slot h.heaps.heap (native_name h.heaps (Some key)) i
-      step-name =
+      pub change-name : native_name h.heaps (native_held y) ≡ native_in_slot h.heaps.heap (native_name h.heaps (Some key)) i
+      change-name =
           native-held h.heaps kept.runs.order y
           ∙ (ap native_only held-as.name ∙ ap (λ o. native_in_slot h.heaps.heap o i) (sym is))
 
       -- which is what stands there
-      pub step-content : held_name h.heaps y ≡ get_or (slots_of_any h.heaps.heap (native_name h.heaps (Some key))) i None
-      step-content = held-as.name ∙ ap (λ o. get_or (slots_of_any h.heaps.heap o) i None) (sym is)
+      pub change-content : held_name h.heaps y ≡ get_or (slots_of_any h.heaps.heap (native_name h.heaps (Some key))) i None
+      change-content = held-as.name ∙ ap (λ o. get_or (slots_of_any h.heaps.heap o) i None) (sym is)
 
-      pub step-held : IsThere h.heaps y
-      step-held = held-as.there
+      pub change-held : IsThere h.heaps y
+      change-held = held-as.there
 
-      pub step-there : IsNativeThere h.heaps (native_held y)
-      step-there = native-held_there h.heaps y held-as.there
+      pub change-there : IsNativeThere h.heaps (native_held y)
+      change-there = native-held_there h.heaps y held-as.there
 
-      pub step-reached : IsReached h.heaps.heap (native_name h.heaps (Some key)) → IsReached h.heaps.heap (native_name h.heaps (native_held y))
-      step-reached d = subst (IsReached h.heaps.heap) (sym (step-name ∙ ap (λ o. native_in_slot h.heaps.heap o i) is))
+      pub change-reached : IsReached h.heaps.heap (native_name h.heaps (Some key)) → IsReached h.heaps.heap (native_name h.heaps (native_held y))
+      change-reached d = subst (IsReached h.heaps.heap) (sym (change-name ∙ ap (λ o. native_in_slot h.heaps.heap o i) is))
           (slot-reached h.heaps.heap (the_number h.heaps key.0) i (subst (IsReached h.heaps.heap) is d))
 
 -- WHEN A CALL IS STOPPED, once the native is found: the index decides
 module _ (h : Hosted) (r : ℕ) (path : List ℕ) (key : NKey) (name : native_name h.heaps (Some key) ≡ native_below h r path) (live : IsSome (number_at h.heaps key.0)) where
   pub below-slots : IsKept h → (d : Counts) → d ≡ counts_of h.heaps → length (slots_of d key.0) ≡ length (slots_below h r path)
-  below-slots kept d counts = step-slots h kept key live d counts 0 ∙ ap (λ o. length (slots_of_any h.heaps.heap o)) name
+  below-slots kept d counts = change-slots h kept key live d counts 0 ∙ ap (λ o. length (slots_of_any h.heaps.heap o)) name
 
   -- and each slot holds what it holds by number
   pub below-held : (i : ℕ) → slot_held h.heaps.heap (the_number h.heaps key.0) i ≡ get_or (slots_below h r path) i None

@@ -31,9 +31,9 @@ use Rattle.cc_heaps.proofs.Kept.{KeepsAll-both}
 use Rattle.cc_heaps.proofs.SlotsHeld.{slots-taken}
 use Rattle.cc_host.specs.Hosted.{spare}
 use Rattle.cc_host.specs.Missing.{KeepsDoomed}
-use Rattle.cc_host.specs.Steps.{IsReady, IsStep, IsTried, StaysThere}
+use Rattle.cc_host.specs.Changes.{IsReady, IsChange, IsTried, StaysThere}
 use Rattle.cc_host.proofs.KeptDoomed.{stored-doomed}
-use Rattle.cc_host.proofs.Composing.{step-after}
+use Rattle.cc_host.proofs.Composing.{change-after}
 use Rattle.cc_host.proofs.Rooted.{stored-registers}
 use Rattle.cc_host.proofs.Storing.{native_name-is, stored-none_came}
 
@@ -52,21 +52,21 @@ module _ (a b c : Keyed) (key : NKey) (i : ℕ) (content : Option Held) where
     still-reached : IsReached b.heap (Some (native (the_number b key.0)))
     still-reached = subst (IsReached b.heap) (native_name-is a b keys key live) (reached (native_name a (Some key)) at)
 
-    pub reached-step : IsBlackHeld b content → c ≡ left_with b (stored_in b.heap (the_number b key.0) i (held_name b content)).heap →
+    pub reached-change : IsBlackHeld b content → c ≡ left_with b (stored_in b.heap (the_number b key.0) i (held_name b content)).heap →
         KeepsAllIf (IsBlackHeld b content) (IsReached b.heap (Some (native (the_number b key.0)))) b c →
         (IsReached b.heap (Some (native (the_number b key.0))) → IsReached b.heap (held_name b content) →
         StandsAfter b.heap c.heap (λ g. graph.set_slot g (Some (native (the_number b key.0))) i (held_name b content))) →
-        IsStep (IsReached a.heap (held_name a content)) (λ g. graph.set_slot g (native_name a (Some key)) i (held_name a content)) a c
-    reached-step black is kept stands =
+        IsChange (IsReached a.heap (held_name a content)) (λ g. graph.set_slot g (native_name a (Some key)) i (held_name a content)) a c
+    reached-change black is kept stands =
         let x = held_name a content in
         let same = stays.same content there in
         let p = IsReached a.heap x in
         let k = the_number b key.0 in
         let spared = ap (λ (u : Keyed). get_or u.heap.native_registers spare None) is
         ∙ (ap (λ (rs : Slots). get_or rs spare None) (stored-registers b.heap k i (held_name b content)) ∙ exposed.spared) in
-        subst (λ z. IsStep p (λ g. graph.set_slot g z i x) a c) (sym (native_name-is a b keys key live))
-        (subst (λ z. IsStep p (λ g. graph.set_slot g (Some (native k)) i z) a c) same
-        (step-after a b c ready exposed (stored-none_came b c k i (held_name b content) is) (λ d. d)
+        subst (λ z. IsChange p (λ g. graph.set_slot g z i x) a c) (sym (native_name-is a b keys key live))
+        (subst (λ z. IsChange p (λ g. graph.set_slot g (Some (native k)) i z) a c) same
+        (change-after a b c ready exposed (stored-none_came b c k i (held_name b content) is) (λ d. d)
         (λ d. subst (IsReached b.heap) (sym same) (reached x d))
         (record {
           kept = KeepsAll-both kept black still-reached;

@@ -18,7 +18,7 @@ use Rattle.cc_laws_heap.proofs.Face.{HoldsTheSame-add_ref, Leaves-let_go, names_
 use Rattle.cc_heaps.specs.Leaving.{NoneCame}
 use Rattle.cc_heaps.proofs.ReflectingMade.{wrapped_by}
 use Rattle.cc_host.specs.Hosted.{Hosted}
-use Rattle.cc_host.specs.Steps.{OneCame}
+use Rattle.cc_host.specs.Changes.{OneCame}
 use Rattle.cc_host.proofs.Around.{left-none_came}
 use Rattle.cc_host.proofs.ScriptSteps.{hold_script-beside, preserve-beside}
 use Rattle.cc_host.proofs.Spare.{written, written-names}

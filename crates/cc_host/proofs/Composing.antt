@@ -16,7 +16,7 @@ use Rattle.cc_heaps.specs.Changes.{KeepsKeys}
 use Rattle.cc_heaps.specs.Keeping.{KeepsAll}
 use Rattle.cc_heaps.specs.Leaving.{NoneCame, NothingLeft, TellsWhatIsFreed, freed}
 use Rattle.cc_heaps.specs.Standing.{StandsAfter}
-use Rattle.cc_host.specs.Steps.{IsReady, IsStep, IsTried}
+use Rattle.cc_host.specs.Changes.{IsReady, IsChange, IsTried}
 use Rattle.cc_host.proofs.KeptDoomed.{doomed-then}
 
 -- Keys
@@ -68,10 +68,10 @@ KeepsAll-then a b c o came s t =
 pub stands-then : (a b c : Heap) (f k : Graph → Graph) → StandsAfter a b f → StandsAfter b c k → StandsAfter a c (λ g. k (f g))
 stands-then a b c f k s t g m p = let n = s g m p in t (f g) n.0 n.1
 
--- A step after one that leaves the graph as it is
-pub step-after : {p q r : Type 0} {change : Graph → Graph} (a b c : Keyed) → IsReady a → IsTried r a b → NoneCame b.heap c.heap → (q → r) → (q → p) → IsStep p change b c →
-    IsStep q change a c
-step-after a b c ready s came e f t = record {
+-- A change after one that leaves the graph as it is
+pub change-after : {p q r : Type 0} {change : Graph → Graph} (a b c : Keyed) → IsReady a → IsTried r a b → NoneCame b.heap c.heap → (q → r) → (q → p) → IsChange p change b c →
+    IsChange q change a c
+change-after a b c ready s came e f t = record {
   kept = KeepsAll-then a b c ready.order came s.kept t.kept;
   spared = t.spared;
   stands = λ d g m n. t.stands (f d) g m (s.stands g m n);

@@ -30,7 +30,7 @@ use Rattle.cc_host.specs.Missing.{KeepsDoomed}
 use Rattle.cc_host.proofs.KeptDoomed.{doomed-then, exposed-doomed, still_doomed}
 use Rattle.cc_host.specs.Exposing.{AreSame, Exposes, IsSameAt}
 use Rattle.cc_host.specs.Hosted.{spare}
-use Rattle.cc_host.specs.Steps.{IsReady, IsTried}
+use Rattle.cc_host.specs.Changes.{IsReady, IsTried}
 use Rattle.cc_host.proofs.Composing.{KeepsAll-with}
 
 -- a script object before and after: as it was, or blacker
@@ -155,9 +155,9 @@ module _ {p : Type 0} (v w : Keyed) (e : Exposes p v w) where
   pub exposed-none_came : NoneCame v.heap w.heap
   exposed-none_came x i = subst (Among x) exposed-names i
 
-  -- It is a step that leaves the graph.
-  pub exposed-step : IsReady v → IsTried p v w
-  exposed-step r = record { kept = e.kept; spared = (exposed-ready r).spared; stands = e.stands; doomed = e.doomed }
+  -- It is a change that leaves the graph.
+  pub exposed-change : IsReady v → IsTried p v w
+  exposed-change r = record { kept = e.kept; spared = (exposed-ready r).spared; stands = e.stands; doomed = e.doomed }
 
 -- ALL IS KEPT by a change after one that left what is there at its keys.
 pub KeepsAll-after : (u v w : Keyed) → v.keys ≡ u.keys → AreSame u.scripts v.scripts → KeepsAll u v → KeepsAll v w → KeepsAll u w

@@ -11,8 +11,8 @@ use Rattle.cc_heaps.specs.Keyed.{Keyed}
 use Rattle.cc_heaps.specs.Changes.{IsThere, held_name}
 use Rattle.cc_heaps.proofs.ObjectsKept.{there-named, named-there}
 use Rattle.cc_host.specs.Exposing.{Exposes}
-use Rattle.cc_host.specs.Steps.{IsReady, IsTried, StaysThere}
-use Rattle.cc_host.proofs.Exposed.{Exposes-same, exposed-step}
+use Rattle.cc_host.specs.Changes.{IsReady, IsTried, StaysThere}
+use Rattle.cc_host.proofs.Exposed.{Exposes-same, exposed-change}
 
 -- the same natives at the same keys, and script objects that keep their names
 stays-from : (v w : Keyed) → w.keys ≡ v.keys → ((key : ℕ) (x : Name) → name_at v.scripts key ≡ Some x → name_at w.scripts key ≡ Some x) → StaysThere v w
@@ -33,8 +33,8 @@ pub stays-same : (v w : Keyed) → w.keys ≡ v.keys → w.scripts ≡ v.scripts
 stays-same v w keys scripts = stays-from v w keys (λ key x e. ap (λ os. name_at os key) scripts ∙ e)
 
 -- nothing is exposed
-pub same-step : {p : Type 0} (v : Keyed) → IsReady v → IsTried p v v
-same-step v ready = exposed-step v v (Exposes-same v) ready
+pub same-change : {p : Type 0} (v : Keyed) → IsReady v → IsTried p v v
+same-change v ready = exposed-change v v (Exposes-same v) ready
 
 -- SOMETHING IS EXPOSED
 module _ {p : Type 0} (v w : Keyed) (e : Exposes p v w) where

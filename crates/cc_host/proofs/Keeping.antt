@@ -7,16 +7,16 @@ use Rattle.cc_heaps.specs.Keyed.{Keyed}
 use Rattle.cc_collector.specs.Kept.{running_snapshot}
 use Rattle.cc_collector.proofs.GoingOn.{RunsIn-kept}
 use Rattle.cc_host.specs.Hosted.{Hosted, IsKept}
-use Rattle.cc_host.specs.Steps.{IsStep, IsTried}
+use Rattle.cc_host.specs.Changes.{IsChange, IsTried}
 use Rattle.cc_host.specs.Calls.{Tries}
 
 -- the host of these heaps
 abbrev pub hosted : Keyed → Option Built → ℕ → Hosted
 hosted v c m = record { heaps = v; running = c; mark = m }
 
-module _ {premise : Type 0} {change : Graph → Graph} (v w : Keyed) (c : Option Built) (m : ℕ) (t : IsStep premise change v w) where
-  pub step-keeps : IsKept (hosted v c m) → IsKept (hosted w c m)
-  step-keeps k = record {
+module _ {premise : Type 0} {change : Graph → Graph} (v w : Keyed) (c : Option Built) (m : ℕ) (t : IsChange premise change v w) where
+  pub change-keeps : IsKept (hosted v c m) → IsKept (hosted w c m)
+  change-keeps k = record {
     runs = RunsIn-kept v w c k.runs t.kept;
     suspected = t.kept.suspected (candidates_now (running_snapshot c)) k.suspected;
     spared = t.spared;

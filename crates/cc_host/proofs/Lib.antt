@@ -22,5 +22,5 @@ pub mod BelowWritten
 pub mod Growing
 pub mod LettingGo
 pub mod MadeBelow
-pub mod MadeStep
+pub mod MadeChange
 pub mod Counting

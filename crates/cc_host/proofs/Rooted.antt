@@ -22,10 +22,10 @@ use Rattle.cc_host.specs.declared.stop.Stop.{Stop}
 use Rattle.cc_host.specs.declared.stop.Stop.TheVariants.{Gone, Index}
 use Rattle.cc_host.specs.Hosted.{Hosted, IsKept, roots, spare}
 use Rattle.cc_host.specs.Missing.{KeepsDoomed}
-use Rattle.cc_host.specs.Steps.{IsReady, IsStep, IsTried, StaysThere}
+use Rattle.cc_host.specs.Changes.{IsReady, IsChange, IsTried, StaysThere}
 use Rattle.cc_host.proofs.KeptDoomed.{stored-doomed}
 use Rattle.cc_host.specs.Stops.{first, slots_at_root, stop_at, stop_if_any, stop_root, stop_storing_at_root, where_so}
-use Rattle.cc_host.proofs.Composing.{step-after}
+use Rattle.cc_host.proofs.Composing.{change-after}
 use Rattle.cc_host.proofs.Reading.{native_slots-many}
 use Rattle.cc_host.proofs.Stopping.{at-second, within}
 use Rattle.cc_host.proofs.Storing.{native_name-is, register-reached, stored-none_came}
@@ -56,20 +56,20 @@ module _ (a b c : Keyed) (r : ℕ) (key : NKey) (i : ℕ) (content : Option Held
     at-root = subst (IsReached b.heap) (native_name-is a b keys key live)
         (reached (native_name a (Some key)) (subst (IsReached a.heap) rooted (root-reached a.heap r)))
 
-    pub rooted-step : IsBlackHeld b content → c ≡ left_with b (stored_in b.heap k i (held_name b content)).heap →
+    pub rooted-change : IsBlackHeld b content → c ≡ left_with b (stored_in b.heap k i (held_name b content)).heap →
         KeepsAllIf (IsBlackHeld b content) (IsReached b.heap (Some (native k))) b c →
         (IsReached b.heap (Some (native k)) → IsReached b.heap (held_name b content) →
         StandsAfter b.heap c.heap (λ g. graph.set_slot g (Some (native k)) i (held_name b content))) →
-        IsStep (IsReached a.heap (held_name a content)) (λ g. graph.set_slot g (native_name a (Some key)) i (held_name a content)) a c
-    rooted-step black is kept stands =
+        IsChange (IsReached a.heap (held_name a content)) (λ g. graph.set_slot g (native_name a (Some key)) i (held_name a content)) a c
+    rooted-change black is kept stands =
         let x = held_name a content in
         let same = stays.same content there in
         let p = IsReached a.heap x in
         let spared = ap (λ (u : Keyed). get_or u.heap.native_registers spare None) is
         ∙ (ap (λ (rs : Slots). get_or rs spare None) (stored-registers b.heap k i (held_name b content)) ∙ exposed.spared) in
-        subst (λ z. IsStep p (λ g. graph.set_slot g z i x) a c) (sym (native_name-is a b keys key live))
-        (subst (λ z. IsStep p (λ g. graph.set_slot g (Some (native k)) i z) a c) same
-        (step-after a b c ready exposed (stored-none_came b c k i (held_name b content) is) (λ d. d)
+        subst (λ z. IsChange p (λ g. graph.set_slot g z i x) a c) (sym (native_name-is a b keys key live))
+        (subst (λ z. IsChange p (λ g. graph.set_slot g (Some (native k)) i z) a c) same
+        (change-after a b c ready exposed (stored-none_came b c k i (held_name b content) is) (λ d. d)
         (λ d. subst (IsReached b.heap) (sym same) (reached x d))
         (record {
           kept = KeepsAll-both kept black at-root;

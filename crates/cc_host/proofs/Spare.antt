@@ -36,7 +36,7 @@ use Rattle.cc_host.specs.Hosted.{roots, spare}
 use Rattle.cc_host.specs.Holding.{IsHeld}
 use Rattle.cc_host.specs.Missing.{KeepsDoomed}
 use Rattle.cc_host.proofs.KeptDoomed.{hold_native-doomed}
-use Rattle.cc_host.specs.Steps.{IsReady}
+use Rattle.cc_host.specs.Changes.{IsReady}
 use Rattle.cc_host.proofs.Composing.{stands-then}
 
 -- What registers hold

@@ -16,7 +16,7 @@ use Rattle.cc_heaps.specs.Leaving.{NoneCame}
 use Rattle.cc_heaps.specs.Standing.{IsReached, StandsAfter}
 use Rattle.cc_host.specs.Hosted.{spare}
 use Rattle.cc_host.specs.Missing.{KeepsDoomed}
-use Rattle.cc_host.specs.Steps.{IsStep}
+use Rattle.cc_host.specs.Changes.{IsChange}
 
 -- IT IS HELD: nothing is given up, since the register held nothing
 pub record IsHeld (key : NKey) (old new : Keyed) : Type 0 where
@@ -35,6 +35,6 @@ pub record IsHeld (key : NKey) (old new : Keyed) : Type 0 where
 
 -- IT IS LET GO: the register is empty again
 pub record IsLetGo (old new : Keyed) : Type 0 where
-  pub step : IsStep (Unit {0}) (λ g. graph.set_register g (N spare) None) old new
+  pub change : IsChange (Unit {0}) (λ g. graph.set_register g (N spare) None) old new
   pub given_up : new ≡ left_with old (hold_native old.heap spare None).heap
   pub none_came : NoneCame old.heap new.heap

@@ -3,7 +3,7 @@ pub mod Missing
 pub mod Stops
 pub mod Paths
 pub mod Calls
-pub mod Steps
+pub mod Changes
 pub mod Holding
 pub mod Exposing
 pub mod Queues

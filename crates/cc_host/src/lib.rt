@@ -24,7 +24,7 @@ mod host;
 mod missing;
 mod object;
 mod queue;
-mod steps;
+mod changes;
 mod stop;
 
 pub use host::{Host, ROOTS};

@@ -51,7 +51,7 @@ fn read_script<S: Source>(
 }
 
 /// The verdict on a transcript without a byte.
-fn judge_nothing(alloc: Global, limits: Limits, script: &[u8]) -> Result<Verdict, CheckStop>
+fn verdict_on_nothing(alloc: Global, limits: Limits, script: &[u8]) -> Result<Verdict, CheckStop>
     requires { length script.now ≤ limits.bytes }
     ensures verdict { IfOk result (λ verdict. IsVerdict verdict limits script.now []) }
     ensures others { (result ≢ Err CheckStop.Fault) × (result ≢ Err CheckStop.Limit) }
@@ -62,7 +62,7 @@ fn judge_nothing(alloc: Global, limits: Limits, script: &[u8]) -> Result<Verdict
 
 /// The verdict on a source: its first `script` bytes, or all if there are fewer, are a script, and the rest is a
 /// transcript of it. The source is read to its end, and not again after it.
-fn judge<S: Source>(
+fn verdict_on<S: Source>(
     alloc: Global,
     script: u32,
     limits: Limits,
@@ -77,7 +77,7 @@ fn judge<S: Source>(
 {
     let bytes = read_script(alloc, script, limits.bytes(), source)?;
     if bytes.len() < script as usize {
-        return judge_nothing(alloc, limits, bytes.as_slice());
+        return verdict_on_nothing(alloc, limits, bytes.as_slice());
     }
     cc_check::check(alloc, limits, bytes.as_slice(), source)
 }
@@ -127,7 +127,7 @@ fn line_of(verdict: Verdict) -> &'static [u8]
 /// be wanted and not there at any time.
 ///
 /// Each read that is answered takes a byte at least, but for one that says 0, which is the end. No read follows it.
-pub fn check<S: Source, K: Sink>(
+pub fn check_input<S: Source, K: Sink>(
     alloc: Global,
     script: u32,
     limits: Limits,
@@ -172,7 +172,7 @@ pub fn check<S: Source, K: Sink>(
         ¬ (Rose (S.faults source.old) (S.faults source.new)) → ¬ (Rose (K.faults sink.old) (K.faults sink.new)) →
         result ≢ Status.NoMemory → (result ≡ Status.Done) ⊎ (result ≡ Status.Unlawful) }
 {
-    let verdict = match judge(alloc, script, limits, source) {
+    let verdict = match verdict_on(alloc, script, limits, source) {
         Ok(verdict) => verdict,
         Err(stop) => return status_of(stop),
     };

@@ -11,7 +11,7 @@ mod status;
 mod summary;
 mod words;
 
-pub use checking::check;
+pub use checking::check_input;
 pub use making::make;
 pub use program::{replay, run};
 pub use status::Status;

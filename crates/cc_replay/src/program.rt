@@ -10,7 +10,7 @@ ghost use Rattle.cc_replay.specs.Summaries.{WritesSummary, WritesSummaryFront};
 ghost use Rattle.cc_replay.specs.Verdicts.{IsLawfulInput, PassesLimit, WritesLawful, WritesUnlawful, WritesVerdictFront};
 
 use crate::answering::answer_input;
-use crate::checking::check;
+use crate::checking::check_input;
 use crate::making::make;
 use crate::outlet::Outlet;
 use crate::status::Status;
@@ -218,6 +218,6 @@ pub fn run<'a, S: Source, K: Sink>(
     match request {
         Request::Replay(limits) => replay(alloc, limits, source, sink),
         Request::Make { seed, count } => make(alloc, seed, count, sink),
-        Request::Check { script, limits } => check(alloc, script, limits, source, sink),
+        Request::Check { script, limits } => check_input(alloc, script, limits, source, sink),
     }
 }

@@ -7,7 +7,7 @@ ghost use Rattle.cc_host.specs.Stops.{IsStoppedBy, IsStoppedOrRefused, stop_entr
 
 use crate::host::Host;
 use crate::object::Object;
-use crate::steps;
+use crate::changes;
 use crate::stop::Stop;
 
 impl Host {
@@ -26,7 +26,7 @@ impl Host {
         let the_map = self.map(the_map)?;
         let key = self.script(key)?;
         let value = self.script(value)?;
-        steps::set_entry(&mut self.heaps, the_map, key, value)?;
+        changes::set_entry(&mut self.heaps, the_map, key, value)?;
         Ok(())
     }
 
@@ -40,7 +40,7 @@ impl Host {
     {
         let the_map = self.map(the_map)?;
         let key = self.script(key)?;
-        steps::unset_entry(&mut self.heaps, the_map, key);
+        changes::unset_entry(&mut self.heaps, the_map, key);
         Ok(())
     }
 }

@@ -13,7 +13,7 @@ ghost use Rattle.cc_host.specs.Stops.{IsStoppedOrRefused, are_natives_made, are_
 
 use crate::host::{Host, ROOTS};
 use crate::object::Object;
-use crate::steps::{make_map, make_native, make_plain, make_proxy};
+use crate::changes::{make_map, make_native, make_plain, make_proxy};
 use crate::stop::Stop;
 use cc_model::Notices;
 use cc_names::{MOST_SLOTS, RegNo, SlotNo};

@@ -18,7 +18,7 @@ ghost use Rattle.cc_host.specs.Stops.{IsStoppedBy, IsStoppedOrRefused, stop_free
 
 use crate::host::{Host, ROOTS};
 use crate::object::Object;
-use crate::steps;
+use crate::changes;
 use crate::stop::Stop;
 use cc_counted::native_held;
 use cc_model::Notices;
@@ -55,7 +55,7 @@ impl Host {
         if i >= self.heaps.counted().slots(key) {
             return Err(Stop::Index);
         }
-        steps::store_rooted(&mut self.heaps, r, key, i, content, out);
+        changes::store_rooted(&mut self.heaps, r, key, i, content, out);
         Ok(())
     }
 
@@ -137,7 +137,7 @@ impl Host {
         if i >= self.heaps.counted().slots(key) {
             return Err(Stop::Index);
         }
-        steps::store_reached(&mut self.heaps, key, i, content, out);
+        changes::store_reached(&mut self.heaps, key, i, content, out);
         Ok(())
     }
 
@@ -190,7 +190,7 @@ impl Host {
             return Err(Stop::Index);
         }
         let above = self.free_below_root(r, path, i)?;
-        let key = steps::make_below(&mut self.heaps, above, i, slots, out)?;
+        let key = changes::make_below(&mut self.heaps, above, i, slots, out)?;
         match self.of_native(Some(key)) {
             Some(made) => Ok(made),
             None => unreachable!(),

@@ -13,7 +13,7 @@ ghost use Rattle.cc_host.specs.Stops.{IsStoppedBy, IsStoppedOrRefused, stop_movi
 
 use crate::host::{Host, ROOTS};
 use crate::object::Object;
-use crate::steps;
+use crate::changes;
 use crate::stop::Stop;
 use cc_model::Notices;
 use cc_names::{Name, RegNo, SlotNo};
@@ -39,7 +39,7 @@ impl Host {
         if r >= ROOTS {
             return Err(Stop::Index);
         }
-        steps::root_native(&mut self.heaps, r, content, out);
+        changes::root_native(&mut self.heaps, r, content, out);
         Ok(())
     }
 
@@ -54,7 +54,7 @@ impl Host {
         if r >= ROOTS {
             return Err(Stop::Index);
         }
-        steps::root_script(&mut self.heaps, r, content);
+        changes::root_script(&mut self.heaps, r, content);
         Ok(())
     }
 
@@ -79,7 +79,7 @@ impl Host {
         if i >= self.heaps.counted().slots(key) {
             return Err(Stop::Index);
         }
-        steps::store_native(&mut self.heaps, key, i, content, out);
+        changes::store_native(&mut self.heaps, key, i, content, out);
         Ok(())
     }
 
@@ -97,7 +97,7 @@ impl Host {
         if i >= self.heaps.scripts().slots(key) {
             return Err(Stop::Index);
         }
-        steps::store_script(&mut self.heaps, key, i, content);
+        changes::store_script(&mut self.heaps, key, i, content);
         Ok(())
     }
 
@@ -152,7 +152,7 @@ impl Host {
         if i >= self.heaps.counted().slots(to) || j >= self.heaps.counted().slots(from) {
             return Err(Stop::Index);
         }
-        steps::move_native(&mut self.heaps, to, i, from, j, out);
+        changes::move_native(&mut self.heaps, to, i, from, j, out);
         Ok(())
     }
 
@@ -174,7 +174,7 @@ impl Host {
         ensures none_came { OnErr result (NoneComes self.old self.new) }
     {
         let key = self.native(x)?;
-        let made = steps::wrap_native(&mut self.heaps, key, out)?;
+        let made = changes::wrap_native(&mut self.heaps, key, out)?;
         match self.of_script(Some(made)) {
             Some(reflector) => Ok(reflector),
             None => unreachable!(),
@@ -189,7 +189,7 @@ impl Host {
         ensures none_came { NoneComes self.old self.new }
     {
         let key = self.reflector(x)?;
-        steps::preserve_reflector(&mut self.heaps, key);
+        changes::preserve_reflector(&mut self.heaps, key);
         Ok(())
     }
 }

@@ -6,7 +6,7 @@ use Rattle.cc_host.specs.declared.stop.Stop.TheVariants.{Index}
 use Rattle.cc_host.specs.Hosted.{Hosted, IsKept}
 use Rattle.cc_host.specs.Paths.{slots_below, slots_of_any}
 use Rattle.cc_host.specs.Stops.{stop_free_below_root}
-use Rattle.cc_host.proofs.Below.{below-free, below-held, below-slots, free-is, free-past, free-taken, held-some, step-content, step-held}
+use Rattle.cc_host.proofs.Below.{below-free, below-held, below-slots, free-is, free-past, free-taken, held-some, change-content, change-held}
 use Rattle.cc_host.proofs.Stopping.{by-passed, by-stopped}
 use Rattle.cc_host.proofs.host.Host.free_below_root.Goals as goal
 use Rattle.cc_host.proofs.host.Host.free_below_root.Goals.{After-slot, After-slots}
@@ -28,7 +28,7 @@ returns-then-i-slots-clause-stops c =
 content : (c : After-slot) → held_name c.args.self.now.heaps c.slot.result ≡ get_or (slots_below c.args.self.now c.args.r c.args.path.now) c.args.i None
 content c =
     let h = c.args.self.now in
-    step-content h (subst IsKept c.self.view_is c.self.invariant) c.in-Some.key c.in-Some.ensures.there
+    change-content h (subst IsKept c.self.view_is c.self.invariant) c.in-Some.key c.in-Some.ensures.there
     c.counted-2.result.now (c.counted-2.ensures ∙ ap (λ (k : Hosted). counts_of k.heaps) c.self.view_is) c.args.i c.slot.result c.slot.ensures.name c.slot.ensures.live
     ∙ ap (λ o. get_or (slots_of_any h.heaps.heap o) c.args.i None) c.in-Some.ensures.name
 
@@ -38,7 +38,7 @@ returns-in-Some-slot-clause-stops c =
     let h = c.args.self.now in
     let slots = slots_below h c.args.r c.args.path.now in
     let d = (goal.at.returns-in-Some-slot-clause-stops c).After-slot in
-    let held = step-held h (subst IsKept c.self.view_is c.self.invariant) c.in-Some.key c.in-Some.ensures.there
+    let held = change-held h (subst IsKept c.self.view_is c.self.invariant) c.in-Some.key c.in-Some.ensures.there
     c.counted-2.result.now (c.counted-2.ensures ∙ ap (λ (k : Hosted). counts_of k.heaps) c.self.view_is) c.args.i c.slot.result c.slot.ensures.name c.slot.ensures.live in
     let some = held-some h.heaps c.in-Some-slot.field-0 (subst (IsThere h.heaps) c.in-Some-slot.is held) in
     by-stopped NKey (stop_free_below_root h c.args.r c.args.path.now c.args.i) Index

@@ -6,7 +6,7 @@ use Rattle.cc_host.specs.declared.stop.Stop.TheVariants.{Index}
 use Rattle.cc_host.specs.Hosted.{Hosted, IsKept, slots_of}
 use Rattle.cc_host.specs.Stops.{IsStoppedBy, first, stop_moving, stop_native, stop_slot}
 use Rattle.cc_host.proofs.Reading.{native_slots-many}
-use Rattle.cc_host.proofs.Keeping.{step-keeps}
+use Rattle.cc_host.proofs.Keeping.{change-keeps}
 use Rattle.cc_host.proofs.Stopping.{at-first, at-second, beyond-slots, by-passed, by-stopped, moving, passed, stopped, within-slots}
 use Rattle.cc_heaps.specs.Leaving.{NoneCame}
 use Rattle.cc_host.proofs.host.Host.move_slot.Goals as goal
@@ -14,7 +14,7 @@ use Rattle.cc_host.proofs.host.Host.move_slot.Goals.{then-i-slots-via-then-i-slo
 
 pub invariant_of-self : goal.invariant_of-self
 invariant_of-self g c =
-    step-keeps c.self.inside.heaps c.move_native.new.heaps c.self.inside.collector c.self.inside.mark c.move_native.ensures.step c.self.invariant
+    change-keeps c.self.inside.heaps c.move_native.new.heaps c.self.inside.collector c.self.inside.mark c.move_native.ensures.change c.self.invariant
 
 pub returns-in_err-from-clause-stops : goal.returns-in_err-from-clause-stops
 returns-in_err-from-clause-stops g c =

@@ -1,12 +1,12 @@
 use Rattle.std.proofs.Common.{sym, ◌∙◌, ap}
 use Rattle.cc_host.specs.Hosted.{named}
 use Rattle.cc_host.proofs.Coming.{came-here}
-use Rattle.cc_host.proofs.Keeping.{step-keeps}
+use Rattle.cc_host.proofs.Keeping.{change-keeps}
 use Rattle.cc_host.proofs.host.Host.new_native.Goals as goal
 
 pub invariant_of-self-2 : goal.invariant_of-self-2
 invariant_of-self-2 g c =
-    step-keeps c.self.inside.heaps c.make_native.new.heaps c.self.inside.collector c.self.inside.mark c.in_ok-key.ensures.step c.self.invariant
+    change-keeps c.self.inside.heaps c.make_native.new.heaps c.self.inside.collector c.self.inside.mark c.in_ok-key.ensures.change c.self.invariant
 
 pub returns-clause-came : goal.returns-clause-came
 returns-clause-came g c = came-here c.self.view_is c.make_native.new.heaps.heap (sym (ap named c.in-Some.is) ∙ c.of_native.ensures.name) c.in_ok-key.ensures.came

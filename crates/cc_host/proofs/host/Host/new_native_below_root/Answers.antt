@@ -4,12 +4,12 @@ use Rattle.cc_names.specs.declared.name.Name.{Name}
 use Rattle.cc_names.specs.Names.{native}
 use Rattle.cc_model.specs.WellFormed.{names_there}
 use Rattle.cc_host.specs.Hosted.{Hosted}
-use Rattle.cc_host.proofs.Keeping.{step-keeps}
+use Rattle.cc_host.proofs.Keeping.{change-keeps}
 use Rattle.cc_host.proofs.host.Host.new_native_below_root.Goals as goal
 
 pub invariant_of-self-2 : goal.invariant_of-self-2
 invariant_of-self-2 g c =
-    step-keeps c.self.inside.heaps c.make_below.new.heaps c.self.inside.collector c.self.inside.mark c.in_ok-key.ensures.step c.self.invariant
+    change-keeps c.self.inside.heaps c.make_below.new.heaps c.self.inside.collector c.self.inside.mark c.in_ok-key.ensures.change c.self.invariant
 
 pub returns-clause-came : goal.returns-clause-came
 returns-clause-came g c =

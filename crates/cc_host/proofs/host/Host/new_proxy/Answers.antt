@@ -1,5 +1,5 @@
 use Rattle.std.proofs.Common.{sym, ◌∙◌, ap, subst}
-use Rattle.cc_host.proofs.Keeping.{step-keeps, tried-keeps}
+use Rattle.cc_host.proofs.Keeping.{change-keeps, tried-keeps}
 use Rattle.cc_host.specs.Hosted.{Hosted, named}
 use Rattle.cc_host.proofs.Coming.{came-here}
 use Rattle.cc_lists.proofs.KnownBytes.{on_err_of}
@@ -12,7 +12,7 @@ invariant_of-self c =
 
 pub invariant_of-self-2 : goal.invariant_of-self-2
 invariant_of-self-2 c =
-    step-keeps c.self.inside.heaps c.make_proxy.new.heaps c.self.inside.collector c.self.inside.mark c.in_ok-key.ensures.step c.self.invariant
+    change-keeps c.self.inside.heaps c.make_proxy.new.heaps c.self.inside.collector c.self.inside.mark c.in_ok-key.ensures.change c.self.invariant
 
 pub returns-clause-came : goal.returns-clause-came
 returns-clause-came c = came-here c.self.view_is c.make_proxy.new.heaps.heap (sym (ap named c.in-Some.is) ∙ c.of_script.ensures.name) c.in_ok-key.ensures.came

@@ -3,7 +3,7 @@ use Rattle.cc_names.specs.declared.number.SKey.{SKey}
 use Rattle.cc_host.specs.declared.stop.Stop.{Stop}
 use Rattle.cc_host.specs.declared.stop.Stop.TheVariants.{NoMemory}
 use Rattle.cc_host.specs.Stops.{IsStoppedOrRefused, stop_entry, stop_map, stop_script, stop_setting}
-use Rattle.cc_host.proofs.Keeping.{step-keeps, tried-keeps}
+use Rattle.cc_host.proofs.Keeping.{change-keeps, tried-keeps}
 use Rattle.cc_host.proofs.Stopping.{at-first, at-second, or-passed, or-refused, or-stopped, passed, stopped}
 use Rattle.cc_heaps.specs.Leaving.{NoneCame}
 use Rattle.cc_host.specs.Hosted.{Hosted}
@@ -61,7 +61,7 @@ invariant_of-self c =
 
 pub invariant_of-self-2 : goal.invariant_of-self-2
 invariant_of-self-2 c =
-    step-keeps c.self.inside.heaps c.set_entry.new.heaps c.self.inside.collector c.self.inside.mark c.in_ok-set_entry.ensures.step c.self.invariant
+    change-keeps c.self.inside.heaps c.set_entry.new.heaps c.self.inside.collector c.self.inside.mark c.in_ok-set_entry.ensures.change c.self.invariant
 
 pub returns-clause-none_came : goal.returns-clause-none_came
 returns-clause-none_came c = subst (λ (k : Hosted). NoneCame k.heaps.heap c.set_entry.new.heaps.heap) c.self.view_is c.set_entry.ensures.none_came

@@ -8,7 +8,7 @@ use Rattle.cc_host.specs.declared.stop.Stop.{Stop}
 use Rattle.cc_host.specs.declared.stop.Stop.TheVariants.{Index}
 use Rattle.cc_host.specs.Hosted.{Hosted, IsKept}
 use Rattle.cc_host.specs.Stops.{slots_at_root, stop_at, stop_if_any, stop_storing_at_root, where_so}
-use Rattle.cc_host.proofs.Keeping.{step-keeps}
+use Rattle.cc_host.proofs.Keeping.{change-keeps}
 use Rattle.cc_host.proofs.Rooted.{rooted-slots, rooted-storing}
 use Rattle.cc_host.proofs.Stopping.{beyond, by-passed, by-stopped, passed, within}
 use Rattle.cc_host.proofs.host.Host.store_at_root.Given as given
@@ -17,7 +17,7 @@ use Rattle.cc_host.proofs.host.Host.store_at_root.Goals.{After-slots}
 
 pub invariant_of-self : goal.invariant_of-self
 invariant_of-self g c =
-    step-keeps c.self.inside.heaps c.store_rooted.new.heaps c.self.inside.collector c.self.inside.mark c.store_rooted.ensures.step c.self.invariant
+    change-keeps c.self.inside.heaps c.store_rooted.new.heaps c.self.inside.collector c.self.inside.mark c.store_rooted.ensures.change c.self.invariant
 
 -- the index decides, and the slots counted by key are those of the root
 module _ (g : given.Over) (c : After-slots g) where

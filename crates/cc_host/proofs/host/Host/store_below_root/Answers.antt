@@ -10,7 +10,7 @@ use Rattle.cc_host.specs.Hosted.{Hosted, IsKept}
 use Rattle.cc_host.specs.Paths.{slots_below}
 use Rattle.cc_host.specs.Stops.{stop_at, stop_if_any, stop_storing_below_root, where_so}
 use Rattle.cc_host.proofs.Below.{below-held, below-slots, below-storing}
-use Rattle.cc_host.proofs.Keeping.{step-keeps}
+use Rattle.cc_host.proofs.Keeping.{change-keeps}
 use Rattle.cc_host.proofs.Stopping.{beyond, by-passed, by-stopped, passed, within}
 use Rattle.cc_host.proofs.host.Host.store_below_root.Given as given
 use Rattle.cc_host.proofs.host.Host.store_below_root.Goals as goal
@@ -18,7 +18,7 @@ use Rattle.cc_host.proofs.host.Host.store_below_root.Goals.{After-slots}
 
 pub invariant_of-self : goal.invariant_of-self
 invariant_of-self g c =
-    step-keeps c.self.inside.heaps c.store_reached.new.heaps c.self.inside.collector c.self.inside.mark c.store_reached.ensures.step c.self.invariant
+    change-keeps c.self.inside.heaps c.store_reached.new.heaps c.self.inside.collector c.self.inside.mark c.store_reached.ensures.change c.self.invariant
 
 -- the index decides, and the slots counted by key are those of the native below the root
 module _ (g : given.Over) (c : After-slots g) where

@@ -4,14 +4,14 @@ use Rattle.cc_host.specs.declared.stop.Stop.TheVariants.{Index}
 use Rattle.cc_host.specs.Hosted.{Hosted, IsKept, slots_of}
 use Rattle.cc_host.specs.Stops.{stop_at, stop_if_any, stop_native, stop_storing}
 use Rattle.cc_host.proofs.Reading.{native_slots-many}
-use Rattle.cc_host.proofs.Keeping.{step-keeps}
+use Rattle.cc_host.proofs.Keeping.{change-keeps}
 use Rattle.cc_host.proofs.Stopping.{beyond-slots, by-passed, by-stopped, native-storing, passed, within-slots}
 use Rattle.cc_heaps.specs.Leaving.{NoneCame}
 use Rattle.cc_host.proofs.host.Host.store_in_native.Goals as goal
 
 pub invariant_of-self : goal.invariant_of-self
 invariant_of-self g c =
-    step-keeps c.self.inside.heaps c.store_native.new.heaps c.self.inside.collector c.self.inside.mark c.store_native.ensures.step c.self.invariant
+    change-keeps c.self.inside.heaps c.store_native.new.heaps c.self.inside.collector c.self.inside.mark c.store_native.ensures.change c.self.invariant
 
 pub returns-then-i-slots-clause-stops : goal.returns-then-i-slots-clause-stops
 returns-then-i-slots-clause-stops g c =

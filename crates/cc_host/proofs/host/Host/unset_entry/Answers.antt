@@ -1,12 +1,12 @@
 use Rattle.std.proofs.Common.{subst}
-use Rattle.cc_host.proofs.Keeping.{step-keeps}
+use Rattle.cc_host.proofs.Keeping.{change-keeps}
 use Rattle.cc_heaps.specs.Leaving.{NoneCame}
 use Rattle.cc_host.specs.Hosted.{Hosted}
 use Rattle.cc_host.proofs.host.Host.unset_entry.Goals as goal
 
 pub invariant_of-self : goal.invariant_of-self
 invariant_of-self c =
-    step-keeps c.self.inside.heaps c.unset_entry.new.heaps c.self.inside.collector c.self.inside.mark c.unset_entry.ensures.step c.self.invariant
+    change-keeps c.self.inside.heaps c.unset_entry.new.heaps c.self.inside.collector c.self.inside.mark c.unset_entry.ensures.change c.self.invariant
 
 pub returns-clause-none_came : goal.returns-clause-none_came
 returns-clause-none_came c = subst (λ (k : Hosted). NoneCame k.heaps.heap c.unset_entry.new.heaps.heap) c.self.view_is c.unset_entry.ensures.none_came

@@ -3,7 +3,7 @@ use Rattle.cc_lists.proofs.KnownBytes.{on_err_of}
 use Rattle.cc_heaps.specs.Standing.{IsReached}
 use Rattle.cc_host.specs.Hosted.{Hosted, IsRooted, named}
 use Rattle.cc_host.specs.Calls.{Tries}
-use Rattle.cc_host.proofs.Keeping.{hosted, step-keeps, tried-does, tried-keeps}
+use Rattle.cc_host.proofs.Keeping.{hosted, change-keeps, tried-does, tried-keeps}
 use Rattle.cc_heaps.specs.Changes.{native_name}
 use Rattle.cc_heaps.specs.Leaving.{NoneCame}
 use Rattle.cc_host.proofs.Coming.{came-here}
@@ -25,7 +25,7 @@ returns-in_err-made-clause-tried g c =
 
 pub invariant_of-self-2 : goal.invariant_of-self-2
 invariant_of-self-2 g c =
-    step-keeps c.self.inside.heaps c.wrap_native.new.heaps c.self.inside.collector c.self.inside.mark c.in_ok-made.ensures.step c.self.invariant
+    change-keeps c.self.inside.heaps c.wrap_native.new.heaps c.self.inside.collector c.self.inside.mark c.in_ok-made.ensures.change c.self.invariant
 
 pub returns-in_err-made-clause-none_came : goal.returns-in_err-made-clause-none_came
 returns-in_err-made-clause-none_came g c = on_err_of c.from_residual-in_err-made.result

@@ -1,0 +1,19 @@
+use Rattle.std.proofs.Common.{subst}
+use Rattle.cc_model.specs.Heap.{Outcome}
+use Rattle.cc_model.specs.Telling.{TellsEvents}
+use Rattle.cc_heaps.proofs.FewCounts.{none-owned}
+use Rattle.cc_host.proofs.Spare.{held-from, held-silently}
+use Rattle.cc_host.proofs.changes.hold.Goals as goal
+
+pub set_native_reg-requires-clause-order : goal.set_native_reg-requires-clause-order
+set_native_reg-requires-clause-order g c = none-owned c.args.heaps.now c.requires.ready.order
+
+pub returns-clause-held : goal.returns-clause-held
+returns-clause-held g c =
+    let e = c.set_native_reg.ensures in
+    held-from c.args.heaps.now c.set_native_reg.new.self c.args.key c.requires.ready e.heap e.kept e.stands
+
+pub returns-clause-told : goal.returns-clause-told
+returns-clause-told g c =
+    subst (λ (o : Outcome). TellsEvents (g.N.Notices.telling c.args.out.now) (g.N.Notices.telling c.set_native_reg.new.out) o.events)
+    (held-silently c.args.heaps.now c.args.key c.requires.ready) c.set_native_reg.ensures.told

@@ -1,0 +1,11 @@
+use Rattle.cc_heaps.proofs.FewCounts.{none-owned}
+use Rattle.cc_host.proofs.Around.{let_go-from}
+use Rattle.cc_host.proofs.changes.let_go.Goals as goal
+
+pub set_native_reg-requires-clause-order : goal.set_native_reg-requires-clause-order
+set_native_reg-requires-clause-order g c = none-owned c.args.heaps.now c.requires.order
+
+pub returns-clause-empty : goal.returns-clause-empty
+returns-clause-empty g c =
+    let e = c.set_native_reg.ensures in
+    let_go-from c.args.heaps.now c.set_native_reg.new.self e.heap c.requires.order e.kept (e.stands tt)

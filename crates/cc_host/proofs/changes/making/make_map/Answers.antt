@@ -1,0 +1,31 @@
+use Rattle.std.proofs.Common.{rules, ◌+◌, Some, None, sym, ◌∙◌, ap, subst}
+use Rattle.cc_names.specs.declared.register.Reg.TheVariants.{N}
+use Rattle.cc_model.specs.Heap.{Heap, register}
+use Rattle.cc_host.specs.Hosted.{spare}
+use Rattle.cc_host.specs.Missing.{KeepsDoomed}
+use Rattle.cc_host.proofs.KeptDoomed.{make_map-doomed}
+use Rattle.cc_lists.specs.Members.{Among}
+use Rattle.cc_names.specs.Names.{object}
+use Rattle.cc_names.specs.declared.kind.Kind.TheVariants.{Map}
+use Rattle.cc_model.specs.WellFormed.{names_there}
+use Rattle.cc_heaps.specs.Changes.{script_name}
+use Rattle.cc_host.proofs.Coming.{OneCame-named, object-came}
+use Rattle.cc_host.proofs.changes.making.make_map.Goals as goal
+
+pub returns-clause-change : goal.returns-clause-change
+returns-clause-change c =
+    let h = c.args.heaps.now.heap in
+    let e = c.in_ok-new_map.ensures in
+    record {
+      kept = e.kept;
+      spared = ap (λ (k : Heap). register k (N spare)) e.heap ∙ c.requires.ready.spared;
+      stands = λ d. e.stands;
+      doomed = λ d. subst (KeepsDoomed h) (sym e.heap) (make_map-doomed h c.requires.ready.order.sound.well_formed c.args.r);
+    }
+
+pub returns-clause-came : goal.returns-clause-came
+returns-clause-came c =
+    let h = c.args.heaps.now.heap in
+    let w = c.new_map.new.self in
+    OneCame-named h w.heap (object (h.scripts_made + 1)) (script_name w (Some c.in-Some.key)) (search rules)
+    (λ y m. object-came h c.args.r Map 0 None y (subst (λ (k : Heap). Among y (names_there k)) c.in_ok-new_map.ensures.heap m))

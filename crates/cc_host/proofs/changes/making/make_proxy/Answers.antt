@@ -1,0 +1,46 @@
+use Rattle.std.proofs.Common.{rules, ◌+◌, Some, sym, ◌∙◌, ap, subst, inl, inr, ⊎_elim}
+use Rattle.cc_names.specs.declared.register.Reg.TheVariants.{N}
+use Rattle.cc_model.specs.Graph as graph
+use Rattle.cc_model.specs.Heap.{Heap, register}
+use Rattle.cc_script.specs.Objects.{name_at}
+use Rattle.cc_heaps.specs.Standing.{IsReached, StandsAfter}
+use Rattle.cc_host.specs.Hosted.{spare}
+use Rattle.cc_host.specs.Missing.{KeepsDoomed}
+use Rattle.cc_host.proofs.KeptDoomed.{doomed-then, make_proxy-doomed}
+use Rattle.cc_host.proofs.Exposed.{KeepsAll-after, StandsAfter-still, exposed-none_came}
+use Rattle.cc_host.proofs.Making.{proxy-beside}
+use Rattle.cc_lists.specs.Members.{Among}
+use Rattle.cc_names.specs.Names.{object}
+use Rattle.cc_model.specs.WellFormed.{names_there}
+use Rattle.cc_heaps.specs.Changes.{script_name}
+use Rattle.cc_host.proofs.Coming.{OneCame-named, proxy-came}
+use Rattle.cc_host.proofs.changes.making.make_proxy.Goals as goal
+
+pub returns-clause-change : goal.returns-clause-change
+returns-clause-change c =
+    let u = c.args.heaps.now in
+    let v = c.expose_key.new.heaps in
+    let w = c.new_proxy.new.self in
+    let e = c.expose_key.ensures in
+    let p = c.in_ok-new_proxy.ensures in
+    record {
+      kept = KeepsAll-after u v w e.exposes.keys e.exposes.same e.exposes.kept p.kept;
+      spared = ap (λ (h : Heap). register h (N spare)) p.heap ∙ (proxy-beside v.heap c.args.r (name_at v.scripts c.args.delegate.0) spare ∙ e.ready.spared);
+      stands = λ d. StandsAfter-still u.heap v.heap w.heap e.exposes.stands
+          (subst (λ x. IsReached v.heap x → StandsAfter v.heap w.heap (λ g. graph.with_proxy g c.args.r x)) (e.exposes.same c.args.delegate.0 c.requires.live).name p.stands
+          (e.exposes.reached _ d));
+      doomed = λ d. doomed-then u.heap v.heap w.heap (e.exposes.doomed d)
+          (subst (KeepsDoomed v.heap) (sym p.heap)
+          (make_proxy-doomed v.heap e.ready.order.sound.well_formed c.args.r (name_at v.scripts c.args.delegate.0)
+          (subst (IsReached v.heap) (sym (e.exposes.same c.args.delegate.0 c.requires.live).name) (e.exposes.reached _ d))));
+    }
+
+pub returns-clause-came : goal.returns-clause-came
+returns-clause-came c =
+    let u = c.args.heaps.now in
+    let v = c.expose_key.new.heaps in
+    let w = c.new_proxy.new.self in
+    OneCame-named u.heap w.heap (object (u.heap.scripts_made + 1)) (script_name w (Some c.in-Some.key)) (search rules)
+    (λ y m. ⊎_elim (λ l. inl (exposed-none_came u v c.expose_key.ensures.exposes y l))
+    (λ e. inr (e ∙ ap (λ (k : Heap). object (k.scripts_made + 1)) c.expose_key.ensures.exposes.rest))
+    (proxy-came v.heap c.args.r (name_at v.scripts c.args.delegate.0) y (subst (λ (k : Heap). Among y (names_there k)) c.in_ok-new_proxy.ensures.heap m)))

@@ -1,0 +1,30 @@
+use Rattle.std.proofs.Common.{sym, ap, subst}
+use Rattle.cc_heaps.specs.Keyed.{Keyed}
+use Rattle.cc_heaps.proofs.FewCounts.{none-owned}
+use Rattle.cc_host.specs.Missing.{KeepsDoomed}
+use Rattle.cc_host.proofs.KeptDoomed.{hold_native-doomed}
+use Rattle.cc_heaps.specs.Changes.{native_name}
+use Rattle.cc_host.proofs.Spare.{root-spared}
+use Rattle.cc_lists.specs.Members.{Among}
+use Rattle.cc_model.specs.WellFormed.{names_there}
+use Rattle.cc_host.proofs.Coming.{hold_native-none_came}
+use Rattle.cc_host.proofs.changes.root_native.Goals as goal
+
+pub set_native_reg-requires-clause-order : goal.set_native_reg-requires-clause-order
+set_native_reg-requires-clause-order g c = none-owned c.args.heaps.now c.requires.ready.order
+
+pub returns-clause-change : goal.returns-clause-change
+returns-clause-change g c =
+    let v = c.args.heaps.now in
+    let e = c.set_native_reg.ensures in
+    record {
+      kept = e.kept;
+      spared = root-spared v c.set_native_reg.new.self c.args.r (native_name v c.args.content) c.requires.within c.requires.ready e.heap;
+      stands = e.stands;
+      doomed = λ p. subst (KeepsDoomed v.heap) (sym (ap (λ (w : Keyed). w.heap) e.heap)) (hold_native-doomed v.heap c.args.r (native_name v c.args.content) p);
+    }
+
+pub returns-clause-none_came : goal.returns-clause-none_came
+returns-clause-none_came g c x m =
+    let v = c.args.heaps.now in
+    hold_native-none_came v.heap c.args.r (native_name v c.args.content) x (subst (λ (w : Keyed). Among x (names_there w.heap)) c.set_native_reg.ensures.heap m)

@@ -1,0 +1,25 @@
+use Rattle.std.proofs.Common.{[]}
+use Rattle.cc_script.specs.Objects.{name_at}
+use Rattle.cc_heaps.specs.Standing.{IsReached}
+use Rattle.cc_host.specs.Exposing.{Exposes}
+use Rattle.cc_host.proofs.Exposed.{exposed-colour, exposed-ready, exposes}
+use Rattle.cc_host.proofs.changes.scripts.expose_key.Goals as goal
+
+pub expose-requires-clause-order : goal.expose-requires-clause-order
+expose-requires-clause-order c = ([], c.requires.ready.order)
+
+given : (c : goal.After-expose) → Exposes (IsReached c.args.heaps.now.heap (name_at c.args.heaps.now.scripts c.args.key.0)) c.args.heaps.now c.expose.new.self
+given c =
+    let v = c.args.heaps.now in
+    let e = c.expose.ensures in
+    exposes v c.expose.new.self c.requires.ready.order (name_at v.scripts c.args.key.0) e.heap e.natives e.kept e.stands
+
+pub returns-clause-exposes : goal.returns-clause-exposes
+returns-clause-exposes c = given c
+
+pub returns-clause-ready : goal.returns-clause-ready
+returns-clause-ready c = exposed-ready c.args.heaps.now c.expose.new.self (given c) c.requires.ready
+
+pub returns-clause-black : goal.returns-clause-black
+returns-clause-black c =
+    exposed-colour c.args.heaps.now c.expose.new.self ((given c).kept.order [] c.requires.ready.order) (given c) c.args.key.0 c.requires.live c.expose.ensures.heap

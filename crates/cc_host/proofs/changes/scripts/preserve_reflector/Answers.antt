@@ -1,0 +1,63 @@
+use Rattle.std.proofs.Common.{◌≡◌, [], sym, ◌∙◌, ap, subst}
+use Rattle.cc_model.specs.Graph as graph
+use Rattle.cc_script.specs.Objects.{name_at}
+use Rattle.cc_heaps.specs.Keyed.{Keyed}
+use Rattle.cc_heaps.specs.Standing.{IsReached, MayHold, StandsAfter}
+use Rattle.cc_heaps.proofs.Kept.{KeepsAll-black}
+use Rattle.cc_host.specs.Exposing.{AreSame}
+use Rattle.cc_host.specs.Missing.{KeepsDoomed}
+use Rattle.cc_host.proofs.KeptDoomed.{doomed-then, preserve-doomed}
+use Rattle.cc_host.proofs.Exposed.{KeepsAll-after, StandsAfter-still, exposed-none_came, exposed-none_left}
+use Rattle.cc_host.proofs.ScriptSteps.{StaysBeside, beside-none_came, beside-none_left, beside-spared, preserve-beside}
+use Rattle.cc_host.proofs.changes.scripts.preserve_reflector.Goals as goal
+
+pub preserve-requires-clause-order : goal.preserve-requires-clause-order
+preserve-requires-clause-order c = ([], c.expose_key.ensures.ready.order)
+
+pub preserve-requires-clause-live : goal.preserve-requires-clause-live
+preserve-requires-clause-live c = (c.expose_key.ensures.exposes.same c.args.key.0 c.requires.live).there
+
+-- it has its name still
+name : (c : goal.After-preserve) → name_at c.expose_key.new.heaps.scripts c.args.key.0 ≡ name_at c.args.heaps.now.scripts c.args.key.0
+name c = (c.expose_key.ensures.exposes.same c.args.key.0 c.requires.live).name
+
+beside : (c : goal.After-preserve) → StaysBeside c.expose_key.new.heaps.heap c.preserve.new.heaps.heap
+beside c =
+    let v = c.expose_key.new.heaps in
+    subst (λ (w : Keyed). StaysBeside v.heap w.heap) (sym c.preserve.ensures.heap) (preserve-beside v.heap (name_at v.scripts c.args.key.0))
+
+pub returns-clause-change : goal.returns-clause-change
+returns-clause-change c =
+    let u = c.args.heaps.now in
+    let v = c.expose_key.new.heaps in
+    let w = c.preserve.new.heaps in
+    let e = c.expose_key.ensures in
+    record {
+      kept = KeepsAll-after u v w e.exposes.keys e.exposes.same e.exposes.kept (KeepsAll-black c.preserve.ensures.kept e.black);
+      spared = beside-spared v w (beside c) e.ready.spared;
+      stands = λ d. StandsAfter-still u.heap v.heap w.heap e.exposes.stands
+          (subst (λ x. IsReached v.heap x → StandsAfter v.heap w.heap (λ g. graph.preserve g x)) (name c) c.preserve.ensures.stands (e.exposes.reached _ d));
+      doomed = λ d. doomed-then u.heap v.heap w.heap (e.exposes.doomed d)
+          (subst (KeepsDoomed v.heap) (sym (ap (λ (x : Keyed). x.heap) c.preserve.ensures.heap))
+          (preserve-doomed v.heap e.ready.order.sound.well_formed (name_at v.scripts c.args.key.0) (subst (IsReached v.heap) (sym (name c)) (e.exposes.reached _ d))));
+    }
+
+pub returns-clause-keys : goal.returns-clause-keys
+returns-clause-keys c = ap (λ (w : Keyed). w.keys) c.preserve.ensures.heap ∙ c.expose_key.ensures.exposes.keys
+
+pub returns-clause-same : goal.returns-clause-same
+returns-clause-same c = subst (λ (w : Keyed). AreSame c.args.heaps.now.scripts w.scripts) (sym c.preserve.ensures.heap) c.expose_key.ensures.exposes.same
+
+pub returns-clause-reached : goal.returns-clause-reached
+returns-clause-reached c x d = c.preserve.ensures.reached x (c.expose_key.ensures.exposes.reached x d)
+
+pub returns-clause-may_hold : goal.returns-clause-may_hold
+returns-clause-may_hold c = subst (MayHold c.preserve.new.heaps.heap) (name c) c.preserve.ensures.may_hold
+
+pub returns-clause-none_left : goal.returns-clause-none_left
+returns-clause-none_left c x i =
+    beside-none_left c.expose_key.new.heaps c.preserve.new.heaps (beside c) x (exposed-none_left c.args.heaps.now c.expose_key.new.heaps c.expose_key.ensures.exposes x i)
+
+pub returns-clause-none_came : goal.returns-clause-none_came
+returns-clause-none_came c x i =
+    exposed-none_came c.args.heaps.now c.expose_key.new.heaps c.expose_key.ensures.exposes x (beside-none_came c.expose_key.new.heaps c.preserve.new.heaps (beside c) x i)

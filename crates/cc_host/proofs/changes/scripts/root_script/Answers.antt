@@ -1,0 +1,26 @@
+use Rattle.std.proofs.Common.{[], sym, subst}
+use Rattle.cc_heaps.specs.Changes.{script_name}
+use Rattle.cc_host.specs.Missing.{KeepsDoomed}
+use Rattle.cc_host.proofs.KeptDoomed.{hold_script-doomed}
+use Rattle.cc_host.proofs.ScriptSteps.{StaysBeside, beside-none_came, beside-none_left, beside-spared, hold_script-beside}
+use Rattle.cc_host.proofs.changes.scripts.root_script.Goals as goal
+
+pub set_script_reg-requires-clause-order : goal.set_script_reg-requires-clause-order
+set_script_reg-requires-clause-order c = ([], c.requires.ready.order)
+
+beside : (c : goal.After-set_script_reg) → StaysBeside c.args.heaps.now.heap c.set_script_reg.new.self.heap
+beside c =
+    let v = c.args.heaps.now in
+    subst (StaysBeside v.heap) (sym c.set_script_reg.ensures.heap) (hold_script-beside v.heap c.requires.ready.order.sound.well_formed c.args.r (script_name v c.args.content))
+
+pub returns-clause-change : goal.returns-clause-change
+returns-clause-change c =
+    let v = c.args.heaps.now in
+    let e = c.set_script_reg.ensures in
+    record { kept = e.kept; spared = beside-spared c.args.heaps.now c.set_script_reg.new.self (beside c) c.requires.ready.spared; stands = e.stands; doomed = λ p. subst (KeepsDoomed v.heap) (sym e.heap) (hold_script-doomed v.heap c.args.r (script_name v c.args.content) p) }
+
+pub returns-clause-none_left : goal.returns-clause-none_left
+returns-clause-none_left c = beside-none_left c.args.heaps.now c.set_script_reg.new.self (beside c)
+
+pub returns-clause-none_came : goal.returns-clause-none_came
+returns-clause-none_came c = beside-none_came c.args.heaps.now c.set_script_reg.new.self (beside c)

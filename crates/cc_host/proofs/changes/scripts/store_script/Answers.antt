@@ -1,0 +1,86 @@
+use Rattle.std.proofs.Common.{◌<◌, [], Some, sym, subst}
+use Rattle.cc_model.specs.Graph as graph
+use Rattle.cc_script.specs.Objects.{name_at}
+use Rattle.cc_heaps.specs.Changes.{script_name}
+use Rattle.cc_heaps.specs.Standing.{IsReached, MayHold, StandsAfter}
+use Rattle.cc_host.specs.Exposing.{AreSame}
+use Rattle.cc_host.specs.Missing.{KeepsDoomed}
+use Rattle.cc_host.proofs.KeptDoomed.{doomed-then, slot-doomed}
+use Rattle.cc_host.proofs.Exposed.{AreSame-then, KeepsAll-after, StandsAfter-still, exposed-none_came, exposed-none_left}
+use Rattle.cc_host.proofs.Composing.{stands-then}
+use Rattle.cc_host.proofs.ScriptSteps.{StaysBeside, beside-none_came, beside-none_left, beside-spared, content-black, content-name, content-there, slot-beside}
+use Rattle.cc_host.proofs.changes.scripts.store_script.Goals as goal
+
+pub preserve_reflector-requires-clause-ready : goal.preserve_reflector-requires-clause-ready
+preserve_reflector-requires-clause-ready c = c.expose_content.ensures.ready
+
+pub preserve_reflector-requires-clause-live : goal.preserve_reflector-requires-clause-live
+preserve_reflector-requires-clause-live c = (c.expose_content.ensures.exposes.same c.args.key.0 c.requires.live).there
+
+pub store_script-requires-clause-order : goal.store_script-requires-clause-order
+store_script-requires-clause-order c = ([], c.preserve_reflector.ensures.change.kept.order [] c.expose_content.ensures.ready.order)
+
+pub store_script-requires-clause-live : goal.store_script-requires-clause-live
+store_script-requires-clause-live c = (AreSame-then _ _ _ c.expose_content.ensures.exposes.same c.preserve_reflector.ensures.same c.args.key.0 c.requires.live).there
+
+pub store_script-requires-clause-within : goal.store_script-requires-clause-within
+store_script-requires-clause-within c = subst (λ n. c.args.i < n) (sym (AreSame-then _ _ _ c.expose_content.ensures.exposes.same c.preserve_reflector.ensures.same c.args.key.0 c.requires.live).slots) c.requires.within
+
+pub store_script-requires-clause-there : goal.store_script-requires-clause-there
+store_script-requires-clause-there c = content-there c.args.heaps.now c.preserve_reflector.new.heaps (AreSame-then _ _ _ c.expose_content.ensures.exposes.same c.preserve_reflector.ensures.same) c.args.content c.requires.there
+
+pub store_script-requires-clause-black : goal.store_script-requires-clause-black
+store_script-requires-clause-black c =
+    let v = c.expose_content.new.heaps in
+    content-black v c.preserve_reflector.new.heaps c.preserve_reflector.ensures.same c.args.content
+    (content-there c.args.heaps.now v c.expose_content.ensures.exposes.same c.args.content c.requires.there) c.expose_content.ensures.black
+
+-- what was there is there, as it was
+same : (c : goal.After-store_script) → AreSame c.args.heaps.now.scripts c.preserve_reflector.new.heaps.scripts
+same c = AreSame-then _ _ _ c.expose_content.ensures.exposes.same c.preserve_reflector.ensures.same
+
+beside : (c : goal.After-store_script) → StaysBeside c.preserve_reflector.new.heaps.heap c.store_script.new.self.heap
+beside c =
+    let v = c.preserve_reflector.new.heaps in
+    subst (StaysBeside v.heap) (sym c.store_script.ensures.heap) (slot-beside v.heap (name_at v.scripts c.args.key.0) c.args.i (script_name v c.args.content))
+
+pub returns-clause-none_left : goal.returns-clause-none_left
+returns-clause-none_left c x i = beside-none_left c.preserve_reflector.new.heaps c.store_script.new.self (beside c) x
+    (c.preserve_reflector.ensures.none_left x (exposed-none_left c.args.heaps.now c.expose_content.new.heaps c.expose_content.ensures.exposes x i))
+
+pub returns-clause-change : goal.returns-clause-change
+returns-clause-change c =
+    let t = c.args.heaps.now in
+    let u = c.expose_content.new.heaps in
+    let v = c.preserve_reflector.new.heaps in
+    let w = c.store_script.new.self in
+    let e = c.expose_content.ensures.exposes in
+    let p = c.preserve_reflector.ensures in
+    let was = (e.same c.args.key.0 c.requires.live).name in
+    let name = (same c c.args.key.0 c.requires.live).name in
+    let content = content-name t v (same c) c.args.content c.requires.there in
+    record {
+      kept = KeepsAll-after t u w e.keys e.same e.kept (KeepsAll-after u v w p.keys p.same p.change.kept c.store_script.ensures.kept);
+      spared = beside-spared v w (beside c) p.change.spared;
+      stands = λ d.
+          let preserved : StandsAfter t.heap v.heap (λ g. graph.preserve g (script_name t (Some c.args.key))) =
+          StandsAfter-still t.heap u.heap v.heap e.stands
+          (subst (λ x. IsReached u.heap x → StandsAfter u.heap v.heap (λ g. graph.preserve g x)) was p.change.stands (e.reached _ d.0)) in
+          let stored : IsReached v.heap (script_name t (Some c.args.key)) → IsReached v.heap (script_name t c.args.content) → MayHold v.heap (script_name t (Some c.args.key)) →
+          StandsAfter v.heap w.heap (λ g. graph.set_slot g (script_name t (Some c.args.key)) c.args.i (script_name t c.args.content)) =
+          subst (λ x. IsReached v.heap x → IsReached v.heap (script_name t c.args.content) → MayHold v.heap x → StandsAfter v.heap w.heap (λ g. graph.set_slot g x c.args.i (script_name t c.args.content))) name
+          (subst (λ y. IsReached v.heap (script_name v (Some c.args.key)) → IsReached v.heap y → MayHold v.heap (script_name v (Some c.args.key)) →
+          StandsAfter v.heap w.heap (λ g. graph.set_slot g (script_name v (Some c.args.key)) c.args.i y)) content c.store_script.ensures.stands) in
+          stands-then t.heap v.heap w.heap _ _ preserved
+          (stored (p.reached _ (e.reached _ d.0)) (p.reached _ (e.reached _ d.1)) (subst (MayHold v.heap) was p.may_hold));
+      doomed = λ d. doomed-then t.heap u.heap w.heap (e.doomed d.1)
+          (doomed-then u.heap v.heap w.heap (p.change.doomed (subst (IsReached u.heap) (sym was) (e.reached _ d.0)))
+          (subst (KeepsDoomed v.heap) (sym c.store_script.ensures.heap)
+          (slot-doomed v.heap (name_at v.scripts c.args.key.0) c.args.i (script_name v c.args.content)
+          (subst (IsReached v.heap) (sym name) (p.reached _ (e.reached _ d.0)))
+          (subst (IsReached v.heap) (sym content) (p.reached _ (e.reached _ d.1))))));
+    }
+
+pub returns-clause-none_came : goal.returns-clause-none_came
+returns-clause-none_came c x i = exposed-none_came c.args.heaps.now c.expose_content.new.heaps c.expose_content.ensures.exposes x
+    (c.preserve_reflector.ensures.none_came x (beside-none_came c.preserve_reflector.new.heaps c.store_script.new.self (beside c) x i))

@@ -1,0 +1,32 @@
+use Rattle.std.proofs.Common.{[], None, sym, subst}
+use Rattle.cc_script.specs.Objects.{name_at}
+use Rattle.cc_host.specs.Missing.{KeepsDoomed}
+use Rattle.cc_host.proofs.KeptDoomed.{set_entry-doomed}
+use Rattle.cc_host.proofs.ScriptSteps.{StaysBeside, beside-none_came, beside-none_left, beside-spared, entry-beside}
+use Rattle.cc_host.proofs.changes.scripts.unset_entry.Goals as goal
+
+pub unset_entry-requires-clause-order : goal.unset_entry-requires-clause-order
+unset_entry-requires-clause-order c = ([], c.requires.ready.order)
+
+beside : (c : goal.After-unset_entry) → StaysBeside c.args.heaps.now.heap c.unset_entry.new.self.heap
+beside c =
+    let v = c.args.heaps.now in
+    subst (StaysBeside v.heap) (sym c.unset_entry.ensures.heap) (entry-beside v.heap (name_at v.scripts c.args.the_map.0) (name_at v.scripts c.args.key.0) None)
+
+pub returns-clause-change : goal.returns-clause-change
+returns-clause-change c =
+    let v = c.args.heaps.now in
+    let e = c.unset_entry.ensures in
+    record {
+      kept = e.kept;
+      spared = beside-spared c.args.heaps.now c.unset_entry.new.self (beside c) c.requires.ready.spared;
+      stands = λ d. e.stands d.0 d.1;
+      doomed = λ d. subst (KeepsDoomed v.heap) (sym e.heap)
+          (set_entry-doomed v.heap c.requires.ready.order.sound.well_formed (name_at v.scripts c.args.the_map.0) (name_at v.scripts c.args.key.0) None d.1 tt);
+    }
+
+pub returns-clause-none_left : goal.returns-clause-none_left
+returns-clause-none_left c = beside-none_left c.args.heaps.now c.unset_entry.new.self (beside c)
+
+pub returns-clause-none_came : goal.returns-clause-none_came
+returns-clause-none_came c = beside-none_came c.args.heaps.now c.unset_entry.new.self (beside c)

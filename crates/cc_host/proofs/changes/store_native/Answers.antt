@@ -1,0 +1,50 @@
+use Rattle.std.proofs.Common.{[], Some, sym, subst}
+use Rattle.cc_lists.specs.Members.{Among}
+use Rattle.cc_names.specs.Names.{native}
+use Rattle.cc_model.specs.Graph as graph
+use Rattle.cc_model.proofs.Tellings.{Tells-nil}
+use Rattle.cc_heaps.specs.Changes.{held_name, native_name}
+use Rattle.cc_heaps.specs.Standing.{IsReached}
+use Rattle.cc_host.specs.Changes.{IsChange}
+use Rattle.cc_host.proofs.Composing.{change-after, tells-after}
+use Rattle.cc_host.proofs.Storing.{live-same, native_name-same, within-same}
+use Rattle.cc_host.proofs.changes.store_native.Goals as goal
+
+pub store_black-requires : goal.store_black-requires
+store_black-requires g c =
+    let v = c.args.heaps.now in
+    let w = c.expose_held.new.heaps in
+    let e = c.expose_held.ensures in
+    record {
+      ready = record { order = e.change.kept.order [] c.requires.ready.order; spared = e.change.spared };
+      live = live-same v w e.keys c.args.key c.requires.live;
+      within = within-same v w e.keys e.slots c.args.key.0 c.args.i c.requires.within;
+      there = e.stays.there c.args.content c.requires.there;
+      black = e.black;
+    }
+
+pub returns-clause-change : goal.returns-clause-change
+returns-clause-change g c =
+    let v = c.args.heaps.now in
+    let w = c.expose_held.new.heaps in
+    let u = c.store_black.new.heaps in
+    let e = c.expose_held.ensures in
+    let x = native_name v (Some c.args.key) in
+    let y = held_name v c.args.content in
+    let near = native_name-same v w e.keys c.args.key in
+    let same = e.stays.same c.args.content c.requires.there in
+    let p = IsReached v.heap x × IsReached v.heap y in
+    subst (λ z. IsChange p (λ k. graph.set_slot k z c.args.i y) v u) near
+    (subst (λ z. IsChange p (λ k. graph.set_slot k (native_name w (Some c.args.key)) c.args.i z) v u) same
+    (change-after v w u c.requires.ready e.change c.store_black.ensures.none_came (λ r. r.1)
+    (λ r. (subst (IsReached w.heap) (sym near) (e.reached x r.0), subst (IsReached w.heap) (sym same) (e.reached y r.1))) c.store_black.ensures.change))
+
+pub returns-clause-tells : goal.returns-clause-tells
+returns-clause-tells g c =
+    let names = c.expose_held.ensures.names in
+    let before = g.N.Notices.telling c.args.out.now in
+    tells-after c.args.heaps.now.heap c.expose_held.new.heaps.heap c.store_black.new.heaps.heap before before (g.N.Notices.telling c.store_black.new.out)
+    (Tells-nil before) (λ x m. subst (Among x) (sym names) m) (λ j m. subst (Among (native j)) names m) c.store_black.ensures.tells
+
+pub returns-clause-none_came : goal.returns-clause-none_came
+returns-clause-none_came g c x m = subst (Among x) c.expose_held.ensures.names (c.store_black.ensures.none_came x m)
