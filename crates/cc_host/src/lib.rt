@@ -20,11 +20,11 @@
 //! its slices are handed what is reached, unless the collection is abandoned, which is told (`garbage`, `begins`, `takes`).
 #![tactic(auto)]
 
+mod changes;
 mod host;
 mod missing;
 mod object;
 mod queue;
-mod changes;
 mod stop;
 
 pub use host::{Host, ROOTS};
