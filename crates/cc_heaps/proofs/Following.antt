@@ -3,10 +3,9 @@
 use Rattle.cc_heaps.proofs.ObjectsKept.{there-named}
 use Rattle.cc_lists.proofs.Held.{held-is, of-one}
 use Rattle.cc_heaps.proofs.Keys.{name-in, script_name-in}
-use Rattle.std.proofs.Common.{◌≡◌, ℕ, ◌+◌, ◌<◌, ◌≤◌, true, List, ◌++◌, map, length, get_or, Option, Some, None, option_map, option_and_then, refl, sym, ◌∙◌, ap, subst, inl, inr, ⊎_elim, arith}
+use Rattle.std.proofs.Common.{◌≡◌, ℕ, ◌+◌, ◌<◌, ◌≤◌, true, List, ◌++◌, false, map, length, get_or, Option, Some, None, is_none, option_map, option_and_then, refl, sym, ◌∙◌, ap, subst, inl, inr, ⊎_elim, arith}
 use Rattle.std.specs.Prelude.{IsTrue, IfSome}
 use Rattle.std.specs.Option.{option_to_list}
-use Rattle.std.proofs.lemmas.Bool.{lt-ltb, le-leb, lt-leb}
 use Rattle.std.proofs.lemmas.List.{length-map}
 use Rattle.cc_lists.specs.Members.{Among}
 use Rattle.cc_lists.proofs.Members.{Among-map_cases}
@@ -19,22 +18,22 @@ use Rattle.cc_names.specs.declared.number.SKey.{SKey}
 use Rattle.cc_names.specs.declared.register.Reg.TheVariants.{S}
 use Rattle.cc_names.specs.Sizes.{bank_length, most_slots}
 use Rattle.cc_model.specs.Slots.{Slots}
-use Rattle.cc_model.specs.Ranges.{in_range}
-use Rattle.cc_model.specs.Heap.{Heap, objects_of, HeapNative, HeapScript, native_at, preserve, set_register, set_slot, change_script, change_native, with_native_slot, with_script_slot, suspect}
+use Rattle.cc_model.specs.Deeds.{Deed, native_made, plain_made, map_made, proxy_made, native_held, script_held, object_exposed}
+use Rattle.cc_model.specs.Heap.{Heap, HeapNative, HeapScript, native_at, preserve, set_register, set_slot, change_script, change_native, with_native_slot, with_script_slot, suspect}
 use Rattle.cc_model.specs.Cascade.{take_up, let_go}
 use Rattle.cc_model.specs.End.{slots_now}
 use Rattle.cc_model.specs.View.{view, ReachedIn}
 use Rattle.cc_model.specs.Colours.{HasColourInvariant}
-use Rattle.cc_model.specs.Effects.{effects, hold_native, hold_script, make_native, make_object, make_proxy, with_object}
+use Rattle.cc_model.specs.Effects.{done_in, hold_native, hold_script, make_native, make_object, make_proxy, with_object}
 use Rattle.cc_model.specs.Exposure.{exposed}
 use Rattle.cc_model.specs.Snapshot.{Snapshot}
 use Rattle.cc_model.specs.Fresh.{IsFresh}
 use Rattle.cc_model.specs.Suspected.{IsSuspected}
 use Rattle.cc_model.specs.WellFormed.{IsWellFormed, native_names, names_there, script_names}
 use Rattle.cc_laws_heap.specs.Sound.{IsSound, numbers_of}
-use Rattle.cc_laws_heap.proofs.Face.{AreColoured-from_view, AreColoured-register, AreColoured-slot, HasColourInvariant-from, IsColoured, IsHeldBlack, IsIn, IsTaken, SameScripts, SameScripts-coloured, SameScripts-take_up, effects-coloured, effects-sound, exposed-black, exposed-coloured, exposed-sound, hold_native-scripts, hold_native-sound, hold_script-sound, let_go-scripts, let_go-sound, make_proxy-coloured, make_proxy-sound, option_map-found, make_native-scripts, make_native-sound, names_there-take_up, native-no_script, native_slot-sound, script-named, script_slot-sound, take_up-sound}
+use Rattle.cc_laws_heap.proofs.Face.{AreColoured-from_view, AreColoured-slot, HasColourInvariant-from, IsColoured, IsHeldBlack, IsIn, MayBeDone, SameScripts, SameScripts-coloured, SameScripts-take_up, done_in-coloured, done_in-sound, let_go-scripts, let_go-sound, option_map-found, names_there-take_up, native-no_script, native_slot-sound, script-named, script_slot-sound, take_up-sound}
 use Rattle.cc_laws_snapshot.specs.Losing.{IsLoyal}
-use Rattle.cc_laws_snapshot.proofs.Face.{AreGentle, AreGentle-then, AreTaken, IsGentleBut-then, Still-hold_script, Still-make_proxy, effects-fresh, exposed-gentle, exposed-suspected, fresh-coloured, fresh-more, hold_native-gentle, hold_native-loyal, hold_script-gentle, let_go-caught, let_go-gentle, loyal-suspected, make_native-gentle, make_proxy-gentle, marked-buffer, native-name_of, native-no_script as native-is_no_script, native_made-suspected, native_slot-gentle, not_gray-held, object_made-suspected, script_slot-gentle, script_slot_written-suspected, still-loyal, stored-loyal, suspect-keeps_purple, suspect-purple, take_up-gentle, take_up-taken, with_mark-keeps}
+use Rattle.cc_laws_snapshot.proofs.Face.{AreGentle, AreGentle-then, AreTaken, IsGentleBut-then, done_in-fresh, done_in-loyal, fresh-coloured, fresh-more, let_go-caught, let_go-gentle, loyal-suspected, marked-buffer, native-name_of, native-no_script as native-is_no_script, native_slot-gentle, not_gray-held, script_slot-gentle, script_slot_written-suspected, stored-loyal, suspect-keeps_purple, suspect-purple, take_up-gentle, take_up-taken, with_mark-keeps}
 use Rattle.cc_counted.specs.Counts.{slots_of}
 use Rattle.cc_counted.specs.Counts as counts
 use Rattle.cc_counted.specs.declared.held.Held.{Held}
@@ -44,8 +43,6 @@ use Rattle.cc_heaps.specs.Making.{MayBeMade, delegate_name, kind_to_make, slots_
 use Rattle.cc_heaps.specs.declared.heaps.to_make.ToMake.{ToMake}
 use Rattle.cc_heaps.specs.declared.heaps.to_make.ToMake.TheVariants.{Plain, Map, Proxy}
 use Rattle.cc_names.specs.declared.kind.Kind.TheVariants as kind
-use Rattle.cc_model.specs.declared.command.Command.{Command}
-use Rattle.cc_model.specs.declared.command.Command.TheVariants.{Script, WeakMap}
 use Rattle.cc_heaps.specs.Changes.{IsBlackHeld, held_name, script_name, stored_in}
 use Rattle.cc_heaps.proofs.Content.{held-in, native-in}
 use Rattle.cc_heaps.proofs.Reaching.{key-named, object_at-own}
@@ -74,25 +71,30 @@ Follows-from h g early late gentle coloured = grind (arith, HasColourInvariant-f
 pub Remembers-from : (h g : Heap) → IsWellFormed h → IsWellFormed g → IsLoyal (view h) (view g) → Remembers h g
 Remembers-from h g early late loyal candidates = loyal-suspected h g candidates early late loyal
 
+-- WHAT A COMMAND COMES TO
+pub done_in-keeps : {owned : List ℕ} (h : Heap) (d : Deed) → IsSound owned h → MayBeDone h d → Keeps h (done_in h d).heap
+done_in-keeps h d s m = record {
+  follows = record {
+    colours = λ c. HasColourInvariant-from (done_in h d).heap after (done_in-coloured h d s (AreColoured-from_view h s.well_formed c) m);
+    fresh = λ t f. done_in-fresh h t d s f m;
+  };
+  suspected = Remembers-from h (done_in h d).heap s.well_formed after (done_in-loyal h d s m);
+}
+  where
+    after : IsWellFormed (done_in h d).heap
+    after = (done_in-sound h d s m).well_formed
+
 -- Script objects
 
 -- Something is exposed.
 pub exposed-keeps : {owned : List ℕ} (h : Heap) (x : Option Name) → IsSound owned h → Keeps h (exposed h x)
-exposed-keeps {owned} h x s = record {
-  follows = Follows-from h (exposed h x) s.well_formed (exposed-sound owned h x s).well_formed (exposed-gentle h x s.well_formed) (exposed-coloured h x);
-  suspected = λ candidates. exposed-suspected h candidates x s.well_formed;
-}
+unfolding done_in
+exposed-keeps h x s = done_in-keeps h (object_exposed x) s tt
 
 -- A script register is written.
 pub hold_script-keeps : {owned : List ℕ} (h : Heap) (d : ℕ) (x : Option Name) → IsIn (script_names h) x → IsSound owned h → Keeps h (hold_script h d x)
-hold_script-keeps {owned} h d x there s = record {
-  follows = Follows-from h (hold_script h d x) s.well_formed after.well_formed (hold_script-gentle h d x s.well_formed)
-      (λ c. AreColoured-register (exposed h x).scripts (exposed h x).script_registers d x (exposed-black h x) (exposed-coloured h x c));
-  suspected = Remembers-from h (hold_script h d x) s.well_formed after.well_formed (still-loyal h (hold_script h d x) s after (Still-hold_script h d x));
-}
-  where
-    after : IsSound owned (hold_script h d x)
-    after = hold_script-sound owned h d x there s
+unfolding done_in
+hold_script-keeps h d x there s = done_in-keeps h (script_held d x) s there
 
 -- a slot of what has a name
 script_slot : {owned : List ℕ} (h : Heap) (x : Name) (i : ℕ) (y : Option Name) → IsWellFormed (change_script h x (with_script_slot i y)) → IsIn (script_names h) y →
@@ -113,68 +115,17 @@ script_slot-keeps {owned} h (name.Script k) i y at there black s = script_slot h
 script_slot-keeps {owned} h (name.Reflector k) i y at there black s = script_slot h (reflector k.0) i y
     (script_slot-sound owned h (Some (reflector k.0)) i y (of-one (λ w. Among w (script_names h)) (reflector k.0) at) there s).well_formed there black s
 
--- what a command makes that is in its ranges and is taken
-taken-follows : {owned : List ℕ} (h : Heap) (c : Command) → IsSound owned h → IsTrue (in_range c) → IsTaken (objects_of h) c → Follows h (effects h c).heap
-taken-follows h c s ranges taken = record {
-  colours = λ k. HasColourInvariant-from (effects h c).heap (effects-sound h c s ranges taken).well_formed
-      (effects-coloured h c s (AreColoured-from_view h s.well_formed k) ranges taken);
-  fresh = λ t f. effects-fresh h t c s f ranges taken;
-}
-
--- such commands make a plain object or a weak map
-pub plain-ranges : (d n : ℕ) → d < bank_length → n ≤ most_slots → IsTrue (in_range (Script d n))
-plain-ranges d n room few = grind (arith, lt-ltb, le-leb)
-
-pub map-ranges : (d : ℕ) → d < bank_length → IsTrue (in_range (WeakMap d))
-map-ranges d room = grind (arith, lt-ltb)
-
-plain-taken : (h : Heap) (d n : ℕ) → h.scripts_made < h.limits.scripts → IsTaken (objects_of h) (Script d n)
-plain-taken h d n allowed = grind (arith, lt-leb)
-
-map-taken : (h : Heap) (d : ℕ) → h.scripts_made < h.limits.scripts → IsTaken (objects_of h) (WeakMap d)
-map-taken h d allowed = grind (arith, lt-leb)
-
-pub plain-effects : (h : Heap) (d n : ℕ) → (effects h (Script d n)).heap ≡ make_object h d kind.Plain n None
-unfolding effects
-plain-effects h d n = refl
-
-pub map-effects : (h : Heap) (d : ℕ) → (effects h (WeakMap d)).heap ≡ make_object h d kind.Map 0 None
-unfolding effects
-map-effects h d = refl
-
--- A proxy is made of what is there and black.
-make_proxy-keeps : {owned : List ℕ} (h : Heap) (d : ℕ) (x : Option Name) → h.scripts_made < h.limits.scripts → IsIn (script_names h) x → IsHeldBlack h.scripts x → IsSound owned h →
-    Keeps h (make_proxy h d x)
-make_proxy-keeps {owned} h d x room there black s = record {
-  follows = Follows-from h (make_proxy h d x) s.well_formed after.well_formed (make_proxy-gentle owned h d x there (not_gray-held h x black) s)
-      (make_proxy-coloured h d x s there black);
-  suspected = Remembers-from h (make_proxy h d x) s.well_formed after.well_formed (still-loyal h (make_proxy h d x) s after (Still-make_proxy h d x));
-}
-  where
-    after : IsSound owned (make_proxy h d x)
-    after = make_proxy-sound owned h d x there room s
-
 -- Natives
 
 -- A native is made.
 pub make_native-keeps : {owned : List ℕ} (h : Heap) (d n : ℕ) → d < bank_length → n ≤ most_slots → h.natives_made < h.limits.natives → IsSound owned h → Keeps h (make_native h d n).heap
-make_native-keeps {owned} h d n room few allowed s = record {
-  follows = Follows-from h (make_native h d n).heap s.well_formed (make_native-sound owned h d n room few allowed s).well_formed
-      (make_native-gentle owned h d n room few allowed s)
-      (SameScripts-coloured h (make_native h d n).heap (make_native-scripts h d n));
-  suspected = λ candidates. native_made-suspected owned h candidates d n s room few allowed;
-}
+unfolding done_in
+make_native-keeps h d n room few allowed s = done_in-keeps h (native_made d n) s (record { register = room; few = few; room = allowed })
 
 -- A native register is written.
 pub hold_native-keeps : {owned : List ℕ} (h : Heap) (d : ℕ) (x : Option Name) → d < bank_length → IsIn (native_names h) x → IsSound owned h → Keeps h (hold_native h d x).heap
-hold_native-keeps {owned} h d x room there s = record {
-  follows = Follows-from h (hold_native h d x).heap s.well_formed after (hold_native-gentle owned h d x room there s)
-      (SameScripts-coloured h (hold_native h d x).heap (hold_native-scripts h d x));
-  suspected = Remembers-from h (hold_native h d x).heap s.well_formed after (hold_native-loyal h d x room there s);
-}
-  where
-    after : IsWellFormed (hold_native h d x).heap
-    after = (hold_native-sound owned h d x room there s).well_formed
+unfolding done_in
+hold_native-keeps h d x room there s = done_in-keeps h (native_held d x) s (room, there)
 
 -- a native that is suspected: who enters the buffer is purple
 suspect-loyal : (h : Heap) (k : ℕ) → IsLoyal (view h) (view (suspect h k))
@@ -326,19 +277,20 @@ proxy-made v d k black =
     let n : name_at v.scripts k.0 ≡ Some f.0.name = ap (option_map (λ (q : Object). q.name)) f.1 in
     ap (make_proxy v.heap d) n ∙ ap (λ x. make_object (preserve v.heap x) d kind.Proxy 0 x) (sym n)
 
-pub make_object-keeps : {owned : List ℕ} (v : Keyed) (o : IsInOrder owned v) (d : ℕ) (what : ToMake) → d < bank_length → MayBeMade v.scripts what → v.heap.scripts_made < v.heap.limits.scripts →
+-- what has a colour is there
+coloured-there : (v : Keyed) (k : SKey) → colour_at v.scripts k.0 ≡ Some Black → is_none (name_at v.scripts k.0) ≡ false
+coloured-there v k black =
+    let f = option_map-found (λ (q : Object). q.colour) (object_at v.scripts k.0) Black black in
+    ap (λ o. is_none (option_map (λ (q : Object). q.name) o)) f.1
+
+pub make_object-keeps : {owned : List ℕ} (v : Keyed) (o : IsInOrder owned v) (d : ℕ) (what : ToMake) → MayBeMade v.scripts what → v.heap.scripts_made < v.heap.limits.scripts →
     Keeps v.heap (made_by v d what)
-make_object-keeps v o d (Plain n) room few allowed = record {
-  follows = subst (Follows v.heap) (plain-effects v.heap d n) (taken-follows v.heap (Script d n) o.sound (plain-ranges d n room few) (plain-taken v.heap d n allowed));
-  suspected = λ candidates. object_made-suspected v.heap candidates d kind.Plain n None o.sound.well_formed;
-}
-make_object-keeps v o d Map room few allowed = record {
-  follows = subst (Follows v.heap) (map-effects v.heap d) (taken-follows v.heap (WeakMap d) o.sound (map-ranges d room) (map-taken v.heap d allowed));
-  suspected = λ candidates. object_made-suspected v.heap candidates d kind.Map 0 None o.sound.well_formed;
-}
-make_object-keeps {owned} v o d (Proxy k) room black allowed =
-    subst (Keeps v.heap) (proxy-made v d k black)
-    (make_proxy-keeps v.heap d (name_at v.scripts k.0) allowed (name_at-there owned v o k.0) (name_at-black owned v o k.0 black) o.sound)
+unfolding done_in
+make_object-keeps v o d (Plain n) few allowed = done_in-keeps v.heap (plain_made d n) o.sound (few, allowed)
+make_object-keeps v o d Map few allowed = done_in-keeps v.heap (map_made d) o.sound allowed
+make_object-keeps {owned} v o d (Proxy k) black allowed = subst (Keeps v.heap) (proxy-made v d k black)
+    (done_in-keeps v.heap (proxy_made d (name_at v.scripts k.0)) o.sound
+    (record { there = name_at-there owned v o k.0; black = λ c. name_at-black owned v o k.0 black }, coloured-there v k black, allowed))
 
 -- A slot of the script object at a key is written.
 pub object_slot-keeps : {owned : List ℕ} (v : Keyed) (o : IsInOrder owned v) (key i : ℕ) (x : Option SKey) → IsTrue (is_there v.scripts key) →

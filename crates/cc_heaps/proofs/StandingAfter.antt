@@ -16,6 +16,7 @@ use Rattle.cc_model.specs.declared.command.Command.{Command}
 use Rattle.cc_model.specs.declared.command.Command.TheVariants.{Native, Script, WeakMap}
 use Rattle.cc_model.specs.Ranges.{in_range}
 use Rattle.cc_model.specs.Checks.{refusal_of}
+use Rattle.cc_model.specs.Deeds.{deed_of}
 use Rattle.cc_model.specs.Graph as graph
 use Rattle.cc_model.specs.Graph.{Graph, GraphNative, GraphScript, native_in, script_in, step}
 use Rattle.cc_model.specs.Reached.{Reached}
@@ -23,7 +24,7 @@ use Rattle.cc_model.specs.WellMade.{IsWellMade}
 use Rattle.cc_model.specs.Heap.{Heap, objects_of, native_at, set_slot}
 use Rattle.cc_model.specs.Cascade.{take_up}
 use Rattle.cc_model.specs.End.{slots_now}
-use Rattle.cc_model.specs.Effects.{effects, hold_native, hold_script, make_native, make_proxy}
+use Rattle.cc_model.specs.Effects.{done_in, effects, hold_native, hold_script, make_native, make_proxy}
 use Rattle.cc_model.specs.WellFormed.{IsWellFormed, native_names, script_names}
 use Rattle.cc_model.specs.StandsFor.{StandsFor}
 use Rattle.cc_laws_heap.specs.Sound.{IsSound}
@@ -39,7 +40,7 @@ use Rattle.cc_names.specs.Allowance.{Allowance}
 use Rattle.cc_heaps.specs.Changes.{native_name, script_name, held_name, stored_in}
 use Rattle.cc_heaps.specs.Standing.{IsReached, IsReachedOrReflects, MayHold, StandsAfter}
 use Rattle.cc_heaps.proofs.Content.{native-in}
-use Rattle.cc_heaps.proofs.Following.{made_by, plain-ranges, map-ranges, plain-effects, map-effects, proxy-made, name_at-there, script_name-there}
+use Rattle.cc_heaps.proofs.Following.{made_by, proxy-made, name_at-there, script_name-there}
 use Rattle.cc_heaps.proofs.ReflectingWritten.{held_script-stands, slot_written-stands, handed-reached}
 
 -- What was made
@@ -94,7 +95,7 @@ command-stands_after h c s range taken g m t = (step-well g m c range, command-s
 -- A native is made.
 pub make_native-stands : {owned : List ℕ} (h : Heap) (d n : ℕ) → IsSound owned h → d < bank_length → n ≤ most_slots → h.natives_made < h.limits.natives →
     StandsAfter h (make_native h d n).heap (λ g. step g (Native d n))
-unfolding effects refusal_of
+unfolding effects done_in deed_of refusal_of
 make_native-stands h d n s room few allowed = command-stands_after h (Native d n) s (rw (lt-ltb d bank_length room, le-leb n most_slots few) refl)
     (rw (lt-leb h.limits.natives h.natives_made allowed) refl)
 
@@ -116,7 +117,13 @@ make_proxy-stands {owned} h d x s allowed there r g m t = (
     well : IsWellMade (graph.with_proxy g d x)
     well = proxy-well g m d x made (omega (arith, allowed, t.scripts_made, ap (λ (a : Allowance). a.scripts) t.limits))
 
--- the commands that make a plain object or a weak map are not refused
+-- the commands that make a plain object or a weak map are in range, and are not refused
+plain-ranges : (d n : ℕ) → d < bank_length → n ≤ most_slots → IsTrue (in_range (Script d n))
+plain-ranges d n room few = grind (arith, lt-ltb, le-leb)
+
+map-ranges : (d : ℕ) → d < bank_length → IsTrue (in_range (WeakMap d))
+map-ranges d room = grind (arith, lt-ltb)
+
 plain-not_refused : (h : Heap) (d n : ℕ) → h.scripts_made < h.limits.scripts → refusal_of (objects_of h) (Script d n) ≡ None
 unfolding refusal_of
 plain-not_refused h d n allowed = grind (arith, lt-leb)
@@ -128,10 +135,9 @@ map-not_refused h d allowed = grind (arith, lt-leb)
 -- A script object is made.
 pub make_object-stands : {owned : List ℕ} (v : Keyed) (o : IsInOrder owned v) (d : ℕ) (what : ToMake) → d < bank_length → MayBeMade v.scripts what →
     v.heap.scripts_made < v.heap.limits.scripts → IsReached v.heap (delegate_name v what) → StandsAfter v.heap (made_by v d what) (λ g. made_in g d what (delegate_name v what))
-make_object-stands v o d (Plain n) room few allowed r = subst (λ k. StandsAfter v.heap k (λ g. step g (Script d n))) (plain-effects v.heap d n)
-    (command-stands_after v.heap (Script d n) o.sound (plain-ranges d n room few) (plain-not_refused v.heap d n allowed))
-make_object-stands v o d Map room few allowed r = subst (λ k. StandsAfter v.heap k (λ g. step g (WeakMap d))) (map-effects v.heap d)
-    (command-stands_after v.heap (WeakMap d) o.sound (map-ranges d room) (map-not_refused v.heap d allowed))
+unfolding effects done_in deed_of
+make_object-stands v o d (Plain n) room few allowed r = command-stands_after v.heap (Script d n) o.sound (plain-ranges d n room few) (plain-not_refused v.heap d n allowed)
+make_object-stands v o d Map room few allowed r = command-stands_after v.heap (WeakMap d) o.sound (map-ranges d room) (map-not_refused v.heap d allowed)
 make_object-stands {owned} v o d (Proxy k) room black allowed r = subst (λ l. StandsAfter v.heap l (λ g. graph.with_proxy g d (name_at v.scripts k.0))) (proxy-made v d k black)
     (make_proxy-stands v.heap d (name_at v.scripts k.0) o.sound allowed (name_at-there owned v o k.0) r)
 

@@ -8,7 +8,8 @@ use Rattle.cc_names.specs.declared.kind.Kind.TheVariants.{Plain, Map}
 use Rattle.cc_model.specs.declared.command.Command.TheVariants.{Native, Script, WeakMap}
 use Rattle.cc_model.specs.Cascade.{take_up}
 use Rattle.cc_model.specs.Checks.{native_of, slots_or_none}
-use Rattle.cc_model.specs.Effects.{effects, hold_native, hold_script, make_native, make_object, make_proxy, set_entry, touched, wrapped}
+use Rattle.cc_model.specs.Deeds.{deed_of}
+use Rattle.cc_model.specs.Effects.{done_in, effects, hold_native, hold_script, make_native, make_object, make_proxy, set_entry, touched, wrapped}
 use Rattle.cc_model.specs.End.{slots_now}
 use Rattle.cc_model.specs.Exposure.{exposed}
 use Rattle.cc_model.specs.Heap.{Heap, HeapNative, HeapScript, native_at, preserve, set_slot, slots_in}
@@ -132,15 +133,15 @@ module _ (h : Heap) where
 
     -- a native made, a plain object, a weak map
     pub make_native-doomed : (r n : ℕ) → KeepsDoomed h (make_native h r n).heap
-    unfolding effects KeepsDoomed
+    unfolding effects done_in deed_of KeepsDoomed
     make_native-doomed r n s ds keeps d = doomed-effects s ds h (Native r n) w keeps d
 
     pub make_plain-doomed : (r n : ℕ) → KeepsDoomed h (make_object h r Plain n None)
-    unfolding effects KeepsDoomed
+    unfolding effects done_in deed_of KeepsDoomed
     make_plain-doomed r n s ds keeps d = doomed-effects s ds h (Script r n) w keeps d
 
     pub make_map-doomed : (r : ℕ) → KeepsDoomed h (make_object h r Map 0 None)
-    unfolding effects KeepsDoomed
+    unfolding effects done_in deed_of KeepsDoomed
     make_map-doomed r s ds keeps d = doomed-effects s ds h (WeakMap r) w keeps d
 
     -- a proxy made

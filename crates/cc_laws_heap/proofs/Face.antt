@@ -4,10 +4,10 @@ pub use Rattle.cc_laws_heap.proofs.CascadeTakesOut.{TakesOut-cascade, TakesOut-l
 pub use Rattle.cc_laws_heap.proofs.Cascades.{above-one_at_zero, cascade-frees, cascade-sound, one_above_zero-above, one_at_zero-above}
 pub use Rattle.cc_laws_heap.proofs.Changing.{Follows-left, Leaves, option_map-found}
 pub use Rattle.cc_laws_heap.proofs.CollectedColours.{black-is, collect_scripts-colours, collect_scripts-frees, collect_scripts-invariant, collect_scripts-sound, collect_scripts-unmarked, collecting-keeps, is-black}
-pub use Rattle.cc_laws_heap.proofs.ColourChanges.{AreColoured-push, AreColoured-register, AreColoured-slot, IsHeldBlack, exposed-black, exposed-coloured}
+pub use Rattle.cc_laws_heap.proofs.ColourChanges.{AreColoured-push, AreColoured-slot, IsHeldBlack, exposed-black}
 pub use Rattle.cc_laws_heap.proofs.Coloured.{AreColoured-from_view, HasColourInvariant-from, IsColoured}
-pub use Rattle.cc_laws_heap.proofs.CommandsColours.{effects-coloured, make_proxy-coloured, taken_out-black, taken_out-coloured}
-pub use Rattle.cc_laws_heap.proofs.CommandsSound.{effects-sound}
+pub use Rattle.cc_laws_heap.proofs.CommandsColours.{done_in-coloured, effects-coloured, taken_out-black, taken_out-coloured}
+pub use Rattle.cc_laws_heap.proofs.CommandsSound.{done_in-sound, effects-sound}
 pub use Rattle.cc_laws_heap.proofs.CommandsStand.{command-stands, empty-stands, proxy-follows}
 pub use Rattle.cc_laws_heap.proofs.CountBound.{count-bound, natives-made}
 pub use Rattle.cc_laws_heap.proofs.Counted.{IsCounted-owned, IsCounted-referred, count_at-found}
@@ -40,11 +40,12 @@ pub use Rattle.cc_laws_heap.proofs.MarkedKept.{black-place, black-register, mark
 pub use Rattle.cc_laws_heap.proofs.MarkedWellFormed.{is_spared, is_spared_entry}
 pub use Rattle.cc_laws_heap.proofs.Marking.{HasColours-marked, as_marked, colour_of}
 pub use Rattle.cc_laws_heap.proofs.MarkingKeeps.{IsSound-marked, round-frees, round-sound, script_names-marked}
+pub use Rattle.cc_laws_heap.proofs.MayBeDone.{MayBeDone, may_be_done}
 pub use Rattle.cc_laws_heap.proofs.Moving.{slot-there, taken_out-length, taken_out-names, taken_out-sound, taken_out-there, touched-natives, touched-registers}
 pub use Rattle.cc_laws_heap.proofs.NameLists.{is_not_among-apart, is_not_among-from, natives_in-natives, same_name-sym}
-pub use Rattle.cc_laws_heap.proofs.NativeCommands.{IsIn-made, IsIn-take_up, hold_native-sound, make_native-sound, names_there-take_up}
+pub use Rattle.cc_laws_heap.proofs.NativeCommands.{IsIn-made, IsIn-take_up, names_there-take_up}
 pub use Rattle.cc_laws_heap.proofs.Natives.{HasDistinctNumbers-change, IsRising-distinct, IsWellFormed-distinct, KeepsNumber, changed_at, changed_at-number, named-found, named-member, native_at-change_other, native_at-change_same, native_at-member, native_at-named, native_at-number, native_at-there, native_names-change}
-pub use Rattle.cc_laws_heap.proofs.NativesKeepScripts.{SameScripts, SameScripts-coloured, SameScripts-take_up, hold_native-scripts, let_go-scripts, make_native-scripts}
+pub use Rattle.cc_laws_heap.proofs.NativesKeepScripts.{SameScripts, SameScripts-coloured, SameScripts-take_up, let_go-scripts}
 pub use Rattle.cc_laws_heap.proofs.Numbered.{change_numbered, numbered-change, numbered-change_other, numbered-next, numbered-push, numbered-push_old}
 pub use Rattle.cc_laws_heap.proofs.Owning.{IsCounted-add_ref, IsIn, add_ref-sound, let_go-sound, take_up-sound, times-numbers_of}
 pub use Rattle.cc_laws_heap.proofs.ReachedAlike.{in-reached, reached-in, reached-there}

@@ -1,4 +1,4 @@
--- EACH COMMAND THAT IS NOT REFUSED IS GENTLE, so it keeps every snapshot fresh: whatever it comes to does.
+-- WHAT A COMMAND COMES TO IS GENTLE, so each command that is not refused keeps every snapshot fresh.
 use Rattle.std.proofs.Common.{ℕ, List, None}
 use Rattle.std.specs.Prelude.{IsTrue}
 use Rattle.cc_names.specs.declared.register.Reg.TheVariants.{S}
@@ -14,9 +14,9 @@ use Rattle.cc_model.specs.Effects.{done_in, effects}
 use Rattle.cc_laws_heap.specs.Sound.{IsSound}
 use Rattle.cc_laws_heap.proofs.Taken.{IsTaken}
 use Rattle.cc_laws_heap.proofs.MayBeDone.{MayBeDone, may_be_done}
-use Rattle.cc_laws_heap.proofs.CommandsSound.{effects-sound}
+use Rattle.cc_laws_heap.proofs.CommandsSound.{done_in-sound}
 use Rattle.cc_laws_heap.proofs.Coloured.{IsColoured, AreColoured-from_view, HasColourInvariant-from}
-use Rattle.cc_laws_heap.proofs.CommandsColours.{effects-coloured}
+use Rattle.cc_laws_heap.proofs.CommandsColours.{done_in-coloured}
 use Rattle.cc_laws_snapshot.proofs.GentleKeeps.{fresh-kept}
 use Rattle.cc_laws_snapshot.proofs.GentleBut.{AreGentle, AreGentle-refl, IsGentle-from}
 use Rattle.cc_laws_snapshot.proofs.NativeParts.{register-gentle, preserve-gentle}
@@ -44,16 +44,17 @@ done_in-gentle h (reflector_preserved x) s c m = preserve-gentle h x (not_gray-h
 done_in-gentle h (entry_written m k v) s c t = set_entry-gentle h m k v (not_gray-held h k (t.key.black c)) (not_gray-held h v (t.value.black c))
 done_in-gentle h (object_exposed x) s c m = exposed-gentle h x s.well_formed
 
--- A command that is not refused is gentle.
-effects-gentle : {owned : List ℕ} (h : Heap) (c : Command) → IsSound owned h → IsColoured h → IsTrue (in_range c) → IsTaken (objects_of h) c → AreGentle h (effects h c).heap
-unfolding effects
-effects-gentle h c s p r t = done_in-gentle h (deed_of (objects_of h) c) s p (may_be_done h c s r t)
+-- It keeps a fresh snapshot fresh.
+pub done_in-fresh : {owned : List ℕ} (h : Heap) (s : Snapshot) (d : Deed) → IsSound owned h → IsFresh h.natives_made (view h) s → MayBeDone h d →
+    IsFresh (done_in h d).heap.natives_made (view (done_in h d).heap) s
+done_in-fresh h s d sound f m =
+    let coloured : IsColoured h = AreColoured-from_view h sound.well_formed f.colours in
+    fresh-kept h.natives_made (done_in h d).heap.natives_made (view h) (view (done_in h d).heap)
+    (IsGentle-from h.natives_made (done_in h d).heap.natives_made (view h) (view (done_in h d).heap) (done_in-gentle h d sound coloured m)
+    (HasColourInvariant-from (done_in h d).heap (done_in-sound h d sound m).well_formed (done_in-coloured h d sound coloured m))) s f
 
 -- A command that is not refused keeps a fresh snapshot fresh.
 pub effects-fresh : {owned : List ℕ} (h : Heap) (s : Snapshot) (c : Command) → IsSound owned h → IsFresh h.natives_made (view h) s → IsTrue (in_range c) → IsTaken (objects_of h) c →
     IsFresh (effects h c).heap.natives_made (view (effects h c).heap) s
-effects-fresh h s c sound f r t =
-    let coloured : IsColoured h = AreColoured-from_view h sound.well_formed f.colours in
-    fresh-kept h.natives_made (effects h c).heap.natives_made (view h) (view (effects h c).heap)
-    (IsGentle-from h.natives_made (effects h c).heap.natives_made (view h) (view (effects h c).heap) (effects-gentle h c sound coloured r t)
-    (HasColourInvariant-from (effects h c).heap (effects-sound h c sound r t).well_formed (effects-coloured h c sound coloured r t))) s f
+unfolding effects
+effects-fresh h s c sound f r t = done_in-fresh h s (deed_of (objects_of h) c) sound f (may_be_done h c sound r t)

@@ -1,4 +1,4 @@
--- EACH COMMAND THAT IS NOT REFUSED IS A LOYAL CHANGE: whatever it comes to is.
+-- WHAT A COMMAND COMES TO IS A LOYAL CHANGE, so each command that is not refused is one.
 use Rattle.std.proofs.Common.{◌≡◌, ℕ, ◌+◌, ◌<◌, ◌≤◌, List, ◌++◌, length, Option, Some, None, refl, sym, ◌∙◌, subst, inl, arith, slice_index_or}
 use Rattle.std.specs.Prelude.{IsTrue}
 use Rattle.std.specs.Option.{option_to_list}
@@ -94,7 +94,7 @@ still_done-loyal : {owned : List ℕ} (h : Heap) (d : Deed) → IsSound owned h 
 still_done-loyal h d s m k = still-loyal h (done_in h d).heap s (done_in-sound h d s m) k
 
 -- WHAT IS DONE IS A LOYAL CHANGE.
-done_in-loyal : {owned : List ℕ} (h : Heap) (d : Deed) → IsSound owned h → MayBeDone h d → IsLoyal (view h) (view (done_in h d).heap)
+pub done_in-loyal : {owned : List ℕ} (h : Heap) (d : Deed) → IsSound owned h → MayBeDone h d → IsLoyal (view h) (view (done_in h d).heap)
 unfolding done_in
 done_in-loyal h nothing_done s m = still_done-loyal h nothing_done s m (Still-refl h)
 done_in-loyal h (native_made d n) s m = make_native-loyal h d n m.register m.few m.room s

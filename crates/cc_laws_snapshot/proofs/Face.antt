@@ -2,15 +2,15 @@
 pub use Rattle.cc_laws_snapshot.proofs.Beginning.{begun-fresh, node-cases}
 pub use Rattle.cc_laws_snapshot.proofs.BufferMarks.{marked-buffer, suspect-keeps_purple, suspect-purple}
 pub use Rattle.cc_laws_snapshot.proofs.CascadesGentle.{let_go-caught, let_go-gentle}
-pub use Rattle.cc_laws_snapshot.proofs.CommandsGentle.{effects-fresh}
-pub use Rattle.cc_laws_snapshot.proofs.CommandsLoyal.{hold_native-loyal, still-loyal, stored-loyal}
+pub use Rattle.cc_laws_snapshot.proofs.CommandsGentle.{done_in-fresh, effects-fresh}
+pub use Rattle.cc_laws_snapshot.proofs.CommandsLoyal.{done_in-loyal, stored-loyal}
 pub use Rattle.cc_laws_snapshot.proofs.CommandsSuspected.{effects-suspected}
 pub use Rattle.cc_laws_snapshot.proofs.EndSuspected.{end-suspected}
 pub use Rattle.cc_laws_snapshot.proofs.GentleBut.{AreGentle, AreGentle-then, IsGentleBut-then}
 pub use Rattle.cc_laws_snapshot.proofs.GivingBack.{begin-suspected, give_back-buffer, give_back-suspected, given_back, given_back-buffer}
 pub use Rattle.cc_laws_snapshot.proofs.Handing.{edge-from_reflector}
 pub use Rattle.cc_laws_snapshot.proofs.KindsFresh.{fresh-coloured, fresh-more}
-pub use Rattle.cc_laws_snapshot.proofs.KindsHeld.{entry_written-suspected, exposed-suspected, flag_written-suspected, native_made-suspected, object_made-suspected, reflector_made-suspected, script_slot_written-suspected}
+pub use Rattle.cc_laws_snapshot.proofs.KindsHeld.{entry_written-suspected, flag_written-suspected, reflector_made-suspected, script_slot_written-suspected}
 pub use Rattle.cc_laws_snapshot.proofs.KindsMade.{reflector_made-fresh}
 pub use Rattle.cc_laws_snapshot.proofs.KindsWritten.{flag_written-fresh}
 pub use Rattle.cc_laws_snapshot.proofs.LoyalSuspected.{loyal-suspected}
@@ -20,12 +20,10 @@ pub use Rattle.cc_laws_snapshot.proofs.MovesLoyal.{moved-loyal}
 pub use Rattle.cc_laws_snapshot.proofs.NamePairs.{native-no_script}
 pub use Rattle.cc_laws_snapshot.proofs.NamesAndEdges.{edges-alike}
 pub use Rattle.cc_laws_snapshot.proofs.NativeParts.{AreTaken, native_slot-gentle, take_up-gentle, take_up-taken}
-pub use Rattle.cc_laws_snapshot.proofs.NativesHeld.{hold_native-gentle, make_native-gentle}
 pub use Rattle.cc_laws_snapshot.proofs.NodeUnit.{after_node-fresh, gray-tested}
 pub use Rattle.cc_laws_snapshot.proofs.ReachedStays.{IsTidy, native-edge, native_edges-alike, reached-kept, reached-there, script-edge}
-pub use Rattle.cc_laws_snapshot.proofs.ScriptParts.{exposed-gentle, hold_script-gentle, make_proxy-gentle, not_gray-held, script_slot-gentle, set_entry-gentle}
+pub use Rattle.cc_laws_snapshot.proofs.ScriptParts.{not_gray-held, script_slot-gentle, set_entry-gentle}
 pub use Rattle.cc_laws_snapshot.proofs.SoundView.{living-native, named-there, native-name_of, script-place}
 pub use Rattle.cc_laws_snapshot.proofs.States.{gone-not_traversed}
-pub use Rattle.cc_laws_snapshot.proofs.StillNatives.{Still-hold_script, Still-make_proxy}
 pub use Rattle.cc_laws_snapshot.proofs.SweepLoses.{collect_scripts-suspected}
 pub use Rattle.cc_laws_snapshot.proofs.WhiteNatives.{taking_white-colours, taking_white-sound, white_natives-there, white_natives-unreached}

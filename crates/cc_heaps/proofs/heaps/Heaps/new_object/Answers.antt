@@ -34,7 +34,7 @@ room c = rw (← c.self.view_is) (omega (arith, c.if-self-scripts.false, c.scrip
 keeps : (c : goal.After-write_script_reg) → Keeps c.args.self.now.heap c.write_script_reg.new.self.heap
 keeps c =
     let v = c.args.self.now in
-    subst (Keeps v.heap) (sym (made c)) (make_object-keeps v c.requires.order.1 c.args.r c.args.what c.requires.within c.requires.may (room c))
+    subst (Keeps v.heap) (sym (made c)) (make_object-keeps v c.requires.order.1 c.args.r c.args.what c.requires.may (room c))
 
 pub returns-in-Ok-clause-natives : goal.returns-in-Ok-clause-natives
 returns-in-Ok-clause-natives c = c.write_script_reg.ensures.natives ∙ (ap (λ (w : Keyed). w.keys) c.preserve_delegate.ensures.heap ∙ c.add_object.ensures.natives)
