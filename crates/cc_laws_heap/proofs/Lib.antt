@@ -33,6 +33,7 @@ pub mod Coloured
 pub mod ColourChanges
 pub mod Naming
 pub mod Resting
+pub mod Wanting
 pub mod MayBeDone
 pub mod CommandsSound
 pub mod NativesKeepScripts

@@ -1,15 +1,12 @@
 -- EACH ASK THAT MOVES NO COLLECTION IS ANSWERED LAWFULLY.
-use Rattle.std.proofs.Common.{◌≡◌, ℕ, ◌+◌, ◌≤◌, true, not, List, [], ◌∷◌, map, Option, Some, None, is_none, refl, sym, ◌∙◌, ap, subst, inl, inr, ⊎_elim, arith, false}
+use Rattle.std.proofs.Common.{◌≡◌, ℕ, ◌+◌, ◌≤◌, true, not, List, [], ◌∷◌, map, Some, None, refl, sym, ◌∙◌, ap, subst, inl, inr, ⊎_elim, arith, false}
 use Rattle.std.specs.Prelude.{IsTrue, nat_le}
-use Rattle.std.proofs.lemmas.Bool.{true≢false, false≢true, and_parts, le-leb}
+use Rattle.std.proofs.lemmas.Bool.{true≢false, and_parts, le-leb}
 use Rattle.cc_lists.specs.Members.{Among, without}
 use Rattle.cc_lists.proofs.Members.{Among-map, Among-filter, Among-append}
 use Rattle.cc_names.specs.declared.name.Name.{Name}
-use Rattle.cc_names.specs.declared.name.Name.TheVariants as name
-use Rattle.cc_names.specs.declared.register.Reg.TheVariants.{N, S}
 use Rattle.cc_names.specs.Names.{native, same_name, number_of}
 use Rattle.cc_model.specs.declared.command.Command.{Command}
-use Rattle.cc_model.specs.declared.command.Command.TheVariants.{Native, Script, WeakMap, Proxy, SetEntry, Wrap}
 use Rattle.cc_model.specs.declared.item.Event.{Event}
 use Rattle.cc_model.specs.declared.item.Refusal.{Refusal}
 use Rattle.cc_model.specs.declared.item.Refusal.TheVariants.{NoMemory}
@@ -18,16 +15,15 @@ use Rattle.cc_model.specs.declared.item.Reply.TheVariants.{Refused, Done}
 use Rattle.cc_model.specs.Mutating.{Saying, silence, version, path, census, says, does, class_of, is_deed}
 use Rattle.cc_model.specs.Asks.{taken}
 use Rattle.cc_model.specs.Ranges.{in_range}
-use Rattle.cc_model.specs.Checks.{refusal_of, reply_if_taken, refused_or, reflector_of}
+use Rattle.cc_model.specs.Checks.{refusal_of, reply_if_taken, refused_or}
 use Rattle.cc_model.specs.Graph as graph
 use Rattle.cc_model.specs.Graph.{Graph, step}
 use Rattle.cc_model.specs.Reached.{Reached}
-use Rattle.cc_model.specs.Heap as heap
-use Rattle.cc_model.specs.Heap.{Heap, objects_of, has_reflector}
-use Rattle.cc_model.specs.Effects.{effects, takes_memory, lacks_reflector}
+use Rattle.cc_model.specs.Heap.{objects_of}
+use Rattle.cc_model.specs.Effects.{effects, takes_memory}
 use Rattle.cc_model.specs.WellFormed.{native_names, script_names}
 use Rattle.cc_model.specs.Counts.{times}
-use Rattle.cc_model.specs.Lawful.{State, Explains, AnswersCommand, EachMayBe, is_listed, is_refused, is_abandoning, has_none, has_abandonment_in_place, runs, runs_allowed, unlinked_numbers, AnswersClass, deed_may_want_memory, class_may_want_memory}
+use Rattle.cc_model.specs.Lawful.{State, Explains, AnswersCommand, EachMayBe, is_refused, is_abandoning, has_none, has_abandonment_in_place, runs, runs_allowed, unlinked_numbers, AnswersClass, deed_may_want_memory, class_may_want_memory}
 use Rattle.cc_model.specs.Collecting.{Machine}
 use Rattle.cc_model.specs.Run.{Turn, turn_of, mutate, said, say}
 use Rattle.cc_model.proofs.NoDeeds.{no_deed-reply}
@@ -36,6 +32,7 @@ use Rattle.cc_laws_heap.proofs.EndingEvents.{TellsOf-freed}
 use Rattle.cc_laws_heap.proofs.NameLists.{same_name-other}
 use Rattle.cc_laws_heap.proofs.References.{times-some, times-cons_same, times-cons}
 use Rattle.cc_laws_heap.proofs.RepliesAlike.{refusal_of-alike, reply_if_taken-alike, objects-stand}
+use Rattle.cc_laws_heap.proofs.Wanting.{takes-may_want}
 use Rattle.cc_laws_heap.proofs.Taken.{IsTaken-from}
 use Rattle.cc_laws_heap.proofs.CommandsStand.{freed-unreached}
 use Rattle.cc_laws_heap.proofs.WalksAlike.{why-alike}
@@ -95,20 +92,8 @@ refused-answers : (s : State) (c : Command) (refusal : Refusal) → refusal_of (
 refused-answers s c refusal e t = grind (arith, rising-none, abandonment-none)
 
 -- what takes memory may want it
-takes-may_want : (m : Machine) (s : State) (c : Command) → IsRunning m s → takes_memory m.heap c ≡ true → IsTrue (deed_may_want_memory s c)
-takes-may_want m s (Native d n) r t = refl
-takes-may_want m s (Script d n) r t = refl
-takes-may_want m s (WeakMap d) r t = refl
-takes-may_want m s (Proxy d q) r t = refl
-takes-may_want m s (SetEntry x k (Some v)) r t = sym (ap is_none ((objects-stand m.heap s.graph r.stands).value (S x) (S k))) ∙ t
-takes-may_want m s (Wrap d n) r t =
-    subst (λ x. not (is_listed s.listed (reflector_of x)) ≡ true) ((objects-stand m.heap s.graph r.stands).register (N n))
-    (go (heap.register m.heap (N n)) t)
-  where
-    go : (x : Option Name) → lacks_reflector m.heap x ≡ true → not (is_listed s.listed (reflector_of x)) ≡ true
-    go (Some (name.Native k)) e = ap not (has-listed_reflector m.heap s.listed (native_names m.heap) k.0 (running-listed m s r)) ∙ e
-    go _ e = absurd (false≢true e)
-takes-may_want m s c r t = absurd (false≢true t)
+deed-may_want : (m : Machine) (s : State) (c : Command) → IsRunning m s → takes_memory m.heap c ≡ true → IsTrue (deed_may_want_memory s c)
+deed-may_want m s c r = takes-may_want m.heap s c r.stands (λ d n k e none. has-listed_reflector m.heap s.listed (native_names m.heap) k (running-listed m s r) ∙ none)
 
 -- a deed moves no collection
 deed-moves : (c : Command) → class_of c ≡ does → IsTrue (moves_no_collection (taken c))
@@ -118,7 +103,7 @@ deed-moves c e = ap moves_none e
 unmet-answers : (m : Machine) (s : State) (c : Command) → IsRunning m s → refusal_of (objects_of m.heap) c ≡ None → takes_memory m.heap c ≡ true →
     class_of c ≡ does → AnswersCommand s c (Refused NoMemory) []
 unmet-answers m s c r e f d = record {
-  replies = inr (record { refused = refl; command_may = ap (class_may_want_memory s c) d ∙ takes-may_want m s c r f; no_other = refusals-agree m s c r ∙ e });
+  replies = inr (record { refused = refl; command_may = ap (class_may_want_memory s c) d ∙ deed-may_want m s c r f; no_other = refusals-agree m s c r ∙ e });
   quiet = λ q. refl;
   each = tt;
   rising = rising-none c [] refl;
