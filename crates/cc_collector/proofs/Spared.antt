@@ -62,4 +62,4 @@ module _ (v : Keyed) (c : Option Built) (r : RunsIn v c) (memory : List Bool) wh
 
   pub gc-spares : SparesInEachGraph v.heap (gc (with_memory (machine_of v.heap c) memory)).events
   gc-spares g x well stands m = each-spares g (names_there v.heap) Gc (gc (with_memory (machine_of v.heap c) memory)).events
-      (gc-lawful g well (names_there v.heap) (with_memory (machine_of v.heap c) memory) (runs-on v c g r stands)).each x m
+      (gc-lawful g well Gc refl (names_there v.heap) (with_memory (machine_of v.heap c) memory) (runs-on v c g r stands)).each x m
