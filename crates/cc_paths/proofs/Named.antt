@@ -89,7 +89,6 @@ entry-members v owned order i m k x d at e here =
   where
     keyed : KeyedEntry
     keyed = record { the_map = m.0; key = k.0; delegate = option_map (λ (j : SKey). j.0) d; value = x.0 }
-
     there = order.entries_there keyed (place-among keyed v.entries i at)
 
     same : named_entry v.scripts keyed ≡ e
