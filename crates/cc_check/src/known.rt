@@ -22,7 +22,7 @@ use cc_listed::Listed;
 use cc_model::{Command, Event};
 use cc_names::{Name, NoMemory};
 use cc_object_graph::ObjectGraph;
-use cc_reach::Reach;
+use cc_search::Reach;
 use std::alloc::Global;
 
 /// What the registers of a graph reach, where it is known.

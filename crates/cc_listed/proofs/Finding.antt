@@ -13,8 +13,9 @@ use Rattle.cc_lists.proofs.Filtering.{filter-each}
 use Rattle.cc_lists.proofs.Members.{has-there, has-among}
 use Rattle.cc_model.specs.Slots.{Slots, contents}
 use Rattle.cc_model.proofs.Places.{contents-last}
-use Rattle.cc_listed.specs.declared.by_name.ByName.{ByName}
-use Rattle.cc_listed.specs.Found.{slot_at, place_of, AreFound, AreListed}
+use Rattle.cc_pages.specs.declared.by_name.ByName.{ByName}
+use Rattle.cc_pages.specs.ByName.{place_of}
+use Rattle.cc_listed.specs.Found.{slot_at, AreFound, AreListed}
 use Rattle.cc_listed.proofs.Standing.{among-stands, contents-emptied, contents-few, length-emptied, slot-front, slot-set_other, slot-set_same, stands-among, stands-within}
 
 -- Names and numbers told apart

@@ -1,21 +1,14 @@
 -- WHERE NAMES STAND, and the tables by which they are found.
 use Rattle.std.specs.Prelude.{◌≡◌, ℕ, Bool, true, false, length, get_or, Option, Some, None}
 use Rattle.cc_names.specs.declared.name.Name.{Name}
-use Rattle.cc_names.specs.declared.name.Name.TheVariants.{Native, Script, Reflector}
 use Rattle.cc_names.specs.Names.{is_native, is_script}
-use Rattle.cc_pages.specs.Values.{value_at}
+use Rattle.cc_pages.specs.declared.by_name.ByName.{ByName}
+use Rattle.cc_pages.specs.ByName.{place_of}
 use Rattle.cc_model.specs.Slots.{Slots, contents}
-use Rattle.cc_listed.specs.declared.by_name.ByName.{ByName}
 
 -- what stands at a place; none where a name was taken out, and past the end
 abbrev pub slot_at : Slots → ℕ → Option Name
 slot_at places i = get_or places i None
-
--- the place that the tables have for a name; none where they have none
-abbrev pub place_of : ByName → Name → Option ℕ
-place_of t (Native k) = value_at t.natives k.0
-place_of t (Script k) = value_at t.scripts k.0
-place_of t (Reflector k) = value_at t.reflectors k.0
 
 -- the tables have the place of each name that stands somewhere, and of no other
 pub record AreFound (places : Slots) (t : ByName) : Type 0 where

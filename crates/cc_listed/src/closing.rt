@@ -3,8 +3,8 @@ ghost use Rattle.std.specs.Prelude.{◌≡◌, ℕ, ◌+◌, ◌*◌, ◌<◌, �
 ghost use Rattle.cc_model.specs.Slots.{contents};
 ghost use Rattle.cc_listed.specs.Found.{AreFound, slot_at};
 
-use crate::by_name::ByName;
 use cc_names::{Name, NoMemory};
+use cc_pages::ByName;
 
 /// How many places more than twice the names there may be before the names close up.
 const SPARE: usize = 16;

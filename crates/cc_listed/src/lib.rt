@@ -8,7 +8,6 @@
 //! so it costs what it lists, and no more is paid over time than a step for each name that was taken out.
 #![tactic(auto)]
 
-mod by_name;
 mod census;
 mod closing;
 mod listed;

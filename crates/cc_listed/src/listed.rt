@@ -4,10 +4,10 @@ ghost use Rattle.cc_lists.specs.Members.{has, without};
 ghost use Rattle.cc_names.specs.Names.{same_name};
 ghost use Rattle.cc_model.specs.Listed.{census_order};
 
-use crate::by_name::ByName;
 use crate::census::natives_first;
 use crate::closing::close_up_if_sparse;
 use cc_names::{Name, NoMemory};
+use cc_pages::ByName;
 use std::alloc::Global;
 use std::marker::Model;
 

@@ -17,7 +17,7 @@ use Rattle.cc_weakmaps.specs.Entries.{KeyedEntry}
 use Rattle.cc_weakmaps.specs.Index as index
 use Rattle.cc_object_graph.specs.Keys.{object_of, named_entry, named_entries}
 use Rattle.cc_object_graph.specs.Keyed.{HasKey, IsKeyed, AreKeyed, keys}
-use Rattle.cc_object_graph.specs.Members.{IsPlaceOf, place_below}
+use Rattle.cc_search.specs.Members.{IsPlaceOf, place_below}
 use Rattle.cc_object_graph.proofs.KeysOfNames.{same_name-object_of}
 
 -- READING

@@ -1,4 +1,3 @@
-pub mod Members
 pub mod Keys
 pub mod Keyed
 pub mod Made

@@ -1,9 +1,7 @@
 -- WHICH REGISTERS ARE IN USE: those before a number. From it on all are empty.
-use Rattle.std.specs.Prelude.{◌≡◌, ℕ, ◌≤◌, length, None, slice_index_or}
+use Rattle.std.specs.Prelude.{ℕ, ◌≤◌, length}
 use Rattle.cc_model.specs.Slots.{Slots}
-
-abbrev pub AreEmptyFrom : Slots → ℕ → Type 0
-AreEmptyFrom slots n = (i : ℕ) → n ≤ i → slice_index_or slots i None ≡ None
+use Rattle.cc_search.specs.Banks.{AreEmptyFrom}
 
 pub record AreUsedBefore (slots : Slots) (n : ℕ) : Type 0 where
   pub within : n ≤ length slots

@@ -1,7 +1,7 @@
 //! A bank of registers.
 ghost use Rattle.std.specs.Prelude.{◌≡◌, ◌≤◌, length, IfOk, None, slice_index_or, slice_set};
 ghost use Rattle.cc_model.specs.Slots.{empty_slots};
-ghost use Rattle.cc_object_graph.specs.Used.{AreEmptyFrom};
+ghost use Rattle.cc_search.specs.Banks.{AreEmptyFrom};
 
 use crate::rows::content;
 use cc_names::{Name, NoMemory};

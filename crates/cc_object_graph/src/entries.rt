@@ -2,7 +2,7 @@
 ghost use Rattle.std.specs.Prelude.{◌≡◌, ◌<◌, length, [], Some, slice_get, IfSome, OnOk};
 ghost use Rattle.cc_model.specs.Entries.{entry, value_in, with_entry, without_entry};
 ghost use Rattle.cc_object_graph.specs.Keyed.{HasKey};
-ghost use Rattle.cc_object_graph.specs.Members.{IsPlaceOf, place_below};
+ghost use Rattle.cc_search.specs.Members.{IsPlaceOf, place_below};
 
 use crate::keys::{key_of, key_of_it, name_of, name_of_it, the_key_of};
 use cc_names::{Name, NoMemory};

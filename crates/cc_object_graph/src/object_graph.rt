@@ -1,16 +1,14 @@
 //! The graph as its callers see it.
-ghost use Rattle.std.specs.Prelude.{◌≡◌, ◌<◌, ◌≤◌, length, None, Some, slice_get, IfOk, IfSome, IsTrue, OnOk};
+ghost use Rattle.std.specs.Prelude.{◌≡◌, ◌≤◌, length, IfOk, IsTrue, OnOk};
 ghost use Rattle.cc_names.specs.declared.register.Reg.TheVariants as reg;
 ghost use Rattle.cc_model.specs.Ranges.{in_range};
-ghost use Rattle.cc_model.specs.Entries.{entry};
 ghost use Rattle.cc_model.specs.Checks.{refusal_of, value_at};
 ghost use Rattle.cc_model.specs.Graph.{empty_graph, objects_of, register, reply_to, step};
-ghost use Rattle.cc_model.specs.WellMade.{IsWellMade, was_made};
-ghost use Rattle.cc_object_graph.specs.Members.{IsPlaceOf, place_below};
-ghost use Rattle.cc_object_graph.specs.Used.{AreEmptyFrom};
+ghost use Rattle.cc_model.specs.WellMade.{IsWellMade};
 
 mod changes;
 mod checks;
+mod leading;
 mod making;
 mod places;
 mod reading;
@@ -106,22 +104,6 @@ impl ObjectGraph {
         }
     }
 
-    /// The number past the last native register that was ever written; 0 where none was. From it on all are empty.
-    pub fn native_registers_used(&self) -> usize
-        ensures within { result ≤ length self.now.native_registers }
-        ensures empty { AreEmptyFrom self.now.native_registers result }
-    {
-        self.native_registers.used()
-    }
-
-    /// The same of script registers.
-    pub fn script_registers_used(&self) -> usize
-        ensures within { result ≤ length self.now.script_registers }
-        ensures empty { AreEmptyFrom self.now.script_registers result }
-    {
-        self.script_registers.used()
-    }
-
     /// The value that what one script register holds has for its key in what the other holds as their map.
     pub fn value_at(&self, the_map: RegNo, key: RegNo) -> Option<Name>
         ensures { result ≡ value_at (objects_of self.now) (register self.now (reg.S the_map)) (register self.now (reg.S key)) }
@@ -145,36 +127,5 @@ impl ObjectGraph {
         ensures { result ≡ length self.now.scripts }
     {
         self.scripts.len()
-    }
-
-    /// The place of the last entry of which an object is the map, the key or the key's delegate; none where there is none. From it
-    /// `next_with` goes on to the others.
-    pub fn first_with(&self, name: &Name) -> Option<usize>
-        requires made { IsTrue (was_made self.now name.now) }
-        ensures place { result ≡ place_below self.now.entries name.now (length self.now.entries) }
-        ensures there { IfSome result (IsPlaceOf self.now.entries name.now) }
-        ensures within { IfSome result (λ i. i < length self.now.entries) }
-    {
-        self.entries.first_with(name)
-    }
-
-    /// The last place before this one of an entry of which the object is a member; none where this is the first of them.
-    pub fn next_with(&self, name: &Name, place: usize) -> Option<usize>
-        requires made { IsTrue (was_made self.now name.now) }
-        requires there { IsPlaceOf self.now.entries name.now place }
-        ensures place { result ≡ place_below self.now.entries name.now place }
-        ensures there { IfSome result (IsPlaceOf self.now.entries name.now) }
-        ensures within { IfSome result (λ i. i < length self.now.entries) }
-        ensures before { IfSome result (λ i. i < place) }
-    {
-        self.entries.next_with(name, place)
-    }
-
-    /// Map, key, the key's delegate and value of the entry at a place, counted from 0.
-    pub fn entry(&self, i: usize) -> (Name, Name, Option<Name>, Name)
-        requires within { i < length self.now.entries }
-        ensures { slice_get self.now.entries i ≡ Some (entry result.0 result.1 result.2 result.3) }
-    {
-        self.entries.entry(i)
     }
 }

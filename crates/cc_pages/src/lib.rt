@@ -5,10 +5,14 @@
 //! words for each group before the last that is in use, and for each page before the last of a group. A value is found by
 //! three steps, and the numbers that have one are found in order by a walk that looks into pages that were taken and passes
 //! over all others.
+//!
+//! Places by name are three such tables, one for each kind of object.
 #![tactic(auto)]
 
+mod by_name;
 mod group;
 mod page;
 mod pages;
 
+pub use by_name::ByName;
 pub use pages::Pages;

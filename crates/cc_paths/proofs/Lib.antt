@@ -1,7 +1,3 @@
-pub mod Steps
-pub mod Paired
-pub mod Turns
-pub mod Marked
-pub mod Contents
-pub mod EntryPlaces
-pub mod Searched
+pub mod Named
+pub mod Members
+pub mod Told

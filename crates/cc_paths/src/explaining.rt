@@ -5,10 +5,11 @@ ghost use Rattle.cc_model.specs.Derivations.{is_led_to, leads_in, path_to};
 ghost use Rattle.cc_model.specs.Telling.{Tells};
 ghost use Rattle.cc_heaps.specs.Keyed.{IsInOrder};
 
-use crate::found::Found;
+use crate::heap_leads::HeapLeads;
 use cc_heaps::Heaps;
-use cc_model::Notices;
+use cc_model::{Item, Notices, Reason};
 use cc_names::{Name, NoMemory};
+use cc_search::Reach;
 use std::alloc::Global;
 
 /// Why an object is alive: tells the steps by which the registers reach it, each once and itself last. Each step names an object
@@ -32,11 +33,22 @@ pub fn why<N: Notices>(
     ensures nothing { IfOk result (λ b. b ≡ false → N.telling out.new ≡ N.telling out.old) }
     ensures err { OnErr result (N.telling out.new ≡ N.telling out.old) }
 {
-    let mut found = Found::of(alloc, heaps, name)?;
-    if !found.has(name) {
+    let mut reach = Reach::new(alloc);
+    reach.seek(&HeapLeads { heaps }, name)?;
+    if !reach.has(name) {
         return Ok(false);
     }
-    let path = found.needed(alloc, name)?;
-    found.tell(path, out);
+    let path = reach.path_to(alloc, name)?;
+    tell(&path, out);
     Ok(true)
+}
+
+/// Tells steps, one after another.
+fn tell<N: Notices>(path: &[(Name, Reason)], out: &mut N)
+    ensures { Tells (N.telling out.old) (N.telling out.new) (map item_of_step path.now) }
+{
+    for i in 0..path.len() {
+        let (name, reason) = path[i];
+        out.tell(Item::Step(name, reason));
+    }
 }

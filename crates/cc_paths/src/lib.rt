@@ -1,7 +1,6 @@
 //! Why an object is alive: the steps by which the registers reach it.
 //!
-//! From the registers on, each object that is reached is found once: first what the registers hold, then from one object after
-//! another what its places hold, and what the entries give of which it is the map, the key or the key's delegate. Each is kept
+//! The search from the registers (cc_search) goes over the heaps: from the registers on, each object that is reached is found once,
 //! with the reason for which it was found, and the search ends with the object that is asked for. Then, from the last step to the
 //! first, those are taken that it needs: the step of the object itself, the steps on which this one rests, and so on. These are
 //! told in their order.
@@ -10,8 +9,6 @@
 #![tactic(auto)]
 
 mod explaining;
-mod found;
-mod needed;
-mod search;
+mod heap_leads;
 
 pub use explaining::why;

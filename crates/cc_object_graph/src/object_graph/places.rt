@@ -10,7 +10,7 @@ use cc_names::{Name, NativeNo, ScriptNo};
 
 impl ObjectGraph {
     /// How many places an object has in which it may refer to another: its slots, and those for a reflector, a delegate and a native.
-    pub fn places(&self, name: &Name) -> usize
+    pub(crate) fn places_of(&self, name: &Name) -> usize
         ensures { result ≡ length (slots_or_none (places_made self.now name.now)) }
     {
         match *name {
@@ -21,7 +21,7 @@ impl ObjectGraph {
     }
 
     /// What a place of an object holds, counted from 0.
-    pub fn place(&self, name: &Name, i: usize) -> Option<Name>
+    pub(crate) fn place_of(&self, name: &Name, i: usize) -> Option<Name>
         ensures { result ≡ slice_index_or (slots_or_none (places_made self.now name.now)) i None }
     {
         match *name {
