@@ -71,7 +71,7 @@ Follows-from h g early late gentle coloured = grind (arith, HasColourInvariant-f
 pub Remembers-from : (h g : Heap) → IsWellFormed h → IsWellFormed g → IsLoyal (view h) (view g) → Remembers h g
 Remembers-from h g early late loyal candidates = loyal-suspected h g candidates early late loyal
 
--- WHAT A COMMAND COMES TO
+-- WHATEVER A COMMAND COMES TO KEEPS BOTH.
 pub done_in-keeps : {owned : List ℕ} (h : Heap) (d : Deed) → IsSound owned h → MayBeDone h d → Keeps h (done_in h d).heap
 done_in-keeps h d s m = record {
   follows = record {

@@ -19,7 +19,6 @@ use Rattle.cc_lists.proofs.Members.{Among-map}
 use Rattle.cc_lists.proofs.Places.{among-get}
 use Rattle.cc_lists.proofs.Searching.{find-map, find-only}
 use Rattle.cc_names.specs.declared.kind.Kind.{Kind}
-use Rattle.cc_names.specs.declared.kind.Kind.TheVariants.{Reflector}
 use Rattle.cc_names.specs.declared.name.Name.{Name}
 use Rattle.cc_names.specs.declared.name.Name.TheVariants as name
 use Rattle.cc_names.specs.declared.number.NKey.{NKey}
@@ -34,7 +33,7 @@ use Rattle.cc_model.specs.Heap.{HeapNative, HeapScript, script_at}
 use Rattle.cc_model.specs.WellFormed.{FitsName, IsWellFormed}
 use Rattle.cc_counted.specs.declared.held.Held.{Held}
 use Rattle.cc_counted.specs.declared.held.Held.TheVariants as held
-use Rattle.cc_counted.specs.Counts.{held_of_native, is_live, name_of, preserved_at, preserved_reflector, reflector_at, references_of, slots_at, slots_of}
+use Rattle.cc_counted.specs.Counts.{held_of_native, is_live, name_of, references_of, slots_of}
 use Rattle.cc_script.specs.Objects.{Object, object_at, is_there}
 use Rattle.cc_script.specs.Objects as objects
 use Rattle.cc_script.proofs.Reaching.{among-held}
