@@ -7,7 +7,8 @@
 //! each in plain words.
 //!
 //! The code here is small: the types that a command line and an output line stand for, the text of an
-//! item, the trait of those that are told items, and three of them. The functions with empty bodies are laws.
+//! item, the trait of those that are told items, and three of them; and the checks of a command, over the
+//! trait of those whose registers and slots they read. The functions with empty bodies are laws.
 #![tactic(auto)]
 
 mod checks;

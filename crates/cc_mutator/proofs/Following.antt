@@ -11,13 +11,12 @@ use Rattle.cc_names.specs.declared.register.Reg.TheVariants.{S}
 use Rattle.cc_names.specs.Names.{native, reflector, same_name, is_native, is_script}
 use Rattle.cc_names.proofs.NameTests.{same_name-exact}
 use Rattle.cc_model.specs.declared.command.Command.{Command}
-use Rattle.cc_model.specs.declared.command.Command.TheVariants.{Native, Script, WeakMap, Proxy, CopyNative, CopyScript, Drop, Set, Get, Move, Put, Take, Wrap, Unwrap, Preserve, SetEntry, GetEntry, Expose}
+use Rattle.cc_model.specs.declared.command.Command.TheVariants.{Native, Script, WeakMap, Proxy, Wrap, SetEntry}
 use Rattle.cc_model.specs.declared.item.Refusal.{Refusal}
 use Rattle.cc_model.specs.declared.item.Refusal.TheVariants.{NoMemory}
 use Rattle.cc_model.specs.declared.item.Reply.{Reply}
 use Rattle.cc_model.specs.declared.item.Reply.TheVariants.{Refused}
 use Rattle.cc_model.specs.Telling.{Telling}
-use Rattle.cc_model.specs.Mutating.{is_applied}
 use Rattle.cc_model.specs.Ranges.{in_range}
 use Rattle.cc_model.specs.Checks.{refusal_of, refused_or, reply_if_taken}
 use Rattle.cc_model.specs.Colours.{HasColourInvariant}
@@ -65,28 +64,15 @@ reflector-unlisted h names k listed none = go (has same_name names (reflector k)
 
 -- a command that takes memory here may want it: `wrap` where the listed names are those that are there, and `wset` where
 -- the graph has no entry either
-takes-may_want : (h : Heap) (s : State) (c : Command) → StandsFor h s.graph → AreListedFor c h s.listed → IsTrue (is_applied c) → takes_memory h c ≡ true →
+takes-may_want : (h : Heap) (s : State) (c : Command) → StandsFor h s.graph → AreListedFor c h s.listed → takes_memory h c ≡ true →
     IsTrue (may_want_memory s c)
-takes-may_want h s (Native d n) stands listed applied takes = refl
-takes-may_want h s (Script d n) stands listed applied takes = refl
-takes-may_want h s (WeakMap d) stands listed applied takes = refl
-takes-may_want h s (Proxy d r) stands listed applied takes = refl
-takes-may_want h s (CopyNative d r) stands listed applied takes = absurd (false≢true takes)
-takes-may_want h s (CopyScript d r) stands listed applied takes = absurd (false≢true takes)
-takes-may_want h s (Drop r) stands listed applied takes = absurd (false≢true takes)
-takes-may_want h s (Set d i r) stands listed applied takes = absurd (false≢true takes)
-takes-may_want h s (Get r n i) stands listed applied takes = absurd (false≢true takes)
-takes-may_want h s (Move d i r j) stands listed applied takes = absurd (false≢true takes)
-takes-may_want h s (Put d i r) stands listed applied takes = absurd (false≢true takes)
-takes-may_want h s (Take d r i) stands listed applied takes = absurd (false≢true takes)
-takes-may_want h s (Wrap d n) stands listed applied takes = grind (arith, objects-stand, false≢true, reflector-unlisted, not-true)
-takes-may_want h s (Unwrap d r) stands listed applied takes = absurd (false≢true takes)
-takes-may_want h s (Preserve r) stands listed applied takes = absurd (false≢true takes)
-takes-may_want h s (SetEntry m k (Some v)) stands listed applied takes = ap is_none (sym ((objects-stand h s.graph stands).value (S m) (S k))) ∙ takes
-takes-may_want h s (SetEntry m k None) stands listed applied takes = absurd (false≢true takes)
-takes-may_want h s (GetEntry d m k) stands listed applied takes = absurd (false≢true takes)
-takes-may_want h s (Expose r i) stands listed applied takes = absurd (false≢true takes)
-takes-may_want h s _ stands listed applied takes = absurd (false≢true applied)
+takes-may_want h s (Native d n) stands listed takes = refl
+takes-may_want h s (Script d n) stands listed takes = refl
+takes-may_want h s (WeakMap d) stands listed takes = refl
+takes-may_want h s (Proxy d r) stands listed takes = refl
+takes-may_want h s (Wrap d n) stands listed takes = grind (arith, objects-stand, false≢true, reflector-unlisted, not-true)
+takes-may_want h s (SetEntry m k (Some v)) stands listed takes = ap is_none (sym ((objects-stand h s.graph stands).value (S m) (S k))) ∙ takes
+takes-may_want h s _ stands listed takes = absurd (false≢true takes)
 
 module _ (c : Command) (old new : Keyed) (reply : Reply) (before after : Telling) (a : IsApplied c old new reply before after) where
   -- WHAT HAPPENED: nothing, or the effects of the command, where it is not refused
@@ -94,8 +80,8 @@ module _ (c : Command) (old new : Keyed) (reply : Reply) (before after : Telling
   happened = grind (arith, is_without_memory-true, with-memory, a.refused, a.memory, a.done)
 
   -- THE REPLY IS THE GRAPH'S, for each graph that the heaps stand for, or want of memory
-  pub applied-replies : IsTrue (is_applied c) → (s : State) → StandsFor old.heap s.graph → AreListedFor c old.heap s.listed → RepliesWith s c reply
-  applied-replies applied s stands listed = go (refusal_of (objects_of old.heap) c) refl (is_without_memory reply) refl
+  pub applied-replies : (s : State) → StandsFor old.heap s.graph → AreListedFor c old.heap s.listed → RepliesWith s c reply
+  applied-replies s stands listed = go (refusal_of (objects_of old.heap) c) refl (is_without_memory reply) refl
     where
       alike : refusal_of (objects_of old.heap) c ≡ refusal_of (graph.objects_of s.graph) c
       alike = refusal_of-alike (objects_of old.heap) (graph.objects_of s.graph) (objects-stand old.heap s.graph stands) c
@@ -108,7 +94,7 @@ module _ (c : Command) (old new : Keyed) (reply : Reply) (before after : Telling
       go (Some r) e b f = inl ((a.refused r e).0 ∙ refusing (Some r) e)
       go None e true f =
           let without : reply ≡ Refused NoMemory = is_without_memory-true reply f in
-          inr (record { refused = without; command_may = takes-may_want old.heap s c stands listed applied (a.memory without).1; no_other = sym alike ∙ e })
+          inr (record { refused = without; command_may = takes-may_want old.heap s c stands listed (a.memory without).1; no_other = sym alike ∙ e })
       go None e false f = inl ((a.done e (with-memory reply f)).reply_is
           ∙ (reply_if_taken-alike (objects_of old.heap) (graph.objects_of s.graph) (objects-stand old.heap s.graph stands) c ∙ refusing None e))
 

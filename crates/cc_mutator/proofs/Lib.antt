@@ -2,7 +2,6 @@ pub mod ContentNames
 pub mod NativesRead
 pub mod ScriptsRead
 pub mod Exposing
-pub mod Refusing
 pub mod Reflecting
 pub mod Storing
 pub mod Carrying

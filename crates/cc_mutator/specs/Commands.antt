@@ -1,22 +1,45 @@
--- WHAT EACH KIND OF COMMAND COMES TO: it is refused, or it lacks memory, or it is carried out; and how contents are held.
+-- WHAT A COMMAND COMES TO: it is refused, or it lacks memory, or it is carried out; and how contents are held.
 use Rattle.std.specs.Prelude.{◌≡◌, ◌≢◌, true, false, Bool, ℕ, List, Option, Some, None}
+use Rattle.cc_names.specs.declared.name.Name.{Name}
 use Rattle.cc_names.specs.declared.number.SKey.{SKey}
 use Rattle.cc_model.specs.declared.command.Command.{Command}
 use Rattle.cc_model.specs.declared.item.Refusal.{Refusal}
 use Rattle.cc_model.specs.declared.item.Refusal.TheVariants.{NoMemory as no_memory}
 use Rattle.cc_model.specs.declared.item.Reply.{Reply}
-use Rattle.cc_model.specs.declared.item.Reply.TheVariants.{Refused}
-use Rattle.cc_model.specs.Telling.{Telling}
-use Rattle.cc_model.specs.Checks.{refusal_of}
+use Rattle.cc_model.specs.declared.item.Reply.TheVariants.{Refused, Named, Done}
+use Rattle.cc_model.specs.Telling.{Telling, TellsEvents}
+use Rattle.cc_model.specs.Checks.{named_or_nothing, refusal_of, reply_if_taken}
+use Rattle.cc_model.specs.Deeds.{Deed, deed_of}
 use Rattle.cc_model.specs.Heap.{objects_of}
-use Rattle.cc_model.specs.Effects.{takes_memory}
+use Rattle.cc_model.specs.Effects.{done_in, takes_memory}
 use Rattle.cc_counted.specs.declared.held.Held.{Held}
 use Rattle.cc_counted.specs.declared.held.Held.TheVariants as held
 use Rattle.cc_heaps.specs.Keyed.{Keyed, IsInOrder}
 use Rattle.cc_heaps.specs.Changes.{KeepsKeys}
 use Rattle.cc_mutator.specs.Applied.{IsCarriedOut}
 
--- a command is answered
+-- A DEED IS ANSWERED: it is done, and answered so; or, where it may lack memory, it does, and nothing changes.
+pub record IsAnswered (d : Deed) (answer : Reply) (may_lack : Bool) (old new : Keyed) (reply : Reply) (before after : Telling) : Type 0 where
+  pub answered : reply ≢ Refused no_memory → reply ≡ answer
+  pub heap : reply ≢ Refused no_memory → new.heap ≡ (done_in old.heap d).heap
+  pub told : reply ≢ Refused no_memory → TellsEvents before after (done_in old.heap d).events
+  pub memory : reply ≡ Refused no_memory → (may_lack ≡ true) × (new ≡ old) × (after ≡ before)
+  pub keys : KeepsKeys old new
+  pub order : (owned : List ℕ) → IsInOrder owned old → IsInOrder owned new
+
+-- a deed that takes no memory
+abbrev pub IsDone : Deed → Keyed → Keyed → Reply → Telling → Telling → Type 0
+IsDone d = IsAnswered d Done false
+
+-- one that is answered by what is held from then on, or was
+abbrev pub IsNamed : Deed → Option Name → Keyed → Keyed → Reply → Telling → Telling → Type 0
+IsNamed d x = IsAnswered d (named_or_nothing x) false
+
+-- the deed of a command
+abbrev pub IsTakenUp : Command → Keyed → Keyed → Reply → Telling → Telling → Type 0
+IsTakenUp c old = IsAnswered (deed_of (objects_of old.heap) c) (reply_if_taken (objects_of old.heap) c) (takes_memory old.heap c) old
+
+-- A COMMAND IS ANSWERED
 pub record IsApplied (c : Command) (old new : Keyed) (reply : Reply) (before after : Telling) : Type 0 where
   pub refused : (r : Refusal) → refusal_of (objects_of old.heap) c ≡ Some r → (reply ≡ Refused r) × (new ≡ old) × (after ≡ before)
   pub done : refusal_of (objects_of old.heap) c ≡ None → reply ≢ Refused no_memory → IsCarriedOut c old.heap new.heap reply before after

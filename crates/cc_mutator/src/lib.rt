@@ -10,6 +10,9 @@
 
 mod applying;
 mod checks;
+mod making;
+mod natives;
 mod reads;
+mod scripts;
 
 pub use applying::apply;

@@ -1,7 +1,7 @@
 //! What registers and slots hold, by keys and by names.
 ghost use Rattle.std.specs.Prelude.{◌≡◌, ◌<◌, ℕ, List, false, length, is_none, option_map};
 ghost use Rattle.cc_names.specs.declared.register.Reg.TheVariants.{N as n_register, S as s_register};
-ghost use Rattle.cc_model.specs.Checks.{named_or_nothing, slot_at, slots_at, value_at};
+ghost use Rattle.cc_model.specs.Checks.{named_or_nothing, native_of, slot_at, slots_at, value_at};
 ghost use Rattle.cc_model.specs.Heap.{objects_of, register, source};
 ghost use Rattle.cc_counted.specs.Counts.{held_of_native};
 ghost use Rattle.cc_heaps.specs.Keyed.{IsInOrder};
@@ -81,6 +81,16 @@ pub(crate) fn entry_value(heaps: &Heaps, m: RegNo, k: RegNo) -> Option<SKey>
     let the_map = heaps.script_reg(m)?;
     let key = heaps.script_reg(k)?;
     heaps.weak().get(the_map, key)
+}
+
+/// The native of the reflector in a script register. None where the register holds no reflector.
+pub(crate) fn native_behind(heaps: &Heaps, r: RegNo) -> Option<NKey>
+    requires { (owned : List ℕ) × IsInOrder owned heaps.now }
+    ensures name { native_name heaps.now result ≡ native_of (register heaps.now.heap (s_register r)) }
+    ensures there { IsNativeThere heaps.now result }
+{
+    let object = heaps.script_reg(r)?;
+    cc_wrappers::unwrap_of(heaps, object)
 }
 
 /// A content of a script register, as a slot of a native holds it.

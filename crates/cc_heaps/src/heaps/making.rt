@@ -1,5 +1,5 @@
 //! Natives made.
-ghost use Rattle.std.specs.Prelude.{◌≡◌, ◌+◌, ◌<◌, ◌≤◌, ℕ, List, ◌∷◌, Some, Err, IfOk, OnOk, OnErr};
+ghost use Rattle.std.specs.Prelude.{◌≡◌, ◌+◌, ◌<◌, ◌≤◌, ℕ, List, ◌∷◌, Some, Err, IfOk, OnOk, OnErr, nat_le};
 ghost use Rattle.cc_names.specs.Names.{native};
 ghost use Rattle.cc_names.specs.Sizes.{bank_length, most_slots};
 ghost use Rattle.cc_model.specs.Effects.{make_native, with_native};
@@ -36,6 +36,13 @@ impl Heaps {
         let key = self.counted.create(number, slots)?;
         self.natives_made += 1;
         Ok(key)
+    }
+
+    /// Whether as many natives as the limit were ever made.
+    pub fn has_all_natives(&self) -> bool
+        ensures { result ≡ nat_le self.now.heap.limits.natives self.now.heap.natives_made }
+    {
+        self.natives_made >= self.limits.natives()
     }
 
     /// Makes a native with `slots` empty slots (0 to 256), which register `r` holds from then on. Its name.

@@ -1,5 +1,5 @@
 //! Script objects made, held, written and exposed.
-ghost use Rattle.std.specs.Prelude.{◌≡◌, ◌+◌, ◌<◌, ◌≤◌, ◌++◌, ◌∷◌, ℕ, List, [], false, length, Some, Err, IsTrue, IfOk, IfSome, OnOk, OnErr};
+ghost use Rattle.std.specs.Prelude.{◌≡◌, ◌+◌, ◌<◌, ◌≤◌, ◌++◌, ◌∷◌, ℕ, List, [], false, length, Some, Err, IsTrue, IfOk, IfSome, OnOk, OnErr, nat_le};
 ghost use Rattle.cc_names.specs.declared.kind.Colour.TheVariants.{Black};
 ghost use Rattle.cc_names.specs.declared.kind.Kind.TheVariants.{Map, Plain};
 ghost use Rattle.cc_names.specs.declared.register.Reg.TheVariants.{S as s_register};
@@ -127,6 +127,13 @@ impl Heaps {
             }
             Err(NoMemory) => Err(MakeStop::NoMemory),
         }
+    }
+
+    /// Whether as many plain objects, weak maps and proxies as the limit were ever made.
+    pub fn has_all_scripts(&self) -> bool
+        ensures { result ≡ nat_le self.now.heap.limits.scripts self.now.heap.scripts_made }
+    {
+        self.scripts_made >= self.limits.scripts()
     }
 
     /// Makes a plain script object with `slots` empty slots (0 to 256), which register `r` holds from then on. Its name.

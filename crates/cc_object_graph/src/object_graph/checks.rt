@@ -1,46 +1,8 @@
 //! What the checks of a command read of the graph.
-ghost use Rattle.std.specs.Prelude.{◌≡◌};
-ghost use Rattle.cc_model.specs.Checks.{is_native_there, is_reflector_there, is_script_there};
 
 use crate::object_graph::ObjectGraph;
 use cc_model::Reads;
 use cc_names::{Name, Reg, RegNo};
-
-/// Whether a content is a native.
-fn is_native(content: Option<Name>) -> bool
-    ensures { result ≡ is_native_there content }
-{
-    match content {
-        Some(Name::Native(_)) => true,
-        Some(Name::Script(_)) => false,
-        Some(Name::Reflector(_)) => false,
-        None => false,
-    }
-}
-
-/// Whether a content is a script object.
-fn is_script(content: Option<Name>) -> bool
-    ensures { result ≡ is_script_there content }
-{
-    match content {
-        Some(Name::Native(_)) => false,
-        Some(Name::Script(_)) => true,
-        Some(Name::Reflector(_)) => true,
-        None => false,
-    }
-}
-
-/// Whether a content is a reflector.
-fn is_reflector(content: Option<Name>) -> bool
-    ensures { result ≡ is_reflector_there content }
-{
-    match content {
-        Some(Name::Native(_)) => false,
-        Some(Name::Script(_)) => false,
-        Some(Name::Reflector(_)) => true,
-        None => false,
-    }
-}
 
 impl Reads for ObjectGraph {
     ghost use Rattle.cc_model.specs.Graph.{objects_of};
@@ -61,7 +23,7 @@ impl Reads for ObjectGraph {
     }
 
     fn is_reflector(&self, at: RegNo) -> bool {
-        is_reflector(self.register(Reg::S(at)))
+        matches!(self.register(Reg::S(at)), Some(Name::Reflector(_)))
     }
 
     fn slot_count(&self, at: Reg) -> usize {
@@ -69,11 +31,11 @@ impl Reads for ObjectGraph {
     }
 
     fn holds_native(&self, at: RegNo, i: u32) -> bool {
-        is_native(self.slot_at(Reg::N(at), i))
+        matches!(self.slot_at(Reg::N(at), i), Some(Name::Native(_)))
     }
 
     fn holds_script(&self, at: RegNo, i: u32) -> bool {
-        is_script(self.slot_at(Reg::N(at), i))
+        matches!(self.slot_at(Reg::N(at), i), Some(Name::Script(_) | Name::Reflector(_)))
     }
 
     fn has_all_natives(&self) -> bool {

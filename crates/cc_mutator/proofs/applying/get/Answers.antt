@@ -1,4 +1,0 @@
-use Rattle.cc_mutator.proofs.applying.get.Goals as goal
-
-pub returns-in-S : goal.returns-in-S
-returns-in-S g c = rw c.in-S.is (c.get_script.ensures _)

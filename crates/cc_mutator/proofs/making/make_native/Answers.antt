@@ -1,0 +1,18 @@
+use Rattle.std.proofs.Common.{true, None, Some, refl, sym, ◌∙◌, ap}
+use Rattle.cc_names.specs.declared.kind.Kind.TheVariants.{Plain, Map}
+use Rattle.cc_names.specs.declared.register.Reg.TheVariants.{S}
+use Rattle.cc_model.specs.declared.item.Refusal.TheVariants.{NoMemory}
+use Rattle.cc_model.specs.declared.item.Reply.TheVariants.{Named}
+use Rattle.cc_model.specs.Effects.{done_in, make_object, make_proxy}
+use Rattle.cc_model.specs.Heap.{register}
+use Rattle.cc_mutator.proofs.Carrying.{answered-denied, answered-done, answered-silently, name-not_refused}
+use Rattle.cc_mutator.proofs.making.make_native.Goals as goal
+
+pub returns-in-Ok : goal.returns-in-Ok
+unfolding done_in
+returns-in-Ok g c = 
+    let e = c.in-Ok.ensures in
+    answered-done _ _ _ _ _ _ _ true (ap (λ x. Named x) e.name) (name-not_refused _ NoMemory) e.heap e.told e.kept.keys e.kept.order
+
+pub returns-in-Err-NoMemory : goal.returns-in-Err-NoMemory
+returns-in-Err-NoMemory g c =  let e = c.in-Err-NoMemory.ensures in answered-denied _ _ _ _ _ _ _ true refl refl e.same e.silent

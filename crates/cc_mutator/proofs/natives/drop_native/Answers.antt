@@ -1,0 +1,11 @@
+use Rattle.std.proofs.Common.{None, refl}
+use Rattle.cc_model.specs.declared.item.Refusal.TheVariants.{NoMemory}
+use Rattle.cc_model.specs.Effects.{done_in, hold_native}
+use Rattle.cc_mutator.proofs.Carrying.{answered-left, done-not_refused}
+use Rattle.cc_mutator.proofs.natives.drop_native.Goals as goal
+
+pub returns : goal.returns
+unfolding done_in
+returns g c =
+    let e = c.set_native_reg.ensures in
+    answered-left _ _ _ _ _ _ _ (hold_native c.args.heaps.now.heap c.args.d None) refl refl (done-not_refused NoMemory) e.heap e.told e.kept.order

@@ -1,0 +1,6 @@
+use Rattle.cc_model.specs.Deeds.{script_held}
+use Rattle.cc_mutator.proofs.Carrying.{named-as}
+use Rattle.cc_mutator.proofs.scripts.take.Goals as goal
+
+pub returns : goal.returns
+returns c = λ t. named-as (script_held c.args.d) _ _ _ _ _ _ _ c.script_content-content.ensures.name (c.hold.ensures t)
