@@ -3,9 +3,8 @@ use Rattle.std.proofs.Common.{◌≡◌, ◌<◌, ℕ, List, [], ◌∷◌, ◌+
 use Rattle.std.proofs.Math.ListN.{set}
 use Rattle.std.proofs.lemmas.List.{length-set}
 use Rattle.cc_names.specs.Names.{native}
-use Rattle.cc_model.specs.declared.item.Event.{Event}
 use Rattle.cc_model.specs.Telling.{Telling}
-use Rattle.cc_model.specs.Heap.{Heap, HeapNative, Outcome, silently, change_native, with_native_slot, outcome_of}
+use Rattle.cc_model.specs.Heap.{Heap, HeapNative, silently, change_native, with_native_slot, outcome_of}
 use Rattle.cc_model.specs.Cascade.{Draining, give_up, drain, at_rest, drained, cascade, draining_at}
 use Rattle.cc_model.specs.End.{empty_slot}
 use Rattle.cc_model.proofs.Tellings.{Tells-nil}

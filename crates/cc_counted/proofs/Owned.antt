@@ -13,7 +13,7 @@ use Rattle.cc_lists.proofs.Numbers.{at-each}
 use Rattle.cc_names.specs.declared.number.NKey.{NKey}
 use Rattle.cc_names.specs.Names.{native, same_name, number_of}
 use Rattle.cc_names.proofs.NameTests.{same_name-true}
-use Rattle.cc_model.specs.Slots.{contents, empty_slots}
+use Rattle.cc_model.specs.Slots.{contents}
 use Rattle.cc_model.specs.Heap.{Heap, HeapNative, Buffered, native_at, set_preserved, with_mark, buffered_as, new_native}
 use Rattle.cc_model.specs.Cascade.{add_ref, at_rest}
 use Rattle.cc_model.specs.WellFormed.{native_names}

@@ -1,5 +1,5 @@
 -- THE PARTS OF A COUNTED HEAP AS LISTS, by keys, and what they show by numbers.
-use Rattle.std.specs.Prelude.{◌≡◌, ◌⊎◌, ℕ, ◌+◌, ◌-◌, ◌≤◌, ◌==◌, Bool, true, false, List, [], ◌++◌, length, ◌∷◌, map, flat_map, Option, Some, None, option_map, option_and_then, slice_index_or, slice_set}
+use Rattle.std.specs.Prelude.{◌≡◌, ◌⊎◌, ℕ, ◌+◌, ◌-◌, ◌≤◌, ◌==◌, Bool, true, false, List, [], ◌++◌, length, replicate, ◌∷◌, map, flat_map, Option, Some, None, option_map, option_and_then, slice_index_or, slice_set}
 use Rattle.cc_lists.specs.Members.{Among, without}
 use Rattle.cc_names.specs.Sizes.{most_slots}
 use Rattle.cc_model.specs.declared.item.Event.{Event}
@@ -18,6 +18,10 @@ pub record Placed : Type 0 where
   pub preserved : Bool
   pub reflector : Option ℕ
   pub count : ℕ
+
+-- a native as it is made, with n empty slots
+abbrev pub new_placed : ℕ → ℕ → Placed
+new_placed number n = record { number = number; slots = replicate n None; preserved = false; reflector = None; count = 1 }
 
 -- the natives by key, their keys by rising number, the keys that wait to be deleted, and the marked keys of the buffer
 pub record Lists : Type 0 where

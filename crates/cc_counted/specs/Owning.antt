@@ -2,7 +2,6 @@
 use Rattle.std.specs.Prelude.{◌≡◌, ◌≢◌, ℕ, ◌+◌, ◌≤◌, ◌==◌, false, List, [], ◌∷◌, ◌++◌, length, map, count_by, Some, None}
 use Rattle.cc_lists.specs.Members.{Among}
 use Rattle.cc_names.specs.Names.{native, same_name}
-use Rattle.cc_model.specs.Slots.{empty_slots}
 use Rattle.cc_model.specs.Heap.{HeapNative, Buffered, with_mark, new_native}
 use Rattle.cc_model.specs.WellFormed.{IsRising, native_names}
 use Rattle.cc_model.specs.Counts.{slots_of_natives, times}

@@ -7,7 +7,7 @@ ghost use Rattle.cc_chain.specs.Chains.{behind};
 ghost use Rattle.cc_holders.specs.Entries.{count_of};
 ghost use Rattle.cc_holders.specs.Known.{entry_at};
 ghost use Rattle.cc_purple.specs.Marks.{Marked, marked_as, first_key, holds_key, is_purple, key_after, with_mark, without_key};
-ghost use Rattle.cc_counted.specs.Lists.{Placed, cell_at, count_placed, slots_placed, with_one_less, with_one_more, with_slot, with_flag, reflected_by};
+ghost use Rattle.cc_counted.specs.Lists.{Placed, new_placed, cell_at, count_placed, slots_placed, with_one_less, with_one_more, with_slot, with_flag, reflected_by};
 ghost use Rattle.cc_counted.specs.Stored.{Inserts, with_cell, with_queue, with_marks, without_cell};
 ghost use Rattle.cc_counted.specs.Scripts.{IsNextPlaced, HasNonePlaced, is_script, recounted, refers_by_reflector};
 
@@ -184,7 +184,7 @@ impl Natives {
         requires slots { slots ≤ most_slots }
         requires fresh { (key : ℕ) (c : Placed) → cell_at self.old.lists.cells key ≡ Some c → c.number ≢ no.0 }
         ensures inserts { IfOk result (λ key. Inserts self.old.lists self.new.lists key.0
-            (record { number = no.0; slots = replicate slots None; preserved = false; reflector = None; count = 1 })) }
+            (new_placed no.0 slots)) }
         ensures err { OnErr result (self.new.lists ≡ self.old.lists) }
     {
         let empty = empty_slots(alloc, slots)?;

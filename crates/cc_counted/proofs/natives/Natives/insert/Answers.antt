@@ -5,7 +5,7 @@ use Rattle.slab.specs.Slab.{Slab, Updates, get}
 use Rattle.cc_chain.specs.declared.link.Link.{Link}
 use Rattle.cc_counted.specs.declared.held.Held.{Held}
 use Rattle.cc_counted.specs.declared.node.Node.{Node}
-use Rattle.cc_counted.specs.Lists.{Placed, cell_at}
+use Rattle.cc_counted.specs.Lists.{Placed, new_placed, cell_at}
 use Rattle.cc_counted.specs.Scripts.{is_script, scripts_of}
 use Rattle.cc_counted.specs.Stored.{Stored, Inserts}
 use Rattle.cc_counted.specs.Natives.{lists_of}
@@ -26,7 +26,7 @@ updates-at : (t u : Slab Node) (answered key : ℕ) (node : Option Node) → ans
 updates-at t u answered key node same updates = subst (λ k. Updates t u k node) same updates
 
 -- its slots are few, and hold none
-holds-none : (number n : ℕ) (slots : List (Option Held)) → slots ≡ replicate n None → scripts_of (record { number = number; slots = slots; preserved = false; reflector = None; count = 1 }) ≡ 0
+holds-none : (number n : ℕ) (slots : List (Option Held)) → slots ≡ replicate n None → scripts_of (record (new_placed number n) { slots = slots }) ≡ 0
 holds-none number n slots e = let empty = ap (count_by is_script) e ∙ scripts-empty n in omega (arith, empty)
 
 few-slots : (n : ℕ) (slots : List (Option Held)) → slots ≡ replicate n None → n ≤ most_slots → length slots ≤ most_slots
@@ -77,7 +77,7 @@ returns-clause-inserts c =
     let made = updates-at c.reserve.new.self c.insert_reserved.new.self c.insert_reserved.result c.in_ok-key.key _ same c.insert_reserved.ensures.updates in
     let there = made.changed ∙ ap Some (bare _ c.of.result c.of-2.result c.of-3.result c.of.ensures c.of-2.ensures c.of-3.ensures) in
     let P : List (Option Held) → Type 0 = λ slots. Inserts c.args.self.now.lists (lists_of (inserted n c.push_back.new.store c.push_back.new.self c.add.new.self)) c.in_ok-key.key
-    (record { number = c.args.no.0; slots = slots; preserved = false; reflector = None; count = 1 }) in
+    (record (new_placed c.args.no.0 c.args.slots) { slots = slots }) in
     subst P c.in_ok-empty.ensures.items
     (inserts n c.self.invariant c.reserve.new.self c.insert_reserved.new.self c.reserve.ensures.rest_kept c.in_ok-key.key _
     vacant there made.others c.push_back.new.store c.push_back.new.self c.add.new.self c.push_back.ensures.rest
