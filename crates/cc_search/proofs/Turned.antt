@@ -1,6 +1,6 @@
 -- TURNS OF THE SEARCH over registers and over places: what is searched stays, and what is left to be done after each.
 use Rattle.std.specs.Prelude.{slice_index_or, IfSome, IsSome}
-use Rattle.std.proofs.Common.{◌≡◌, ℕ, ◌+◌, ◌<◌, ◌≤◌, length, drop, Option, Some, None, option_map, option_and_then, is_some, refl, sym, ◌∙◌, ap}
+use Rattle.std.proofs.Common.{◌≡◌, ℕ, ◌+◌, ◌<◌, ◌≤◌, length, drop, Option, Some, None, option_and_then, is_some, refl, sym, ◌∙◌, ap}
 use Rattle.cc_names.specs.declared.name.Name.{Name}
 use Rattle.cc_names.specs.declared.register.Reg.{Reg}
 use Rattle.cc_model.specs.declared.item.Reason.TheVariants.{Root, Edge}

@@ -90,11 +90,7 @@ impl<'a, L: Leads> Search<'a, L> {
     }
 
     /// What a register or a place holds is found, where it is not yet, for a reason.
-    fn add_content(
-        &mut self,
-        content: Option<L::Object>,
-        reason: Reason,
-    ) -> Result<(), NoMemory>
+    fn add_content(&mut self, content: Option<L::Object>, reason: Reason) -> Result<(), NoMemory>
         requires { IfSome content (λ o. IsSome (L.name_of self.old.0 o)) }
         ensures added { OnOk result (self.new ≡ (self.old.0, with_content self.old.1 (option_and_then (L.name_of self.old.0) content) reason)) }
         ensures same { OnErr result (self.new ≡ self.old) }
@@ -182,11 +178,7 @@ impl<'a, L: Leads> Search<'a, L> {
 
     /// What the entries give of which an object is the map, the key or the key's delegate, in their order. `entries` is room for
     /// their places.
-    fn add_entries(
-        &mut self,
-        object: L::Object,
-        entries: &mut Vec<usize>,
-    ) -> Result<(), NoMemory>
+    fn add_entries(&mut self, object: L::Object, entries: &mut Vec<usize>) -> Result<(), NoMemory>
         requires { IsSome (L.name_of self.old.0 object) }
         ensures { OnOk result ((x : TheName) → L.name_of self.old.0 object ≡ Some x → self.new ≡ (self.old.0, with_entries x (L.leads self.old.0).entries self.old.1)) }
     {

@@ -3,8 +3,7 @@ use Rattle.std.specs.Prelude.{if◌then◌else◌}
 use Rattle.std.proofs.lemmas.Grind.{common_steps}
 use Rattle.cc_names.specs.Names.{same_name}
 use Rattle.cc_pages.specs.ByName.{place_of}
-use Rattle.cc_search.specs.Found.{walk_by}
-use Rattle.cc_search.proofs.Kept.{IsPut, kept-absent, kept-added, kept-alike, kept-walk}
+use Rattle.cc_search.proofs.Kept.{IsPut, kept-absent, kept-added}
 use Rattle.cc_search.proofs.found.Found.add.Goals as goal
 
 pub invariant_of-self-2 : goal.invariant_of-self-2

@@ -1,8 +1,7 @@
-use Rattle.std.proofs.Common.{◌≡◌, sym, ◌∙◌, ap, subst}
-use Rattle.cc_model.specs.Derivations.{Walk, with_bank, with_object}
+use Rattle.std.proofs.Common.{◌≡◌, sym, ◌∙◌, ap}
+use Rattle.cc_model.specs.Derivations.{with_bank, with_object}
 use Rattle.cc_search.specs.Banks.{reg_in}
-use Rattle.cc_search.specs.declared.bank.Bank.TheVariants.{Natives, Scripts}
-use Rattle.cc_search.specs.Search.{IsNext}
+use Rattle.cc_search.specs.declared.bank.Bank.TheVariants.{Scripts}
 use Rattle.cc_search.proofs.Searched.{search-found, search-idle, searching-smaller, searching-starts, searching-turn}
 use Rattle.cc_search.proofs.search.Search.run.Goals as goal
 
