@@ -1,5 +1,5 @@
 -- WHAT A COMMAND READS from the registers, slots and entries of a well made graph was made.
-use Rattle.std.proofs.Common.{arith, ◌≡◌, ℕ, false, get_or, Option, Some, None, option_map}
+use Rattle.std.proofs.Common.{arith, ◌≡◌, ℕ, false, get_or, Option, Some, None}
 use Rattle.std.specs.Prelude.{IsTrue}
 use Rattle.std.specs.Option.{option_and_then}
 use Rattle.std.proofs.lemmas.Bool.{and_parts}
@@ -54,10 +54,6 @@ module _ (g : Graph) (w : IsWellMade g) where
   -- what a source gives
   pub source-made : (r : Option Reg) → OfSome (Made g) (source g r)
   source-made r = grind (arith, register-made)
-
-  -- what a script source gives
-  pub script_source-made : (s : Option ℕ) → OfSome (MadeScript g) (source g (option_map S s))
-  script_source-made s = grind (arith, script_register-made)
 
   -- what a plain object has in its slots
   script_contents-made : (k : ℕ) (x : Name) → Among x (contents (slots_or_none (option_and_then slots_of_script (script_in g k)))) → MadeScript g x

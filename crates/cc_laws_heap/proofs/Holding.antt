@@ -71,13 +71,9 @@ register-there : (h : Heap) (r : Reg) → IsWellFormed h → IsIn (names_there h
 register-there h (N d) w = IsIn-natives h (register h (N d)) (native_register-there h d w)
 register-there h (S d) w = IsIn-scripts h (register h (S d)) (script_register-there h d w)
 
--- and so does a source, where it is none or a register
+-- what a source gives is there, where it is none or a register
 pub source-there : (h : Heap) (r : Option Reg) → IsWellFormed h → IsIn (names_there h) (source h r)
 source-there h r w = grind (arith, register-there)
-
--- or none or a script register
-pub script_source-there : (h : Heap) (s : Option ℕ) → IsWellFormed h → IsIn (script_names h) (source h (option_map S s))
-script_source-there h s w = grind (arith, script_register-there)
 
 -- Slots
 

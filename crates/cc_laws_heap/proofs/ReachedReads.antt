@@ -7,7 +7,6 @@ use Rattle.cc_lists.proofs.Members.{Among-left, Among-right}
 use Rattle.cc_names.specs.declared.name.Name.{Name}
 use Rattle.cc_names.specs.declared.name.Name.TheVariants as name
 use Rattle.cc_names.specs.declared.register.Reg.{Reg}
-use Rattle.cc_names.specs.declared.register.Reg.TheVariants.{S}
 use Rattle.cc_names.specs.Names.{native, reflector}
 use Rattle.cc_model.specs.Slots.{Slots, contents}
 use Rattle.cc_model.specs.Entries.{value_in}
@@ -43,11 +42,6 @@ module _ (g : Graph) where
   -- what a source gives
   pub source-reached : (r : Option Reg) → OfSome (Reached g) (source g r)
   source-reached r = grind (arith, register-reached)
-
-  -- what a script source gives
-  pub script_source-reached : (s : Option ℕ) → OfSome (Reached g) (source g (option_map S s))
-  script_source-reached None = tt
-  script_source-reached (Some d) = register-reached (S d)
 
   -- what a slot of what a register holds has
   pub slot_at-reached : (r : Reg) (i : ℕ) → OfSome (Reached g) (slot_at (objects_of g) r i)

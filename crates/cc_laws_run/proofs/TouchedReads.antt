@@ -73,15 +73,6 @@ module _ (ds : List Name) (h : Heap) (d : IsApart ds h) where
   pub register-untouched : (r : Reg) → IsUntouched ds (register h r)
   register-untouched r y m i = grind (arith, Among-left, contents-at, Among-right)
 
-  -- nor is a source, where it is none or a register
-  pub source-untouched : (r : Option Reg) → IsUntouched ds (source h r)
-  source-untouched r y m i = grind (arith, register-untouched)
-
-  -- or none or a script register
-  pub script_source-untouched : (r : Option ℕ) → IsUntouched ds (source h (option_map S r))
-  script_source-untouched None y m i = m
-  script_source-untouched (Some r) y m i = register-untouched (S r) y m i
-
   -- a script object that has a member in a slot is one
   found-holder : (x : Name) → (o : Option HeapScript) → script_at h x ≡ o → (y : Name) →
       Among y (contents (slots_or_none (option_and_then slots_of_script o))) → Among y ds → Among x ds
