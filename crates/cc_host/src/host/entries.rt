@@ -5,9 +5,9 @@ ghost use Rattle.cc_host.specs.Calls.{Does, NoneComes, Tries};
 ghost use Rattle.cc_host.specs.Hosted.{IsRooted};
 ghost use Rattle.cc_host.specs.Stops.{IsStoppedBy, IsStoppedOrRefused, stop_entry, stop_setting};
 
+use crate::changes;
 use crate::host::Host;
 use crate::object::Object;
-use crate::changes;
 use crate::stop::Stop;
 
 impl Host {

@@ -11,9 +11,9 @@ ghost use Rattle.cc_host.specs.Calls.{Always, Comes, Does, NoneComes, TellsFreed
 ghost use Rattle.cc_host.specs.Hosted.{IsRooted, IsThere};
 ghost use Rattle.cc_host.specs.Stops.{IsStoppedOrRefused, are_natives_made, are_scripts_made, stop_making, stop_proxy};
 
+use crate::changes::{make_map, make_native, make_plain, make_proxy};
 use crate::host::{Host, ROOTS};
 use crate::object::Object;
-use crate::changes::{make_map, make_native, make_plain, make_proxy};
 use crate::stop::Stop;
 use cc_model::Notices;
 use cc_names::{MOST_SLOTS, RegNo, SlotNo};

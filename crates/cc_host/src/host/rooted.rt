@@ -16,9 +16,9 @@ ghost use Rattle.cc_host.specs.Hosted.{IsRootedIfAny, IsThere, IsThereIfAny, nam
 ghost use Rattle.cc_host.specs.Paths.{hung, native_below, native_in_slot, slots_below};
 ghost use Rattle.cc_host.specs.Stops.{IsStoppedBy, IsStoppedOrRefused, stop_free_below_root, stop_making_below_root, stop_storing_at_root, stop_storing_below_root};
 
+use crate::changes;
 use crate::host::{Host, ROOTS};
 use crate::object::Object;
-use crate::changes;
 use crate::stop::Stop;
 use cc_counted::native_held;
 use cc_model::Notices;

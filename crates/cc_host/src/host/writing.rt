@@ -11,9 +11,9 @@ ghost use Rattle.cc_host.specs.Calls.{Comes, Does, NoneComes, TellsFreed, Tries,
 ghost use Rattle.cc_host.specs.Hosted.{IsRooted, IsRootedIfAny, IsThere, named};
 ghost use Rattle.cc_host.specs.Stops.{IsStoppedBy, IsStoppedOrRefused, stop_moving, stop_native, stop_reflector, stop_rooting, stop_script, stop_storing};
 
+use crate::changes;
 use crate::host::{Host, ROOTS};
 use crate::object::Object;
-use crate::changes;
 use crate::stop::Stop;
 use cc_model::Notices;
 use cc_names::{Name, RegNo, SlotNo};

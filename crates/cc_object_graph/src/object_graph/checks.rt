@@ -35,7 +35,10 @@ impl Reads for ObjectGraph {
     }
 
     fn holds_script(&self, at: RegNo, i: u32) -> bool {
-        matches!(self.slot_at(Reg::N(at), i), Some(Name::Script(_) | Name::Reflector(_)))
+        matches!(
+            self.slot_at(Reg::N(at), i),
+            Some(Name::Script(_) | Name::Reflector(_))
+        )
     }
 
     fn has_all_natives(&self) -> bool {
