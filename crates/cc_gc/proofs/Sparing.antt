@@ -11,7 +11,7 @@ use Rattle.cc_model.specs.Entries.{Entry, joints, rules_of}
 use Rattle.cc_model.specs.Heap.{Heap, HeapNative, HeapScript}
 use Rattle.cc_model.specs.View.{view, ReachedIn}
 use Rattle.cc_model.specs.WellFormed.{IsWellFormed, names_there}
-use Rattle.cc_model.specs.StandsFor.{Shape, native_shape, shape_at, shape_of_held_script}
+use Rattle.cc_model.specs.StandsFor.{Shape, native_shape, shape_at, shape_of_held_script, shape_of_held_native}
 use Rattle.cc_model.proofs.Joints.{derive-joint, derived-by_joints, gives-joint, joint-cases}
 use Rattle.cc_laws_heap.proofs.Face.{IsOf, shape_at-native, shape_at-script}
 use Rattle.cc_laws_snapshot.proofs.Face.{reached-there}
