@@ -6,6 +6,16 @@ use crate::script::{Example, are_answered};
 use cc_replay::Status;
 
 const EXAMPLES: [Example; 20] = [
+    // How a register reaches a native, and that none does once the register lets go.
+    Example {
+        name: "steps_from_a_register",
+        natives: 1000000,
+        scripts: 1000000,
+        bytes: 4294967295,
+        input: b"version 2\nnative n0 1\nnative n1 0\nset n0 0 n1\ndrop n1\nwhy #2\ndrop n0\nwhy #2\n",
+        output: b"= ok\n= #1\n= #2\n= ok\n= ok\n: #1 n0\n: #2 #1\n= ok\n- free #1\n- free #2\n= ok\n= none\n",
+        status: Status::Done,
+    },
     // A value follows from its map and its key, and a name that was never made follows from nothing.
     Example {
         name: "steps_to_a_value",
@@ -194,16 +204,6 @@ const EXAMPLES: [Example; 20] = [
         bytes: 4294967295,
         input: b"version 2\nweakmap s0\nscript s1 0\nproxy s2 s1\nproxy s3 s2\nscript s4 0\nwset s0 s3 s4\nwset s0 s2 s0\ndrop s2\ndrop s3\ndrop s4\nwhy @5\n",
         output: b"= ok\n= @1\n= @2\n= @3\n= @4\n= @5\n= ok\n= ok\n= ok\n= ok\n= ok\n: @1 s0\n: @2 s1\n: @3 @1 @2\n: @4 @1 @3\n: @5 @1 @4\n= ok\n",
-        status: Status::Done,
-    },
-    // A map that is its own key, or for which its key stands, is told once and named twice.
-    Example {
-        name: "map_is_key_and_delegate",
-        natives: 1000000,
-        scripts: 1000000,
-        bytes: 4294967295,
-        input: b"version 2\nweakmap s0\nscript s1 0\nwset s0 s0 s1\nproxy s2 s0\nscript s3 0\nwset s0 s2 s3\ndrop s1\ndrop s2\ndrop s3\nwhy @1\nwhy @2\nwhy @3\nwhy @4\n",
-        output: b"= ok\n= @1\n= @2\n= ok\n= @3\n= @4\n= ok\n= ok\n= ok\n= ok\n: @1 s0\n= ok\n: @1 s0\n: @2 @1 @1\n= ok\n: @1 s0\n: @3 @1 @1\n= ok\n: @1 s0\n: @3 @1 @1\n: @4 @1 @3\n= ok\n",
         status: Status::Done,
     },
 ];

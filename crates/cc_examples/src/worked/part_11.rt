@@ -5,7 +5,17 @@
 use crate::script::{Example, are_answered};
 use cc_replay::Status;
 
-const EXAMPLES: [Example; 18] = [
+const EXAMPLES: [Example; 19] = [
+    // A map that is its own key, or for which its key stands, is told once and named twice.
+    Example {
+        name: "map_is_key_and_delegate",
+        natives: 1000000,
+        scripts: 1000000,
+        bytes: 4294967295,
+        input: b"version 2\nweakmap s0\nscript s1 0\nwset s0 s0 s1\nproxy s2 s0\nscript s3 0\nwset s0 s2 s3\ndrop s1\ndrop s2\ndrop s3\nwhy @1\nwhy @2\nwhy @3\nwhy @4\n",
+        output: b"= ok\n= @1\n= @2\n= ok\n= @3\n= @4\n= ok\n= ok\n= ok\n= ok\n: @1 s0\n= ok\n: @1 s0\n: @2 @1 @1\n= ok\n: @1 s0\n: @3 @1 @1\n= ok\n: @1 s0\n: @3 @1 @1\n: @4 @1 @3\n= ok\n",
+        status: Status::Done,
+    },
     // Neither a value alone leads to its key, nor a key to its map, nor a map alone to anything.
     Example {
         name: "entry_does_not_lead_back",

@@ -126,6 +126,16 @@ const EXAMPLES: [Example; 20] = [
         output: b"= @1\n= @2\n= @3\n= ok\n= @2\n= ok\n= ok\n= ok\n- free @3\n= ok\n= @4\n= ok\n= ok\n= ok\n= ok\n- free @1\n- free @4\n= ok\n",
         status: Status::Done,
     },
+    // An entry of a proxy that is set again keeps its delegate: key and new value live by map and delegate, and go with the delegate.
+    Example {
+        name: "entry_of_a_proxy_key_is_set_again",
+        natives: 1000000,
+        scripts: 1000000,
+        bytes: 4294967295,
+        input: b"weakmap s0\nscript s1 0\nproxy s2 s1\nscript s3 0\nscript s4 0\nwset s0 s2 s3\nwset s0 s2 s4\ndrop s2\ndrop s3\ndrop s4\ngc\ncensus\ndrop s1\ngc\ncensus\n",
+        output: b"= @1\n= @2\n= @3\n= @4\n= @5\n= ok\n= ok\n= ok\n= ok\n= ok\n- free @4\n= ok\n+ @1\n+ @2\n+ @3\n+ @5\n= census 4\n= ok\n- free @2\n- free @3\n- free @5\n= ok\n+ @1\n= census 1\n",
+        status: Status::Done,
+    },
     // A proxy that is a value lives by map and key alone.
     Example {
         name: "proxy_is_a_value",
@@ -194,16 +204,6 @@ const EXAMPLES: [Example; 20] = [
         bytes: 4294967295,
         input: b"native n0 1\nwrap s1 n0\nweakmap s0\nscript s3 1\nput s3 0 s1\npreserve s1\nset n0 0 n0\ndrop s1\ndrop s3\ngc\nslice 1\nwrap s1 n0\nscript s3 1\nput s3 0 s1\nproxy s2 s1\nwset s0 s2 s3\ndrop n0\ndrop s1\ndrop s2\ndrop s3\nslice 99\ngc\ncollect\ngc\ncensus\n",
         output: b"= #1\n= ~1\n= @1\n= @2\n= ok\n= ok\n= ok\n= ok\n= ok\n- free @2\n= ok\n= ok\n= ~1\n= @3\n= ok\n= @4\n= ok\n= ok\n= ok\n= ok\n= ok\n= ok\n= ok\n- unlink #1\n= ok\n- free ~1\n- free #1\n- free @3\n- free @4\n= ok\n+ @1\n= census 1\n",
-        status: Status::Done,
-    },
-    // A delegate of which an entry tells is looked at before the key, and the key before the value: what the delegate holds is noted before script touches it, and what the value holds is black by then, so there are eight units.
-    Example {
-        name: "delegate_comes_before_its_key",
-        natives: 1000000,
-        scripts: 1000000,
-        bytes: 4294967295,
-        input: b"native n0 2\nweakmap s0\nscript s1 1\nproxy s2 s1\nscript s3 1\nscript s4 0\nscript s5 0\nput s1 0 s4\nput s3 0 s5\nset n0 0 s1\nset n0 1 s3\nwset s0 s2 s3\ndrop s1\ndrop s2\ndrop s3\ndrop s4\ndrop s5\nnative n1 1\nset n1 0 n1\ndrop n1\ngc\nslice 4\nexpose n0 0\nslice 1\nexpose n0 1\nslice 1\nslice 1\nslice 1\n",
-        output: b"= #1\n= @1\n= @2\n= @3\n= @4\n= @5\n= @6\n= ok\n= ok\n= ok\n= ok\n= ok\n= ok\n= ok\n= ok\n= ok\n= ok\n= #2\n= ok\n= ok\n= ok\n= ok\n= @2\n= ok\n= @4\n= ok\n= ok\n- unlink #2\n- free #2\n= ok\n",
         status: Status::Done,
     },
 ];

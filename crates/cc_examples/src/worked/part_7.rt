@@ -6,6 +6,16 @@ use crate::script::{Example, are_answered};
 use cc_replay::Status;
 
 const EXAMPLES: [Example; 20] = [
+    // A delegate of which an entry tells is looked at before the key, and the key before the value: what the delegate holds is noted before script touches it, and what the value holds is black by then, so there are eight units.
+    Example {
+        name: "delegate_comes_before_its_key",
+        natives: 1000000,
+        scripts: 1000000,
+        bytes: 4294967295,
+        input: b"native n0 2\nweakmap s0\nscript s1 1\nproxy s2 s1\nscript s3 1\nscript s4 0\nscript s5 0\nput s1 0 s4\nput s3 0 s5\nset n0 0 s1\nset n0 1 s3\nwset s0 s2 s3\ndrop s1\ndrop s2\ndrop s3\ndrop s4\ndrop s5\nnative n1 1\nset n1 0 n1\ndrop n1\ngc\nslice 4\nexpose n0 0\nslice 1\nexpose n0 1\nslice 1\nslice 1\nslice 1\n",
+        output: b"= #1\n= @1\n= @2\n= @3\n= @4\n= @5\n= @6\n= ok\n= ok\n= ok\n= ok\n= ok\n= ok\n= ok\n= ok\n= ok\n= ok\n= #2\n= ok\n= ok\n= ok\n= ok\n= @2\n= ok\n= @4\n= ok\n= ok\n- unlink #2\n- free #2\n= ok\n",
+        status: Status::Done,
+    },
     // A collection with one candidate looks at it, at the holder of a delegate, at the delegate, at the proxy and at the value, so it takes seven units.
     Example {
         name: "gray_proxy_key_takes_seven_units",
@@ -193,16 +203,6 @@ const EXAMPLES: [Example; 20] = [
         scripts: 1000000,
         bytes: 4294967295,
         input: b"version 02\nversion 2\nnative n256 0\n",
-        output: b"! line\n! line\n! line\n",
-        status: Status::Done,
-    },
-    // A version is asked for by its number.
-    Example {
-        name: "version_without_a_number",
-        natives: 1000000,
-        scripts: 1000000,
-        bytes: 4294967295,
-        input: b"version\nversion 2\nnative n256 0\n",
         output: b"! line\n! line\n! line\n",
         status: Status::Done,
     },

@@ -6,6 +6,16 @@ use crate::script::{Example, are_answered};
 use cc_replay::Status;
 
 const EXAMPLES: [Example; 20] = [
+    // A version is asked for by its number.
+    Example {
+        name: "version_without_a_number",
+        natives: 1000000,
+        scripts: 1000000,
+        bytes: 4294967295,
+        input: b"version\nversion 2\nnative n256 0\n",
+        output: b"! line\n! line\n! line\n",
+        status: Status::Done,
+    },
     // A version is asked for by one number.
     Example {
         name: "version_with_two_numbers",
@@ -194,16 +204,6 @@ const EXAMPLES: [Example; 20] = [
         bytes: 4294967295,
         input: b"version 2\nnative n0 1\nnative n1 1\nset n1 0 n0\nmove n0 0 n1 0\ndrop n0\nget n2 n1 0\ncensus\ncollect\ncensus\n",
         output: b"= ok\n= #1\n= #2\n= ok\n= #1\n= ok\n= none\n+ #1\n+ #2\n= census 2\n- unlink #1\n- free #1\n= ok\n+ #2\n= census 1\n",
-        status: Status::Done,
-    },
-    // What moves to where it is stays there, also where two registers name its holder.
-    Example {
-        name: "move_onto_its_own_place",
-        natives: 1000000,
-        scripts: 1000000,
-        bytes: 4294967295,
-        input: b"version 2\nnative n0 1\nnative n1 0\nset n0 0 n1\ndrop n1\ncopy n2 n0\nmove n0 0 n0 0\nmove n2 0 n0 0\nget n1 n0 0\ndrop n1\ndrop n2\ndrop n0\n",
-        output: b"= ok\n= #1\n= #2\n= ok\n= ok\n= #1\n= #2\n= #2\n= #2\n= ok\n= ok\n- free #1\n- free #2\n= ok\n",
         status: Status::Done,
     },
 ];

@@ -6,6 +6,16 @@ use crate::script::{Example, are_answered};
 use cc_replay::Status;
 
 const EXAMPLES: [Example; 20] = [
+    // What moves to where it is stays there, also where two registers name its holder.
+    Example {
+        name: "move_onto_its_own_place",
+        natives: 1000000,
+        scripts: 1000000,
+        bytes: 4294967295,
+        input: b"version 2\nnative n0 1\nnative n1 0\nset n0 0 n1\ndrop n1\ncopy n2 n0\nmove n0 0 n0 0\nmove n2 0 n0 0\nget n1 n0 0\ndrop n1\ndrop n2\ndrop n0\n",
+        output: b"= ok\n= #1\n= #2\n= ok\n= ok\n= #1\n= #2\n= #2\n= #2\n= ok\n= ok\n- free #1\n- free #2\n= ok\n",
+        status: Status::Done,
+    },
     // A native that moves onto itself in another slot is held by one slot then.
     Example {
         name: "move_onto_a_slot_that_holds_it",
@@ -194,16 +204,6 @@ const EXAMPLES: [Example; 20] = [
         bytes: 4294967295,
         input: b"version 2\nnative n0 1\nnative n1 0\nnative n2 2\nscript s1 1\nwrap s0 n1\nput s1 0 s0\nset n0 0 s1\nset n2 0 s0\nset n2 1 n2\ndrop s0\ndrop s1\ndrop n1\ndrop n2\nnative n3 1\ngc\nslice 3\nmove n3 0 n0 0\nslice 10\nget s1 n3 0\ntake s0 s1 0\nunwrap n1 s0\n",
         output: b"= ok\n= #1\n= #2\n= #3\n= @1\n= ~2\n= ok\n= ok\n= ok\n= ok\n= ok\n= ok\n= ok\n= ok\n= #4\n= ok\n= ok\n= @1\n- unlink #3\n- free #3\n= ok\n= @1\n= ~2\n= #2\n",
-        status: Status::Done,
-    },
-    // How a register reaches a native, and that none does once the register lets go.
-    Example {
-        name: "steps_from_a_register",
-        natives: 1000000,
-        scripts: 1000000,
-        bytes: 4294967295,
-        input: b"version 2\nnative n0 1\nnative n1 0\nset n0 0 n1\ndrop n1\nwhy #2\ndrop n0\nwhy #2\n",
-        output: b"= ok\n= #1\n= #2\n= ok\n= ok\n: #1 n0\n: #2 #1\n= ok\n- free #1\n- free #2\n= ok\n= none\n",
         status: Status::Done,
     },
 ];
