@@ -10,7 +10,7 @@ the input writes the output; the run is lawful and quiet by the tests that decid
 example that ends with status 5 the theorem says what its input writes within the bytes allowed.
 
 In crates/cc_examples src/worked.rt and the files of src/worked get the examples that the program can be run on: those in
-which no memory is refused.
+which no memory is refused. Of these the ones with the widest limits, whose whole script is read, are rows of texts.
 
 Of examples/verdicts.txt, scripts with transcripts that are lawful or not, crates/cc_tests_check gets src/verdicts.rt and the files
 of src/verdicts.
@@ -26,7 +26,8 @@ TESTS = ROOT / 'crates' / 'cc_examples' / 'src'
 VERDICTS = ROOT / 'examples' / 'verdicts.txt'
 VERDICT_TESTS = ROOT / 'crates' / 'cc_tests_check' / 'src'
 EXAMPLES_IN_A_FILE = 8
-EXAMPLES_IN_A_TEST = 20
+VERDICTS_IN_A_TEST = 20
+ROWS_IN_A_TEST = 52
 DEFAULT_LIMITS = (1000000, 1000000, 4294967295)
 STATUSES = {0: 'Done', 5: 'Limit'}
 OUTCOMES = {'lawful': 'Lawful', 'unlawful': 'Unlawful'}
@@ -262,6 +263,37 @@ def byte_string(found):
     return f'b"{text}"'
 
 
+def has_widest_limits(example):
+    """Whether the limits are the widest, and the whole script is read within them."""
+    return example.limits == DEFAULT_LIMITS and example.is_whole()
+
+
+def row_of(example):
+    """A row of a text: the name, the script and what it makes the program write, parted by bars; a semicolon parts the rows."""
+    fields = [example.name, plain_bytes(example.input), plain_bytes(example.output)]
+    if any(mark in field for field in fields for mark in '|;'):
+        raise TableError(f'{example.name} has a bar or a semicolon, which part the rows of a text')
+    return byte_string('|'.join(fields))[2:-1]
+
+
+def file_of_rows(examples):
+    rows = ';\\\n    '.join(row_of(example) for example in examples)
+    return f"""//! Some of the worked examples: the name of each, its script, and what this makes the program write.
+//!
+//! Made by tools/worked_examples.py from examples/worked.txt.
+
+use crate::script::rows_are_answered;
+
+const ROWS: &str = "\\
+    {rows}";
+
+#[test]
+fn worked_examples_are_answered(rt: HostRuntime) {{
+    rows_are_answered(&rt, ROWS);
+}}
+"""
+
+
 def test_case(example):
     natives, scripts, read = example.limits
     return f"""    // {sentence(example.shows)}
@@ -277,15 +309,16 @@ def test_case(example):
 """
 
 
-def file_of_tests(cases):
-    return f"""//! Some of the worked examples.
+def file_of_tests(examples):
+    cases = [test_case(example) for example in examples]
+    return f"""//! The worked examples within narrower limits.
 //!
 //! Made by tools/worked_examples.py from examples/worked.txt.
 
 use crate::script::{{Example, are_answered}};
 use cc_replay::Status;
 
-const EXAMPLES: [Example; {len(cases)}] = [
+const EXAMPLES: [Example<'static>; {len(cases)}] = [
 {''.join(cases)}];
 
 #[test]
@@ -295,13 +328,20 @@ fn worked_examples_are_answered(rt: HostRuntime) {{
 """
 
 
-def file_of_tables(count):
-    return """//! The worked examples that the program can be run on: what each script makes it write. They stand in some tables, since
-//! the check of a large one takes more steps than it may.
+def files_of_tests(examples):
+    """The text of each file of tests by its path."""
+    wide = [example for example in examples if has_widest_limits(example)]
+    parts = [wide[i:i + ROWS_IN_A_TEST] for i in range(0, len(wide), ROWS_IN_A_TEST)]
+    texts = {f'part_{number}': file_of_rows(part) for number, part in enumerate(parts, 1)}
+    texts['limits'] = file_of_tests([example for example in examples if not has_widest_limits(example)])
+    made = {TESTS / 'worked' / f'{name}.rt': text for name, text in texts.items()}
+    made[TESTS / 'worked.rt'] = f"""//! The worked examples that the program can be run on: what each script makes it write. Most stand in texts, a row each, since
+//! the check of a table of values takes more steps the longer it is.
 //!
 //! Made by tools/worked_examples.py from examples/worked.txt.
 
-""" + ''.join(f'mod {it};\n' for it in sorted(f'part_{number}' for number in range(1, count + 1)))
+{''.join(f'mod {name};' + chr(10) for name in sorted(texts))}"""
+    return made
 
 
 def verdict_case(example):
@@ -348,7 +388,7 @@ def file_of_verdict_tables(count):
 def files_of_verdicts(examples):
     """The text of each file of verdicts by its path."""
     cases = [verdict_case(example) for example in examples]
-    tables = [cases[i:i + EXAMPLES_IN_A_TEST] for i in range(0, len(cases), EXAMPLES_IN_A_TEST)]
+    tables = [cases[i:i + VERDICTS_IN_A_TEST] for i in range(0, len(cases), VERDICTS_IN_A_TEST)]
     made = {VERDICT_TESTS / 'verdicts' / f'part_{number}.rt': file_of_verdicts(table) for number, table in enumerate(tables, 1)}
     made[VERDICT_TESTS / 'verdicts.rt'] = file_of_verdict_tables(len(tables))
     return made
@@ -362,18 +402,14 @@ def files(examples):
         made[CRATE / 'proofs' / f'Examples{number}.antt'] = file_of_theorems(number, part)
     made[CRATE / 'proofs' / 'Examples.antt'] = file_of_names(parts)
     made[CRATE / 'proofs' / 'Lib.antt'] = file_of_modules(len(parts))
-    cases = [test_case(example) for example in examples if can_be_run(example)]
-    tables = [cases[i:i + EXAMPLES_IN_A_TEST] for i in range(0, len(cases), EXAMPLES_IN_A_TEST)]
-    for number, table in enumerate(tables, 1):
-        made[TESTS / 'worked' / f'part_{number}.rt'] = file_of_tests(table)
-    made[TESTS / 'worked.rt'] = file_of_tables(len(tables))
+    made.update(files_of_tests([example for example in examples if can_be_run(example)]))
     return made
 
 
 def differing(made):
     """The paths of files that are not as they are to be, and of files of theorems or tests that are not to be."""
     wrong = [path for path, text in made.items() if not path.exists() or path.read_text(encoding='utf-8') != text]
-    there = sorted((CRATE / 'proofs').glob('Examples*.antt')) + sorted((TESTS / 'worked').glob('part_*.rt'))
+    there = sorted((CRATE / 'proofs').glob('Examples*.antt')) + sorted((TESTS / 'worked').glob('*.rt'))
     there += sorted((VERDICT_TESTS / 'verdicts').glob('part_*.rt'))
     left_over = [path for path in there if path not in made]
     return wrong, left_over

@@ -31,20 +31,21 @@ fn verdict_of_check<S: Source>(
 }
 
 /// A script and what it makes the program write, by what it shows.
-pub struct Example {
-    pub name: &'static str,
+#[derive(Drop)]
+pub struct Example<'a> {
+    pub name: &'a str,
     /// How many natives may be made, at most 1000000.
     pub natives: u32,
     /// How many plain objects, weak maps and proxies may be made, at most 1000000.
     pub scripts: u32,
     /// How many bytes may be read.
     pub bytes: u32,
-    pub input: &'static [u8],
-    pub output: &'static [u8],
+    pub input: &'a [u8],
+    pub output: &'a [u8],
     pub status: Status,
 }
 
-impl Example {
+impl Example<'_> {
     /// Replays the script within the limits, with ample room to write, and looks at what is written and at the status.
     fn is_answered(&self, rt: &(impl Abort + AllocGlobal)) {
         let limits = Limits::new(
@@ -74,11 +75,35 @@ impl Example {
 }
 
 /// Replays each script, looks at what it makes the program write, and checks it.
-pub fn are_answered(rt: &(impl Abort + AllocGlobal), examples: &[Example]) {
+pub fn are_answered(rt: &(impl Abort + AllocGlobal), examples: &[Example<'_>]) {
     for example in examples {
         example.is_answered(rt);
         if example.status == Status::Done {
             example.is_lawful(rt);
         }
+    }
+}
+
+/// The example of a row: its name, its script and what this makes the program write, parted by bars. The limits are the widest.
+fn example_of(row: &str) -> Option<Example<'_>> {
+    let (name, texts) = row.split_once('|')?;
+    let (input, output) = texts.split_once('|')?;
+    Some(Example {
+        name,
+        natives: Limits::MOST,
+        scripts: Limits::MOST,
+        bytes: u32::MAX,
+        input: input.as_bytes(),
+        output: output.as_bytes(),
+        status: Status::Done,
+    })
+}
+
+/// The same for each row of a text, which semicolons part.
+pub fn rows_are_answered(rt: &(impl Abort + AllocGlobal), rows: &str) {
+    for row in rows.split(';') {
+        let example = example_of(row).expect(rt, "a row has three fields");
+        example.is_answered(rt);
+        example.is_lawful(rt);
     }
 }

@@ -42,14 +42,14 @@ pub entry_of_a_proxy_key_is_taken_out : Works default_limits ample input.entry_o
 unfolding all_of_a_run
 entry_of_a_proxy_key_is_taken_out = record { writes = refl; passes = refl; audited = refl }
 
+-- An entry of a proxy that is set again keeps its delegate: key and new value live by map and delegate, and go with the delegate.
+pub entry_of_a_proxy_key_is_set_again : Works default_limits ample input.entry_of_a_proxy_key_is_set_again
+    (codes "= @1\n= @2\n= @3\n= @4\n= @5\n= ok\n= ok\n= ok\n= ok\n= ok\n- free @4\n= ok\n+ @1\n+ @2\n+ @3\n+ @5\n= census 4\n= ok\n- free @2\n- free @3\n- free @5\n= ok\n+ @1\n= census 1\n")
+unfolding all_of_a_run
+entry_of_a_proxy_key_is_set_again = record { writes = refl; passes = refl; audited = refl }
+
 -- A proxy that is a value lives by map and key alone.
 pub proxy_is_a_value : Works default_limits ample input.proxy_is_a_value
     (codes "= @1\n= @2\n= @3\n= @4\n= ok\n= ok\n= ok\n= @4\n= ok\n= ok\n- free @2\n- free @4\n= ok\n")
 unfolding all_of_a_run
 proxy_is_a_value = record { writes = refl; passes = refl; audited = refl }
-
--- A collection keeps a native to whose reflector a proxy in a slot of another native leads, and the next one takes it.
-pub gray_proxy_keeps_its_delegate : Works default_limits ample input.gray_proxy_keeps_its_delegate
-    (codes "= #1\n= #2\n= ~2\n= @1\n= ok\n= ok\n= ok\n= ok\n= ok\n= ok\n+ #1\n+ #2\n+ ~2\n+ @1\n= census 4\n- free #1\n= ok\n- free @1\n= ok\n- unlink #2\n= ok\n- free ~2\n- free #2\n= ok\n= census 0\n")
-unfolding all_of_a_run
-gray_proxy_keeps_its_delegate = record { writes = refl; passes = refl; audited = refl }

@@ -6,6 +6,12 @@ use Rattle.cc_worked.specs.Inputs as input
 use Rattle.cc_worked.specs.Works.{Works}
 use Rattle.cc_worked.proofs.Opened.{all_of_a_run}
 
+-- A collection keeps a native to whose reflector a proxy in a slot of another native leads, and the next one takes it.
+pub gray_proxy_keeps_its_delegate : Works default_limits ample input.gray_proxy_keeps_its_delegate
+    (codes "= #1\n= #2\n= ~2\n= @1\n= ok\n= ok\n= ok\n= ok\n= ok\n= ok\n+ #1\n+ #2\n+ ~2\n+ @1\n= census 4\n- free #1\n= ok\n- free @1\n= ok\n- unlink #2\n= ok\n- free ~2\n- free #2\n= ok\n= census 0\n")
+unfolding all_of_a_run
+gray_proxy_keeps_its_delegate = record { writes = refl; passes = refl; audited = refl }
+
 -- A collection keeps a native to which the value of a proxy key leads, where a native holds the delegate alone.
 pub gray_proxy_key_of_a_live_native : Works default_limits ample input.gray_proxy_key_of_a_live_native
     (codes "= #1\n= #2\n= @1\n= @2\n= @3\n= @4\n= ~2\n= ok\n= ok\n= ok\n= ok\n= ok\n= ok\n= ok\n= ok\n= ok\n= ok\n= ok\n+ #1\n+ #2\n+ @1\n+ @2\n+ @3\n+ @4\n+ ~2\n= census 7\n= @2\n= ok\n+ #1\n+ #2\n+ @1\n+ @2\n+ @3\n+ @4\n+ ~2\n= census 7\n")
@@ -47,9 +53,3 @@ pub gray_proxy_key_takes_seven_units : Works default_limits ample input.gray_pro
     (codes "= #1\n= @1\n= @2\n= @3\n= @4\n= ok\n= ok\n= ok\n= ok\n= ok\n= #2\n= ok\n= ok\n= ok\n= ok\n- unlink #2\n- free #2\n= ok\n= @2\n= ok\n+ #1\n+ @1\n+ @2\n+ @3\n+ @4\n= census 5\n")
 unfolding all_of_a_run
 gray_proxy_key_takes_seven_units = record { writes = refl; passes = refl; audited = refl }
-
--- A slot of a proxy is neither written nor read, since it has none; it is no reflector and no weak map.
-pub proxy_has_no_slots : Works default_limits ample input.proxy_has_no_slots
-    (codes "= @1\n= @2\n! slot\n! slot\n! empty\n! slot\n! slot\n! kind\n! kind\n! kind\n! kind\n! kind\n= #1\n= ok\n= @2\n= ok\n= @2\n+ #1\n+ @1\n+ @2\n= census 3\n")
-unfolding all_of_a_run
-proxy_has_no_slots = record { writes = refl; passes = refl; audited = refl }

@@ -6,6 +6,12 @@ use Rattle.cc_worked.specs.Inputs as input
 use Rattle.cc_worked.specs.Works.{Works}
 use Rattle.cc_worked.proofs.Opened.{all_of_a_run}
 
+-- A slot of a proxy is neither written nor read, since it has none; it is no reflector and no weak map.
+pub proxy_has_no_slots : Works default_limits ample input.proxy_has_no_slots
+    (codes "= @1\n= @2\n! slot\n! slot\n! empty\n! slot\n! slot\n! kind\n! kind\n! kind\n! kind\n! kind\n= #1\n= ok\n= @2\n= ok\n= @2\n+ #1\n+ @1\n+ @2\n= census 3\n")
+unfolding all_of_a_run
+proxy_has_no_slots = record { writes = refl; passes = refl; audited = refl }
+
 -- A proxy is not made of what an empty register holds, and the register that was to hold it keeps what it holds.
 pub proxy_of_nothing_is_refused : Works default_limits ample input.proxy_of_nothing_is_refused
     (codes "= @1\n! empty\n! empty\n= @1\n= @2\n= @3\n= ok\n= ok\n+ @1\n+ @2\n+ @3\n= census 3\n")
@@ -47,9 +53,3 @@ pub version_one_means_what_it_meant : Works default_limits ample input.version_o
     (codes "= #1\n! line\n! line\n! line\n")
 unfolding all_of_a_run
 version_one_means_what_it_meant = record { writes = refl; passes = refl; audited = refl }
-
--- A comment before it leaves version 2 to be asked for.
-pub comment_before_version_two : Works default_limits ample input.comment_before_version_two
-    (codes "= ok\n")
-unfolding all_of_a_run
-comment_before_version_two = record { writes = refl; passes = refl; audited = refl }

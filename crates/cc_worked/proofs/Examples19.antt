@@ -6,6 +6,12 @@ use Rattle.cc_worked.specs.Inputs as input
 use Rattle.cc_worked.specs.Works.{Works}
 use Rattle.cc_worked.proofs.Opened.{all_of_a_run}
 
+-- A comment before it leaves version 2 to be asked for.
+pub comment_before_version_two : Works default_limits ample input.comment_before_version_two
+    (codes "= ok\n")
+unfolding all_of_a_run
+comment_before_version_two = record { writes = refl; passes = refl; audited = refl }
+
 -- Blank lines and comments in any number leave version 2 to be asked for, and spaces part its tokens too.
 pub blank_lines_before_version_two : Works default_limits ample input.blank_lines_before_version_two
     (codes "= ok\n= #1\n")
@@ -47,9 +53,3 @@ pub version_two_is_asked_for_once : Works default_limits ample input.version_two
     (codes "= ok\n! line\n! line\n! line\n! line\n! long\n= #1\n")
 unfolding all_of_a_run
 version_two_is_asked_for_once = record { writes = refl; passes = refl; audited = refl }
-
--- Version 1 has no line that asks for it.
-pub version_one_is_not_asked_for : Works default_limits ample input.version_one_is_not_asked_for
-    (codes "! line\n! line\n! line\n")
-unfolding all_of_a_run
-version_one_is_not_asked_for = record { writes = refl; passes = refl; audited = refl }

@@ -6,6 +6,12 @@ use Rattle.cc_worked.specs.Inputs as input
 use Rattle.cc_worked.specs.Works.{Works}
 use Rattle.cc_worked.proofs.Opened.{all_of_a_run}
 
+-- Version 1 has no line that asks for it.
+pub version_one_is_not_asked_for : Works default_limits ample input.version_one_is_not_asked_for
+    (codes "! line\n! line\n! line\n")
+unfolding all_of_a_run
+version_one_is_not_asked_for = record { writes = refl; passes = refl; audited = refl }
+
 -- There is no version 3, and who asks for it gets version 1.
 pub version_three_is_not_known : Works default_limits ample input.version_three_is_not_known
     (codes "! line\n! line\n! line\n")
@@ -47,9 +53,3 @@ pub version_two_with_carriage_returns : Works default_limits ample input.version
     (codes "= ok\n= #1\n")
 unfolding all_of_a_run
 version_two_with_carriage_returns = record { writes = refl; passes = refl; audited = refl }
-
--- One carriage return is dropped, and two of them are not.
-pub version_two_with_two_carriage_returns : Works default_limits ample input.version_two_with_two_carriage_returns
-    (codes "! line\n! line\n! line\n")
-unfolding all_of_a_run
-version_two_with_two_carriage_returns = record { writes = refl; passes = refl; audited = refl }

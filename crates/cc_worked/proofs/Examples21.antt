@@ -6,6 +6,12 @@ use Rattle.cc_worked.specs.Inputs as input
 use Rattle.cc_worked.specs.Works.{Works}
 use Rattle.cc_worked.proofs.Opened.{all_of_a_run}
 
+-- One carriage return is dropped, and two of them are not.
+pub version_two_with_two_carriage_returns : Works default_limits ample input.version_two_with_two_carriage_returns
+    (codes "! line\n! line\n! line\n")
+unfolding all_of_a_run
+version_two_with_two_carriage_returns = record { writes = refl; passes = refl; audited = refl }
+
 -- Version 2 is asked for by a last line that no line feed ends.
 pub version_two_without_a_line_feed : Works default_limits ample input.version_two_without_a_line_feed
     (codes "= ok\n")
@@ -47,9 +53,3 @@ pub registers_above_255_are_roots : Works default_limits ample input.registers_a
     (codes "= ok\n= #1\n= ok\n= @1\n= ok\n= ok\n= ok\n+ #1\n+ @1\n= census 2\n= ok\n= ok\n- free @1\n= ok\n- unlink #1\n- free #1\n= ok\n= ok\n= census 0\n")
 unfolding all_of_a_run
 registers_above_255_are_roots = record { writes = refl; passes = refl; audited = refl }
-
--- A freed native gives up its slots above 63 as the others, in rising order.
-pub slots_above_63_are_given_up_in_rising_order : Works default_limits ample input.slots_above_63_are_given_up_in_rising_order
-    (codes "= ok\n= #1\n= #2\n= #3\n= #4\n= ok\n= ok\n= ok\n= ok\n= ok\n= ok\n- free #1\n- free #4\n- free #3\n- free #2\n= ok\n")
-unfolding all_of_a_run
-slots_above_63_are_given_up_in_rising_order = record { writes = refl; passes = refl; audited = refl }

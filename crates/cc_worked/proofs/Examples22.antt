@@ -6,6 +6,12 @@ use Rattle.cc_worked.specs.Inputs as input
 use Rattle.cc_worked.specs.Works.{Works}
 use Rattle.cc_worked.proofs.Opened.{all_of_a_run}
 
+-- A freed native gives up its slots above 63 as the others, in rising order.
+pub slots_above_63_are_given_up_in_rising_order : Works default_limits ample input.slots_above_63_are_given_up_in_rising_order
+    (codes "= ok\n= #1\n= #2\n= #3\n= #4\n= ok\n= ok\n= ok\n= ok\n= ok\n= ok\n- free #1\n- free #4\n- free #3\n- free #2\n= ok\n")
+unfolding all_of_a_run
+slots_above_63_are_given_up_in_rising_order = record { writes = refl; passes = refl; audited = refl }
+
 -- A cycle through both heaps is collected, where it goes through the last slot of a native and of a script object.
 pub last_slots_are_looked_at : Works default_limits ample input.last_slots_are_looked_at
     (codes "= ok\n= #1\n= @1\n= ~1\n= ok\n= ok\n= ok\n= ok\n= ok\n= ok\n- unlink #1\n= ok\n- free @1\n- free ~1\n- free #1\n= ok\n")
@@ -47,9 +53,3 @@ pub move_onto_its_own_place : Works default_limits ample input.move_onto_its_own
     (codes "= ok\n= #1\n= #2\n= ok\n= ok\n= #1\n= #2\n= #2\n= #2\n= ok\n= ok\n- free #1\n- free #2\n= ok\n")
 unfolding all_of_a_run
 move_onto_its_own_place = record { writes = refl; passes = refl; audited = refl }
-
--- A native that moves onto itself in another slot is held by one slot then.
-pub move_onto_a_slot_that_holds_it : Works default_limits ample input.move_onto_a_slot_that_holds_it
-    (codes "= ok\n= #1\n= #2\n= ok\n= ok\n= ok\n= #2\n= none\n- free #2\n= ok\n")
-unfolding all_of_a_run
-move_onto_a_slot_that_holds_it = record { writes = refl; passes = refl; audited = refl }

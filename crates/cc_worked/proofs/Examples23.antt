@@ -6,6 +6,12 @@ use Rattle.cc_worked.specs.Inputs as input
 use Rattle.cc_worked.specs.Works.{Works}
 use Rattle.cc_worked.proofs.Opened.{all_of_a_run}
 
+-- A native that moves onto itself in another slot is held by one slot then.
+pub move_onto_a_slot_that_holds_it : Works default_limits ample input.move_onto_a_slot_that_holds_it
+    (codes "= ok\n= #1\n= #2\n= ok\n= ok\n= ok\n= #2\n= none\n- free #2\n= ok\n")
+unfolding all_of_a_run
+move_onto_a_slot_that_holds_it = record { writes = refl; passes = refl; audited = refl }
+
 -- Script objects of each kind move, onto natives too, and a native moves onto a script object.
 pub all_kinds_of_objects_move : Works default_limits ample input.all_kinds_of_objects_move
     (codes "= ok\n= #1\n= #2\n= #3\n= @1\n= @2\n= @3\n= ~2\n= ok\n= ok\n= ok\n- free #3\n= @1\n! kind\n= ok\n= @2\n= ok\n= @3\n= ok\n= ~2\n= ~2\n= ok\n= #1\n! kind\n")
@@ -47,9 +53,3 @@ pub move_onto_its_own_place_ends_purple : Works default_limits ample input.move_
     (codes "= ok\n= #1\n= #2\n= ok\n= ok\n= #3\n= ok\n= ok\n= #2\n- unlink #3\n- free #3\n= ok\n")
 unfolding all_of_a_run
 move_onto_its_own_place_ends_purple = record { writes = refl; passes = refl; audited = refl }
-
--- A native that a refused move would have moved is suspected still: the collection has two nodes and takes four units.
-pub refused_move_touches_nothing : Works default_limits ample input.refused_move_touches_nothing
-    (codes "= ok\n= #1\n= #2\n= ok\n= ok\n= #3\n= ok\n= ok\n! slot\n= ok\n- unlink #3\n- free #3\n= ok\n")
-unfolding all_of_a_run
-refused_move_touches_nothing = record { writes = refl; passes = refl; audited = refl }

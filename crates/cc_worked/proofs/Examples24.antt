@@ -6,6 +6,12 @@ use Rattle.cc_worked.specs.Inputs as input
 use Rattle.cc_worked.specs.Works.{Works}
 use Rattle.cc_worked.proofs.Opened.{all_of_a_run}
 
+-- A native that a refused move would have moved is suspected still: the collection has two nodes and takes four units.
+pub refused_move_touches_nothing : Works default_limits ample input.refused_move_touches_nothing
+    (codes "= ok\n= #1\n= #2\n= ok\n= ok\n= #3\n= ok\n= ok\n! slot\n= ok\n- unlink #3\n- free #3\n= ok\n")
+unfolding all_of_a_run
+refused_move_touches_nothing = record { writes = refl; passes = refl; audited = refl }
+
 -- References that move from a traversed native to one that is not are noted twice, and nothing that a register reaches is unlinked.
 pub moved_to_a_native_that_is_yet_to_be_traversed : Works default_limits ample input.moved_to_a_native_that_is_yet_to_be_traversed
     (codes "= ok\n= #1\n= #2\n= ok\n= ok\n= #1\n= ok\n= #2\n= ok\n= ok\n= #2\n= #1\n= ok\n= #2\n= #1\n+ #1\n+ #2\n= census 2\n= ok\n= ok\n= ok\n= ok\n- unlink #1\n- unlink #2\n- free #1\n- free #2\n= ok\n")
@@ -47,9 +53,3 @@ pub move_takes_no_memory : Works default_limits (refused_at 3) input.move_takes_
     (codes "= ok\n= #1\n= #2\n= ok\n= #2\n! nomem\n")
 unfolding all_of_a_run
 move_takes_no_memory = record { writes = refl; passes = refl; audited = refl }
-
--- A gray reflector that moves is black, so a collection does not look at it before the next gc.
-pub moved_reflector_waits_for_gc : Works default_limits ample input.moved_reflector_waits_for_gc
-    (codes "= ok\n= #1\n= ~1\n= ok\n= ok\n= ok\n= ~1\n= ok\n= ok\n= ok\n- unlink #1\n= ok\n- free ~1\n- free #1\n= ok\n")
-unfolding all_of_a_run
-moved_reflector_waits_for_gc = record { writes = refl; passes = refl; audited = refl }

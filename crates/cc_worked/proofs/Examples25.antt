@@ -6,6 +6,12 @@ use Rattle.cc_worked.specs.Inputs as input
 use Rattle.cc_worked.specs.Works.{Works}
 use Rattle.cc_worked.proofs.Opened.{all_of_a_run}
 
+-- A gray reflector that moves is black, so a collection does not look at it before the next gc.
+pub moved_reflector_waits_for_gc : Works default_limits ample input.moved_reflector_waits_for_gc
+    (codes "= ok\n= #1\n= ~1\n= ok\n= ok\n= ok\n= ~1\n= ok\n= ok\n= ok\n- unlink #1\n= ok\n- free ~1\n- free #1\n= ok\n")
+unfolding all_of_a_run
+moved_reflector_waits_for_gc = record { writes = refl; passes = refl; audited = refl }
+
 -- A gray reflector that moves to where it is is black as any other that moves.
 pub move_onto_its_own_place_exposes : Works default_limits ample input.move_onto_its_own_place_exposes
     (codes "= ok\n= #1\n= ~1\n= ok\n= ok\n= ok\n= ~1\n= ok\n= ok\n= ok\n- unlink #1\n= ok\n- free ~1\n- free #1\n= ok\n")
@@ -47,9 +53,3 @@ pub first_register_tells : Works default_limits ample input.first_register_tells
     (codes "= ok\n= #1\n= #1\n= #1\n= @1\n= @1\n= @1\n: #1 n7\n= ok\n: @1 s9\n= ok\n= ok\n= ok\n: #1 n300\n= ok\n: @1 s255\n= ok\n= ok\n= ok\n: #1 n1023\n= ok\n: @1 s1023\n= ok\n")
 unfolding all_of_a_run
 first_register_tells = record { writes = refl; passes = refl; audited = refl }
-
--- An object that a register holds needs no other step, though a slot of an earlier one holds it too.
-pub register_tells_before_a_slot : Works default_limits ample input.register_tells_before_a_slot
-    (codes "= ok\n= #1\n= #2\n= #3\n= ok\n= ok\n: #2 n1\n= ok\n: #3 n2\n= ok\n= ok\n: #2 n1\n: #3 #2\n= ok\n= ok\n: #1 n0\n: #2 #1\n: #3 #2\n= ok\n")
-unfolding all_of_a_run
-register_tells_before_a_slot = record { writes = refl; passes = refl; audited = refl }

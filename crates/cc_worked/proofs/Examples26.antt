@@ -6,6 +6,12 @@ use Rattle.cc_worked.specs.Inputs as input
 use Rattle.cc_worked.specs.Works.{Works}
 use Rattle.cc_worked.proofs.Opened.{all_of_a_run}
 
+-- An object that a register holds needs no other step, though a slot of an earlier one holds it too.
+pub register_tells_before_a_slot : Works default_limits ample input.register_tells_before_a_slot
+    (codes "= ok\n= #1\n= #2\n= #3\n= ok\n= ok\n: #2 n1\n= ok\n: #3 n2\n= ok\n= ok\n: #2 n1\n: #3 #2\n= ok\n= ok\n: #1 n0\n: #2 #1\n: #3 #2\n= ok\n")
+unfolding all_of_a_run
+register_tells_before_a_slot = record { writes = refl; passes = refl; audited = refl }
+
 -- A native that a register holds does not follow from its reflector, which a script register holds.
 pub native_register_tells_before_a_reflector : Works default_limits ample input.native_register_tells_before_a_reflector
     (codes "= ok\n= #1\n= ~1\n: #1 n9\n= ok\n: ~1 s0\n= ok\n= ok\n: ~1 s0\n: #1 ~1\n= ok\n: ~1 s0\n= ok\n")
@@ -47,9 +53,3 @@ pub slots_tell_before_the_native : Works default_limits ample input.slots_tell_b
     (codes "= ok\n= #1\n= ~1\n= @1\n= @2\n= ok\n= ok\n= ok\n= ok\n= ok\n= ok\n: ~1 s0\n: @1 ~1\n: @2 @1\n= ok\n= ok\n: ~1 s0\n: #1 ~1\n: @2 #1\n= ok\n")
 unfolding all_of_a_run
 slots_tell_before_the_native = record { writes = refl; passes = refl; audited = refl }
-
--- Of two branches that meet in an entry the steps stand in the order in which they were found, and those that lead elsewhere are left out.
-pub other_steps_are_left_out : Works default_limits ample input.other_steps_are_left_out
-    (codes "= ok\n= @1\n= @2\n= #1\n= @3\n= @4\n= #2\n= @5\n= ok\n= ok\n= ok\n= ok\n= ok\n= ok\n: #1 n0\n: @1 s0\n: @3 #1\n: @2 @1\n: @4 @2 @3\n= ok\n: @5 s5\n= ok\n: #2 n5\n= ok\n")
-unfolding all_of_a_run
-other_steps_are_left_out = record { writes = refl; passes = refl; audited = refl }

@@ -6,6 +6,12 @@ use Rattle.cc_worked.specs.Inputs as input
 use Rattle.cc_worked.specs.Works.{Works}
 use Rattle.cc_worked.proofs.Opened.{all_of_a_run}
 
+-- Of two branches that meet in an entry the steps stand in the order in which they were found, and those that lead elsewhere are left out.
+pub other_steps_are_left_out : Works default_limits ample input.other_steps_are_left_out
+    (codes "= ok\n= @1\n= @2\n= #1\n= @3\n= @4\n= #2\n= @5\n= ok\n= ok\n= ok\n= ok\n= ok\n= ok\n: #1 n0\n: @1 s0\n: @3 #1\n: @2 @1\n: @4 @2 @3\n= ok\n: @5 s5\n= ok\n: #2 n5\n= ok\n")
+unfolding all_of_a_run
+other_steps_are_left_out = record { writes = refl; passes = refl; audited = refl }
+
 -- An entry whose map is found before its key leads to its value from the key on, and what the key itself holds is found before that.
 pub entry_waits_for_its_key : Works default_limits ample input.entry_waits_for_its_key
     (codes "= ok\n= @1\n= @2\n= @3\n= @4\n= @5\n= ok\n= ok\n= ok\n= ok\n= ok\n= ok\n: @1 s0\n: @2 s5\n: @3 @2\n: @4 @3\n: @5 @1 @4\n= ok\n= @3\n= @4\n= @5\n= ok\n= ok\n= ok\n= ok\n: @2 s5\n: @3 @2\n: @4 @3\n: @5 @4\n= ok\n")
@@ -47,9 +53,3 @@ pub delegate_found_last : Works default_limits ample input.delegate_found_last
     (codes "= ok\n= @1\n= @2\n= @3\n= @4\n= @5\n= @6\n= ok\n= ok\n= ok\n= ok\n= ok\n= ok\n: @6 s7\n: @5 @6\n= ok\n: @1 s0\n: @2 s5\n: @3 @2\n: @4 @1 @3\n= ok\n= ok\n: @1 s0\n: @2 s5\n: @3 @2\n: @4 @1 @3\n: @5 @1 @4\n= ok\n")
 unfolding all_of_a_run
 delegate_found_last = record { writes = refl; passes = refl; audited = refl }
-
--- A proxy of a proxy key follows from this and the map, also where its own entry was set first.
-pub chain_of_proxy_keys : Works default_limits ample input.chain_of_proxy_keys
-    (codes "= ok\n= @1\n= @2\n= @3\n= @4\n= @5\n= ok\n= ok\n= ok\n= ok\n= ok\n: @1 s0\n: @2 s1\n: @3 @1 @2\n: @4 @1 @3\n: @5 @1 @4\n= ok\n")
-unfolding all_of_a_run
-chain_of_proxy_keys = record { writes = refl; passes = refl; audited = refl }

@@ -6,6 +6,12 @@ use Rattle.cc_worked.specs.Inputs as input
 use Rattle.cc_worked.specs.Works.{Works}
 use Rattle.cc_worked.proofs.Opened.{all_of_a_run}
 
+-- A proxy of a proxy key follows from this and the map, also where its own entry was set first.
+pub chain_of_proxy_keys : Works default_limits ample input.chain_of_proxy_keys
+    (codes "= ok\n= @1\n= @2\n= @3\n= @4\n= @5\n= ok\n= ok\n= ok\n= ok\n= ok\n: @1 s0\n: @2 s1\n: @3 @1 @2\n: @4 @1 @3\n: @5 @1 @4\n= ok\n")
+unfolding all_of_a_run
+chain_of_proxy_keys = record { writes = refl; passes = refl; audited = refl }
+
 -- A map that is its own key, or for which its key stands, is told once and named twice.
 pub map_is_key_and_delegate : Works default_limits ample input.map_is_key_and_delegate
     (codes "= ok\n= @1\n= @2\n= ok\n= @3\n= @4\n= ok\n= ok\n= ok\n= ok\n: @1 s0\n= ok\n: @1 s0\n: @2 @1 @1\n= ok\n: @1 s0\n: @3 @1 @1\n= ok\n: @1 s0\n: @3 @1 @1\n: @4 @1 @3\n= ok\n")
@@ -47,9 +53,3 @@ pub limit_leaves_names_that_were_never_made : Works (limits 1 1 4294967295) ampl
     (codes "= ok\n= #1\n! full\n= none\n: #1 n0\n= ok\n= none\n")
 unfolding all_of_a_run
 limit_leaves_names_that_were_never_made = record { writes = refl; passes = refl; audited = refl }
-
--- It is asked for with one name, whose number is at least 1, and with nothing else.
-pub forms_of_why_are_few : Works default_limits ample input.forms_of_why_are_few
-    (codes "= ok\n= #1\n= @1\n= ~1\n! line\n! line\n! line\n! line\n! line\n! line\n! line\n! line\n! line\n! line\n! line\n! line\n! line\n! line\n! line\n! line\n! line\n! line\n! line\n! line\n! line\n! line\n! line\n! line\n! line\n! line\n! line\n! line\n! line\n! line\n! line\n! line\n! line\n! line\n! line\n! line\n! line\n: #1 n0\n= ok\n: @1 s0\n= ok\n: ~1 s1\n= ok\n")
-unfolding all_of_a_run
-forms_of_why_are_few = record { writes = refl; passes = refl; audited = refl }

@@ -6,6 +6,12 @@ use Rattle.cc_worked.specs.Inputs as input
 use Rattle.cc_worked.specs.Works.{Works}
 use Rattle.cc_worked.proofs.Opened.{all_of_a_run}
 
+-- It is asked for with one name, whose number is at least 1, and with nothing else.
+pub forms_of_why_are_few : Works default_limits ample input.forms_of_why_are_few
+    (codes "= ok\n= #1\n= @1\n= ~1\n! line\n! line\n! line\n! line\n! line\n! line\n! line\n! line\n! line\n! line\n! line\n! line\n! line\n! line\n! line\n! line\n! line\n! line\n! line\n! line\n! line\n! line\n! line\n! line\n! line\n! line\n! line\n! line\n! line\n! line\n! line\n! line\n! line\n! line\n! line\n! line\n! line\n: #1 n0\n= ok\n: @1 s0\n= ok\n: ~1 s1\n= ok\n")
+unfolding all_of_a_run
+forms_of_why_are_few = record { writes = refl; passes = refl; audited = refl }
+
 -- Version 1 has no such word.
 pub version_one_has_no_why : Works default_limits ample input.version_one_has_no_why
     (codes "= #1\n! line\n! line\n! line\n! line\n")
@@ -47,9 +53,3 @@ pub why_touches_nothing : Works default_limits ample input.why_touches_nothing
     (codes "= ok\n= #1\n= ok\n= #2\n= #3\n= ok\n= ok\n= ok\n= #1\n= ok\n= ok\n= none\n: #2 n1\n= ok\n: #2 n1\n: #3 #2\n= ok\n= ok\n: #2 n1\n: #3 #2\n= ok\n- unlink #1\n- free #1\n= ok\n")
 unfolding all_of_a_run
 why_touches_nothing = record { writes = refl; passes = refl; audited = refl }
-
--- Registers, slots and the listed names are after it what they were before.
-pub why_changes_no_register_and_no_census : Works default_limits ample input.why_changes_no_register_and_no_census
-    (codes "= ok\n= #1\n= ~1\n= @1\n= ok\n= ok\n+ #1\n+ ~1\n+ @1\n= census 3\n: @1 s1\n= ok\n+ #1\n+ ~1\n+ @1\n= census 3\n= ~1\n= @1\n: @1 s1\n= ok\n")
-unfolding all_of_a_run
-why_changes_no_register_and_no_census = record { writes = refl; passes = refl; audited = refl }

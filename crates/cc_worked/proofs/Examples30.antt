@@ -6,6 +6,12 @@ use Rattle.cc_worked.specs.Inputs as input
 use Rattle.cc_worked.specs.Works.{Works}
 use Rattle.cc_worked.proofs.Opened.{all_of_a_run}
 
+-- Registers, slots and the listed names are after it what they were before.
+pub why_changes_no_register_and_no_census : Works default_limits ample input.why_changes_no_register_and_no_census
+    (codes "= ok\n= #1\n= ~1\n= @1\n= ok\n= ok\n+ #1\n+ ~1\n+ @1\n= census 3\n: @1 s1\n= ok\n+ #1\n+ ~1\n+ @1\n= census 3\n= ~1\n= @1\n: @1 s1\n= ok\n")
+unfolding all_of_a_run
+why_changes_no_register_and_no_census = record { writes = refl; passes = refl; audited = refl }
+
 -- It is answered between gc, collect and gc and behind them, and a census then lists what is there.
 pub why_in_a_row_of_collections : Works default_limits ample input.why_in_a_row_of_collections
     (codes "= ok\n= #1\n= @1\n= ok\n= ok\n= #2\n= ok\n= ok\n= ok\n: #1 n0\n: @1 #1\n= ok\n- unlink #2\n- free #2\n= ok\n= none\n= ok\n: #1 n0\n: @1 #1\n= ok\n+ #1\n+ @1\n= census 2\n")

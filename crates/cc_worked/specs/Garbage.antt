@@ -2,7 +2,7 @@
 use Rattle.std.specs.Prelude.{[], ◌∷◌, codes}
 use Rattle.cc_names.specs.Names.{native, object, reflector}
 use Rattle.cc_model.specs.declared.item.Refusal.TheVariants.{Line, Empty, NoMemory}
-use Rattle.cc_model.specs.declared.item.Reply.TheVariants.{Refused}
+use Rattle.cc_model.specs.declared.item.Reply.TheVariants.{Refused, Nothing as nothing_there}
 use Rattle.cc_model.specs.declared.item.Event.TheVariants.{Freed, Abandoned}
 use Rattle.cc_model.specs.Answers.{no_answer, replying}
 use Rattle.cc_worked.specs.Transcripts.{Transcript, answered, made, lists, ok, done_after, refused}
@@ -121,3 +121,18 @@ slice_between = answered (codes "native n0 0\ndrop n0\ngc\nslice 1\ncollect\ngc\
 abbrev pub collect_without_memory : Transcript
 collect_without_memory = answered (codes "native n0 0\ndrop n0\ngc\ncollect\ngc\ncensus\n")
     (made (native 1) ∷ ok ∷ ok ∷ replying (Abandoned ∷ []) (Refused NoMemory) ∷ ok ∷ lists (native 1 ∷ []) ∷ [])
+
+-- Why ends the row, also after the second gc.
+abbrev pub garbage_may_stay_after_a_why : Transcript
+garbage_may_stay_after_a_why = answered (codes "version 2\nnative n0 0\ndrop n0\ngc\ncollect\ngc\nwhy #1\ncensus\n")
+    (ok ∷ made (native 1) ∷ ok ∷ ok ∷ ok ∷ ok ∷ replying [] nothing_there ∷ lists (native 1 ∷ []) ∷ [])
+
+-- A census ends the row: the second gc stands behind it.
+abbrev pub garbage_may_stay_after_a_census : Transcript
+garbage_may_stay_after_a_census = answered (codes "native n0 0\ndrop n0\ngc\ncollect\ncensus\ngc\ncensus\n")
+    (made (native 1) ∷ ok ∷ ok ∷ ok ∷ lists (native 1 ∷ []) ∷ ok ∷ lists (native 1 ∷ []) ∷ [])
+
+-- A drop after the row makes garbage, which may be listed.
+abbrev pub garbage_may_stay_after_a_drop : Transcript
+garbage_may_stay_after_a_drop = answered (codes "native n0 1\nset n0 0 n0\ngc\ncollect\ngc\ndrop n0\ncensus\n")
+    (made (native 1) ∷ ok ∷ ok ∷ ok ∷ ok ∷ ok ∷ lists (native 1 ∷ []) ∷ [])

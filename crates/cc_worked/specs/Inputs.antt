@@ -506,6 +506,10 @@ value_holds_the_delegate = codes "weakmap s0\nscript s1 0\nproxy s2 s1\nscript s
 abbrev pub entry_of_a_proxy_key_is_taken_out : List ℕ
 entry_of_a_proxy_key_is_taken_out = codes "weakmap s0\nscript s1 0\nproxy s2 s1\nwset s0 s2 s1\nwget s3 s0 s2\nwset s0 s2 none\ndrop s3\ndrop s2\ngc\nproxy s2 s1\nwset s0 s2 s2\ndrop s2\ngc\ndrop s0\ngc\n"
 
+-- An entry of a proxy that is set again keeps its delegate: key and new value live by map and delegate, and go with the delegate.
+abbrev pub entry_of_a_proxy_key_is_set_again : List ℕ
+entry_of_a_proxy_key_is_set_again = codes "weakmap s0\nscript s1 0\nproxy s2 s1\nscript s3 0\nscript s4 0\nwset s0 s2 s3\nwset s0 s2 s4\ndrop s2\ndrop s3\ndrop s4\ngc\ncensus\ndrop s1\ngc\ncensus\n"
+
 -- A proxy that is a value lives by map and key alone.
 abbrev pub proxy_is_a_value : List ℕ
 proxy_is_a_value = codes "weakmap s0\nscript s1 0\nscript s2 0\nproxy s3 s2\nwset s0 s1 s3\ndrop s3\ngc\nwget s3 s0 s1\ndrop s3\ndrop s1\ngc\n"

@@ -1,214 +1,64 @@
-//! Some of the worked examples.
+//! Some of the worked examples: the name of each, its script, and what this makes the program write.
 //!
 //! Made by tools/worked_examples.py from examples/worked.txt.
 
-use crate::script::{Example, are_answered};
-use cc_replay::Status;
+use crate::script::rows_are_answered;
 
-const EXAMPLES: [Example; 20] = [
-    // Gc frees a script object that nothing holds, and the next gc finds nothing more.
-    Example {
-        name: "what_nothing_holds_is_freed_once",
-        natives: 1000000,
-        scripts: 1000000,
-        bytes: 4294967295,
-        input: b"script s0 1\nscript s1 0\nput s0 0 s1\nscript s1 0\ndrop s1\ngc\ngc\n",
-        output: b"= @1\n= @2\n= ok\n= @3\n= ok\n- free @3\n= ok\n= ok\n",
-        status: Status::Done,
-    },
-    // Gc keeps what each slot of a native holds, and the reflector that it preserves.
-    Example {
-        name: "native_keeps_what_each_slot_holds_and_its_reflector",
-        natives: 1000000,
-        scripts: 1000000,
-        bytes: 4294967295,
-        input: b"native n0 2\nscript s0 0\nset n0 0 s0\nscript s0 0\nset n0 1 s0\nwrap s0 n0\npreserve s0\nscript s0 0\ndrop s0\ngc\ncensus\n",
-        output: b"= #1\n= @1\n= ok\n= @2\n= ok\n= ~1\n= ok\n= @3\n= ok\n- free @3\n= ok\n+ #1\n+ @1\n+ @2\n+ ~1\n= census 4\n",
-        status: Status::Done,
-    },
-    // A reflector has four slots: the last of them is written and read, and there is none behind it.
-    Example {
-        name: "reflector_has_four_slots",
-        natives: 1000000,
-        scripts: 1000000,
-        bytes: 4294967295,
-        input: b"native n0 0\nwrap s0 n0\nscript s1 0\nput s0 3 s1\nput s0 4 s1\ntake s2 s0 3\ntake s2 s0 4\n",
-        output: b"= #1\n= ~1\n= @1\n= ok\n! slot\n= @1\n! slot\n",
-        status: Status::Done,
-    },
-    // A reflector that was made since the last gc keeps its cycle through a collection.
-    Example {
-        name: "reflector_is_still_black",
-        natives: 1000000,
-        scripts: 1000000,
-        bytes: 4294967295,
-        input: b"native n0 1\nwrap s0 n0\nset n0 0 s0\ndrop s0\ndrop n0\ncollect\ncensus\n",
-        output: b"= #1\n= ~1\n= ok\n= ok\n= ok\n= ok\n+ #1\n+ ~1\n= census 2\n",
-        status: Status::Done,
-    },
-    // Gc, collect and gc take a cycle of a native and its reflector.
-    Example {
-        name: "cycle_through_a_reflector",
-        natives: 1000000,
-        scripts: 1000000,
-        bytes: 4294967295,
-        input: b"native n0 1\nwrap s0 n0\nset n0 0 s0\ndrop s0\ndrop n0\ncollect\ncensus\ngc\ncollect\ngc\ncensus\n",
-        output: b"= #1\n= ~1\n= ok\n= ok\n= ok\n= ok\n+ #1\n+ ~1\n= census 2\n= ok\n- unlink #1\n= ok\n- free ~1\n- free #1\n= ok\n= census 0\n",
-        status: Status::Done,
-    },
-    // A blank reflector is freed though its native lives, and goes last when it is made again.
-    Example {
-        name: "reflector_made_again_is_listed_last",
-        natives: 1000000,
-        scripts: 1000000,
-        bytes: 4294967295,
-        input: b"native n0 0\nwrap s0 n0\nscript s1 0\ndrop s0\ngc\nwrap s0 n0\ncensus\n",
-        output: b"= #1\n= ~1\n= @1\n= ok\n- free ~1\n= ok\n= ~1\n+ #1\n+ @1\n+ ~1\n= census 3\n",
-        status: Status::Done,
-    },
-    // A reflector whose slot was written lives as long as its native, with what it holds.
-    Example {
-        name: "written_reflector_is_preserved",
-        natives: 1000000,
-        scripts: 1000000,
-        bytes: 4294967295,
-        input: b"native n0 0\nwrap s0 n0\nscript s1 0\nput s0 2 s1\ndrop s1\ndrop s0\ngc\nwrap s0 n0\ntake s1 s0 2\n",
-        output: b"= #1\n= ~1\n= @1\n= ok\n= ok\n= ok\n= ok\n= ~1\n= @1\n",
-        status: Status::Done,
-    },
-    // Gc marks and sweeps again as long as a freed native lets go of script objects.
-    Example {
-        name: "gc_sweeps_three_rounds",
-        natives: 1000000,
-        scripts: 1000000,
-        bytes: 4294967295,
-        input: b"native n0 1\nnative n1 1\nscript s0 0\nset n1 0 s0\nwrap s1 n1\nset n0 0 s1\nwrap s2 n0\ndrop s0\ndrop s1\ndrop s2\ndrop n0\ndrop n1\ngc\n",
-        output: b"= #1\n= #2\n= @1\n= ok\n= ~2\n= ok\n= ~1\n= ok\n= ok\n= ok\n= ok\n= ok\n- free ~1\n- free #1\n- free ~2\n- free #2\n- free @1\n= ok\n",
-        status: Status::Done,
-    },
-    // A collection leaves a cycle that script touched after the last gc, and the next one takes it.
-    Example {
-        name: "exposed_reflector_waits_for_gc",
-        natives: 1000000,
-        scripts: 1000000,
-        bytes: 4294967295,
-        input: b"native n0 1\nwrap s0 n0\nset n0 0 s0\ndrop s0\ngc\nexpose n0 0\ndrop n0\ncollect\ngc\ncollect\ngc\n",
-        output: b"= #1\n= ~1\n= ok\n= ok\n= ok\n= ~1\n= ok\n= ok\n= ok\n- unlink #1\n= ok\n- free ~1\n- free #1\n= ok\n",
-        status: Status::Done,
-    },
-    // A native and its preserved reflector hold each other, and are taken together.
-    Example {
-        name: "preserved_reflector_is_collected",
-        natives: 1000000,
-        scripts: 1000000,
-        bytes: 4294967295,
-        input: b"native n0 0\nwrap s0 n0\npreserve s0\ndrop s0\ngc\ndrop n0\ngc\ncollect\ngc\n",
-        output: b"= #1\n= ~1\n= ok\n= ok\n= ok\n= ok\n= ok\n- unlink #1\n= ok\n- free ~1\n- free #1\n= ok\n",
-        status: Status::Done,
-    },
-    // Gc, collect and gc take two natives that hold each other through both reflectors and a plain object.
-    Example {
-        name: "cycle_of_two_natives_and_three_script_objects",
-        natives: 1000000,
-        scripts: 1000000,
-        bytes: 4294967295,
-        input: b"native n0 1\nnative n1 1\nwrap s0 n0\nwrap s1 n1\nscript s2 1\nset n0 0 s2\nput s2 0 s1\nset n1 0 s0\ndrop s0\ndrop s1\ndrop s2\ndrop n0\ndrop n1\ngc\ncensus\ncollect\ngc\ncensus\n",
-        output: b"= #1\n= #2\n= ~1\n= ~2\n= @1\n= ok\n= ok\n= ok\n= ok\n= ok\n= ok\n= ok\n= ok\n= ok\n+ #1\n+ #2\n+ ~1\n+ ~2\n+ @1\n= census 5\n- unlink #1\n- unlink #2\n= ok\n- free ~1\n- free #1\n- free ~2\n- free #2\n- free @1\n= ok\n= census 0\n",
-        status: Status::Done,
-    },
-    // Unwrap and preserve are refused for what is no reflector, and for an empty register before that.
-    Example {
-        name: "what_is_no_reflector_is_refused",
-        natives: 1000000,
-        scripts: 1000000,
-        bytes: 4294967295,
-        input: b"script s0 1\nunwrap n0 s0\npreserve s0\nunwrap n0 s9\npreserve s9\nnative n0 0\nunwrap n1 s9\nwrap s1 n5\nwrap s1 n0\nunwrap n1 s1\npreserve s1\ncensus\n",
-        output: b"= @1\n! kind\n! kind\n! empty\n! empty\n= #1\n! empty\n! empty\n= ~1\n= #1\n= ok\n+ #1\n+ @1\n+ ~1\n= census 3\n",
-        status: Status::Done,
-    },
-    // A reflector that was swept and is made again has four empty slots.
-    Example {
-        name: "reflector_made_again_is_blank",
-        natives: 1000000,
-        scripts: 1000000,
-        bytes: 4294967295,
-        input: b"native n0 1\nwrap s0 n0\nscript s1 0\ndrop s0\ngc\nwrap s0 n0\ntake s2 s0 0\ntake s2 s0 3\ntake s2 s0 4\ndrop n0\ndrop s0\ngc\n",
-        output: b"= #1\n= ~1\n= @1\n= ok\n- free ~1\n= ok\n= ~1\n= none\n= none\n! slot\n= ok\n= ok\n- free ~1\n- free #1\n= ok\n",
-        status: Status::Done,
-    },
-    // A reflector that is swept lets its native go before the next object is swept.
-    Example {
-        name: "native_is_freed_before_the_next_object_is_swept",
-        natives: 1000000,
-        scripts: 1000000,
-        bytes: 4294967295,
-        input: b"native n0 0\nwrap s0 n0\nscript s1 0\ndrop n0\ndrop s0\ndrop s1\ngc\n",
-        output: b"= #1\n= ~1\n= @1\n= ok\n= ok\n= ok\n- free ~1\n- free #1\n- free @1\n= ok\n",
-        status: Status::Done,
-    },
-    // A native that is wrapped twice has one reflector, and lives by it.
-    Example {
-        name: "native_has_one_reflector",
-        natives: 1000000,
-        scripts: 1000000,
-        bytes: 4294967295,
-        input: b"native n0 0\nwrap s0 n0\nwrap s1 n0\ndrop n0\ndrop s0\ngc\nunwrap n1 s1\ncensus\n",
-        output: b"= #1\n= ~1\n= ~1\n= ok\n= ok\n= ok\n= #1\n+ #1\n+ ~1\n= census 2\n",
-        status: Status::Done,
-    },
-    // A reflector that was swept and is made again is preserved like the first one.
-    Example {
-        name: "reflector_made_again_is_preserved",
-        natives: 1000000,
-        scripts: 1000000,
-        bytes: 4294967295,
-        input: b"native n0 0\nwrap s0 n0\ndrop s0\ngc\nwrap s0 n0\npreserve s0\ndrop s0\ngc\ncensus\n",
-        output: b"= #1\n= ~1\n= ok\n- free ~1\n= ok\n= ~1\n= ok\n= ok\n= ok\n+ #1\n+ ~1\n= census 2\n",
-        status: Status::Done,
-    },
-    // A reflector is preserved where a slot of it is emptied, too.
-    Example {
-        name: "emptied_slot_preserves_its_reflector",
-        natives: 1000000,
-        scripts: 1000000,
-        bytes: 4294967295,
-        input: b"native n0 0\nwrap s0 n0\nput s0 3 none\ndrop s0\ngc\ncensus\n",
-        output: b"= #1\n= ~1\n= ok\n= ok\n= ok\n+ #1\n+ ~1\n= census 2\n",
-        status: Status::Done,
-    },
-    // A reflector whose slot is not written is not preserved.
-    Example {
-        name: "refused_put_preserves_nothing",
-        natives: 1000000,
-        scripts: 1000000,
-        bytes: 4294967295,
-        input: b"native n0 0\nwrap s0 n0\nput s0 4 s0\nput s0 4 none\nput s0 4 s9\ndrop s0\ngc\ncensus\n",
-        output: b"= #1\n= ~1\n! slot\n! slot\n! empty\n= ok\n- free ~1\n= ok\n+ #1\n= census 1\n",
-        status: Status::Done,
-    },
-    // A reflector is not preserved where it comes into a slot, or becomes a value.
-    Example {
-        name: "stored_reflector_is_not_preserved",
-        natives: 1000000,
-        scripts: 1000000,
-        bytes: 4294967295,
-        input: b"native n0 0\nwrap s0 n0\nscript s1 1\nput s1 0 s0\nweakmap s2\nwset s2 s1 s0\ndrop s0\ndrop s1\ngc\ncensus\n",
-        output: b"= #1\n= ~1\n= @1\n= ok\n= @2\n= ok\n= ok\n= ok\n- free ~1\n- free @1\n= ok\n+ #1\n+ @2\n= census 2\n",
-        status: Status::Done,
-    },
-    // An entry whose value alone holds its key is dropped, with both.
-    Example {
-        name: "entry_does_not_keep_its_key",
-        natives: 1000000,
-        scripts: 1000000,
-        bytes: 4294967295,
-        input: b"weakmap s0\nscript s1 1\nscript s2 1\nput s2 0 s1\nwset s0 s1 s2\ndrop s1\ndrop s2\ngc\ncensus\n",
-        output: b"= @1\n= @2\n= @3\n= ok\n= ok\n= ok\n= ok\n- free @2\n- free @3\n= ok\n+ @1\n= census 1\n",
-        status: Status::Done,
-    },
-];
+const ROWS: &str = "\
+    value_is_its_own_key|weakmap s0\nscript s1 0\nwset s0 s1 s1\ngc\nwget s2 s0 s1\ndrop s1\ndrop s2\ngc\ncensus\n|= @1\n= @2\n= ok\n= ok\n= @2\n= ok\n= ok\n- free @2\n= ok\n+ @1\n= census 1\n;\
+    taken_out_entry_preserves_nothing|native n0 0\nwrap s1 n0\nweakmap s0\nwset s0 s1 none\ndrop s1\ngc\ncensus\n|= #1\n= ~1\n= @1\n= ok\n= ok\n- free ~1\n= ok\n+ #1\n+ @1\n= census 2\n;\
+    entry_is_taken_out_of_its_map_alone|weakmap s0\nweakmap s1\nscript s2 0\nscript s3 0\nwset s0 s2 s3\nwset s1 s2 s3\nwset s0 s3 s2\nwset s0 s2 none\nwget s4 s0 s2\nwget s4 s1 s2\nwget s4 s0 s3\n|= @1\n= @2\n= @3\n= @4\n= ok\n= ok\n= ok\n= ok\n= none\n= @4\n= @3\n;\
+    value_goes_with_its_map|native n0 1\nnative n1 0\nwrap s0 n1\nweakmap s1\nscript s2 0\nwset s1 s2 s0\nset n0 0 s2\ndrop n1\ndrop s0\ndrop s2\ngc\ncollect\ndrop s1\ngc\ncensus\n|= #1\n= #2\n= ~2\n= @1\n= @2\n= ok\n= ok\n= ok\n= ok\n= ok\n= ok\n= ok\n= ok\n- free ~2\n- free #2\n- free @1\n= ok\n+ #1\n+ @2\n= census 2\n;\
+    two_cycle_takes_four_units|native n0 1\nnative n1 1\nset n0 0 n1\nset n1 0 n0\ndrop n0\ndrop n1\nslice 1\nslice 1\nslice 1\nslice 1\n|= #1\n= #2\n= ok\n= ok\n= ok\n= ok\n= ok\n= ok\n= ok\n- unlink #1\n- unlink #2\n- free #1\n- free #2\n= ok\n;\
+    only_purple_natives_are_candidates|native n0 0\nslice 2\nnative n1 1\nset n1 0 n1\ndrop n1\nslice 3\n|= #1\n= ok\n= #2\n= ok\n= ok\n- unlink #2\n- free #2\n= ok\n;\
+    added_reference_ends_purple|native n0 0\ncopy n1 n0\ndrop n1\ncopy n1 n0\nslice 2\nnative n2 1\nset n2 0 n2\ndrop n2\nslice 3\n|= #1\n= #1\n= ok\n= #1\n= ok\n= #2\n= ok\n= ok\n- unlink #2\n- free #2\n= ok\n;\
+    freed_native_leaves_the_buffer|native n0 0\ncopy n1 n0\ndrop n1\ndrop n0\nslice 2\nnative n2 1\nset n2 0 n2\ndrop n2\nslice 3\n|= #1\n= #1\n= ok\n- free #1\n= ok\n= ok\n= #2\n= ok\n= ok\n- unlink #2\n- free #2\n= ok\n;\
+    black_objects_are_not_looked_at|native n0 1\nscript s0 0\nset n0 0 s0\ncopy n1 n0\ndrop n1\nslice 3\nnative n2 1\nset n2 0 n2\ndrop n2\nslice 3\n|= #1\n= @1\n= ok\n= #1\n= ok\n= ok\n= #2\n= ok\n= ok\n- unlink #2\n- free #2\n= ok\n;\
+    marked_again_keeps_its_place_in_the_buffer|native n0 1\nset n0 0 n0\ncopy n1 n0\ndrop n1\nnative n2 1\nnative n3 0\nset n2 0 n3\ncopy n1 n2\ndrop n1\ndrop n0\nslice 2\nset n2 0 none\nslice 2\n|= #1\n= ok\n= #1\n= ok\n= #2\n= #3\n= ok\n= #2\n= ok\n= ok\n= ok\n= ok\n- unlink #1\n- free #1\n= ok\n;\
+    candidates_come_before_holders|native n0 1\nset n0 0 n0\nnative n1 1\nscript s0 0\nset n1 0 s0\ndrop s0\ndrop n0\ngc\nslice 2\ndrop n1\nslice 2\n|= #1\n= ok\n= #2\n= @1\n= ok\n= ok\n= ok\n= ok\n= ok\n- free #2\n= ok\n- unlink #1\n- free #1\n= ok\n;\
+    replaced_entry_keeps_its_place|native n0 2\nweakmap s0\nscript s1 0\nscript s2 1\nscript s3 0\nput s2 0 s3\nset n0 0 s1\nset n0 1 s2\nwset s0 s1 s2\nwset s0 s2 s2\nwset s0 s1 s1\ndrop s1\ndrop s2\ndrop s3\nnative n1 1\nset n1 0 n1\ndrop n1\ngc\nslice 4\nexpose n0 1\nslice 2\n|= #1\n= @1\n= @2\n= @3\n= @4\n= ok\n= ok\n= ok\n= ok\n= ok\n= ok\n= ok\n= ok\n= ok\n= #2\n= ok\n= ok\n= ok\n= ok\n= @3\n- unlink #2\n- free #2\n= ok\n;\
+    entry_set_again_goes_last|native n0 2\nweakmap s0\nscript s1 0\nscript s2 1\nscript s3 0\nput s2 0 s3\nset n0 0 s1\nset n0 1 s2\nwset s0 s1 s1\nwset s0 s2 s2\nwset s0 s1 none\nwset s0 s1 s1\ndrop s1\ndrop s2\ndrop s3\nnative n1 1\nset n1 0 n1\ndrop n1\ngc\nslice 4\nexpose n0 1\nslice 2\nslice 1\n|= #1\n= @1\n= @2\n= @3\n= @4\n= ok\n= ok\n= ok\n= ok\n= ok\n= ok\n= ok\n= ok\n= ok\n= ok\n= #2\n= ok\n= ok\n= ok\n= ok\n= @3\n= ok\n- unlink #2\n- free #2\n= ok\n;\
+    collect_begins_one_of_its_own|native n0 1\nset n0 0 n0\nslice 1\ndrop n0\ncollect\n|= #1\n= ok\n= ok\n= ok\n- unlink #1\n- free #1\n= ok\n;\
+    collect_ends_one_and_takes_more_in_its_own|native n0 1\nset n0 0 n0\nnative n1 1\nset n1 0 n1\ndrop n1\nslice 1\ndrop n0\ncollect\n|= #1\n= ok\n= #2\n= ok\n= ok\n= ok\n= ok\n- unlink #2\n- free #2\n- unlink #1\n- free #1\n= ok\n;\
+    touched_between_slices|native n0 1\nset n0 0 n0\ncopy n1 n0\ndrop n1\nslice 1\ncopy n2 n0\ndrop n0\ndrop n2\nslice 10\ncollect\n|= #1\n= ok\n= #1\n= ok\n= ok\n= #1\n= ok\n= ok\n= ok\n- unlink #1\n- free #1\n= ok\n;\
+    read_between_slices|native n0 1\nscript s0 1\nscript s1 0\nput s0 0 s1\nset n0 0 s0\ndrop s0\ndrop s1\ngc\nslice 1\nget s0 n0 0\nset n0 0 none\nslice 10\ntake s1 s0 0\n|= #1\n= @1\n= @2\n= ok\n= ok\n= ok\n= ok\n= ok\n= ok\n= @1\n= ok\n= ok\n= @2\n;\
+    native_lives_by_an_exposed_reflector|native n0 1\nnative n1 0\nnative n2 2\nwrap s0 n1\nset n0 0 s0\nset n2 0 s0\nset n2 1 n2\ndrop s0\ndrop n1\ndrop n2\ngc\nslice 3\nget s1 n0 0\nset n0 0 none\nslice 10\nunwrap n1 s1\n|= #1\n= #2\n= #3\n= ~2\n= ok\n= ok\n= ok\n= ok\n= ok\n= ok\n= ok\n= ok\n= ~2\n= ok\n- unlink #3\n- free #3\n= ok\n= #2\n;\
+    copied_after_its_node_was_traversed|native n0 1\nset n0 0 n0\ncopy n1 n0\ndrop n1\nslice 2\ncopy n2 n0\nslice 5\ndrop n0\ndrop n2\ncollect\n|= #1\n= ok\n= #1\n= ok\n= ok\n= #1\n= ok\n= ok\n= ok\n- unlink #1\n- free #1\n= ok\n;\
+    freed_after_its_node_was_traversed|native n0 0\nwrap s0 n0\nnative n1 1\nset n1 0 s0\ndrop s0\ndrop n0\ngc\nslice 3\ndrop n1\nslice 2\ngc\ncensus\n|= #1\n= ~1\n= #2\n= ok\n= ok\n= ok\n= ok\n= ok\n- free #2\n= ok\n= ok\n- free ~1\n- free #1\n= ok\n= census 0\n;\
+    native_vanishes_inside_an_unlink|native n0 2\nnative n1 0\nset n0 0 n0\nset n0 1 n1\ndrop n0\nslice 1\ndrop n1\nslice 10\n|= #1\n= #2\n= ok\n= ok\n= ok\n= ok\n= ok\n- unlink #1\n- free #2\n- free #1\n= ok\n;\
+    native_made_between_slices|native n0 1\nwrap s0 n0\nset n0 0 s0\ndrop s0\ndrop n0\ngc\nslice 1\nnative n1 0\nslice 9\ngc\ncensus\n|= #1\n= ~1\n= ok\n= ok\n= ok\n= ok\n= ok\n= #2\n- unlink #1\n= ok\n- free ~1\n- free #1\n= ok\n+ #2\n= census 1\n;\
+    gc_ends_a_running_collection|native n0 1\nset n0 0 n0\ndrop n0\nslice 1\ngc\n|= #1\n= ok\n= ok\n= ok\n- unlink #1\n- free #1\n= ok\n;\
+    native_that_preserves_a_gray_reflector_is_a_holder|native n0 0\nwrap s0 n0\npreserve s0\ndrop s0\nnative n1 1\nset n1 0 n1\ndrop n1\ngc\nslice 4\nslice 1\n|= #1\n= ~1\n= ok\n= ok\n= #2\n= ok\n= ok\n= ok\n= ok\n- unlink #2\n- free #2\n= ok\n;\
+    preserved_reflector_is_looked_at_after_the_slots|native n0 1\nwrap s0 n0\nscript s1 0\nscript s2 0\nput s0 0 s2\nset n0 0 s1\ndrop s0\ndrop s1\ndrop s2\nnative n1 1\nset n1 0 n1\ndrop n1\ngc\nslice 4\nwrap s3 n0\nslice 1\nslice 1\n|= #1\n= ~1\n= @1\n= @2\n= ok\n= ok\n= ok\n= ok\n= ok\n= #2\n= ok\n= ok\n= ok\n= ok\n= ~1\n= ok\n- unlink #2\n- free #2\n= ok\n;\
+    map_comes_before_its_key|native n0 3\nweakmap s0\nscript s1 1\nscript s2 1\nscript s3 0\nscript s4 0\nput s1 0 s3\nput s2 0 s4\nset n0 0 s2\nset n0 1 s1\nset n0 2 s0\nwset s0 s1 s2\ndrop s0\ndrop s1\ndrop s2\ndrop s3\ndrop s4\nnative n1 1\nset n1 0 n1\ndrop n1\ngc\nslice 4\nexpose n0 1\nslice 1\nexpose n0 0\nslice 1\nslice 1\n|= #1\n= @1\n= @2\n= @3\n= @4\n= @5\n= ok\n= ok\n= ok\n= ok\n= ok\n= ok\n= ok\n= ok\n= ok\n= ok\n= ok\n= #2\n= ok\n= ok\n= ok\n= ok\n= @2\n= ok\n= @3\n= ok\n- unlink #2\n- free #2\n= ok\n;\
+    black_key_is_not_looked_at|native n0 1\nweakmap s0\nscript s1 0\nscript s2 0\nwset s0 s1 s2\nset n0 0 s0\ndrop s0\ndrop s2\nnative n1 1\nset n1 0 n1\ndrop n1\ngc\nslice 5\nslice 1\nget s3 n0 0\nwget s2 s3 s1\n|= #1\n= @1\n= @2\n= @3\n= ok\n= ok\n= ok\n= ok\n= #2\n= ok\n= ok\n= ok\n= ok\n- unlink #2\n- free #2\n= ok\n= @1\n= @3\n;\
+    unlinking_empties_slots_in_rising_order|native n0 3\nnative n1 0\nnative n2 1\nnative n3 0\nset n0 0 n0\nset n0 1 n2\nset n0 2 n1\nset n2 0 n3\ndrop n3\ndrop n0\nslice 1\ndrop n1\ndrop n2\nslice 10\n|= #1\n= #2\n= #3\n= #4\n= ok\n= ok\n= ok\n= ok\n= ok\n= ok\n= ok\n= ok\n= ok\n- unlink #1\n- free #3\n- free #4\n- free #2\n- free #1\n= ok\n;\
+    wrong_number_of_tokens|collect now\nscript s0\nnative n0 0\n|! line\n! line\n= #1\n;\
+    spaces_part_tokens|  native   n0  1  \n\n  \n  % note\nnative\tn1 0\ncensus\t\nCensus\ndrop n00\ndrop n-1\nset n0 +0 n0\nset n0 0 nones\ncopy n1 s1\nset  n0 0  none\ncensus\n|= #1\n! line\n! line\n! line\n! line\n! line\n! line\n! line\n! line\n= ok\n+ #1\n= census 1\n;\
+    forms_of_natives_are_few|native n0 65\nnative n0 01\nnative n256 0\nnative n00 0\nnative n 0\nnative N0 0\nnative n0\nnative n0 0 0\nnative n0 +1\nNative n0 0\ncopy n3 s4\nset n0 4294967296 n0\nset n0 0 None\nget n1 none 3\ncensus n0\ncollect now\nnative\tn0 0\n\tcensus\ncensus\r\r\ncensus %\n|! line\n! line\n! line\n! line\n! line\n! line\n! line\n! line\n! line\n! line\n! line\n! line\n! line\n! line\n! line\n! line\n! line\n! line\n! line\n! line\n;\
+    forms_of_script_objects_are_few|script s0 65\nscript s256 0\nscript s0 01\nscript n0 1\nscript s0\ncopy s0 n0\ncopy n1 s0\ndrop s09\ndrop none\ndrop s1 s2\nset s0 0 n0\nset s0 0 none\nget s0 s1 0\nget n0 s1 0\nput s0 4294967296 none\nput s1 2 n3\nput n0 0 s1\nput s0 0\ntake s0 n1 0\ntake n0 s1 0\ntake s0 s1 none\nexpose s0 0\nexpose n0\ngc now\nGC\nslice 0\n|! line\n! line\n! line\n! line\n! line\n! line\n! line\n! line\n! line\n! line\n! line\n! line\n! line\n! line\n! line\n! line\n! line\n! line\n! line\n! line\n! line\n! line\n! line\n! line\n! line\n! line\n;\
+    forms_of_reflectors_and_maps_are_few|wrap n1 s2\nwrap s1 s2\nwrap s1\nwrap s1 none\nunwrap s1 n2\nunwrap n1 n2\nunwrap n1 s2 0\npreserve n7\npreserve none\npreserve\nweakmap s256\nweakmap n0\nweakmap s0 1\nweakmap\nwset s1 s2 None\nwset s1 none s3\nwset n1 s2 s3\nwset s1 n2 s3\nwset s1 s2 n3\nwset s1 s2\nwget n1 s2 s3\nwget s1 n2 s3\nwget s1 s2 none\nwget s1 s2 s3 s4\n|! line\n! line\n! line\n! line\n! line\n! line\n! line\n! line\n! line\n! line\n! line\n! line\n! line\n! line\n! line\n! line\n! line\n! line\n! line\n! line\n! line\n! line\n! line\n! line\n;\
+    empty_registers_are_refused|native n0 1\nweakmap s0\nscript s1 1\nset n9 0 n0\nset n9 0 none\nset n0 0 n9\nset n0 0 s9\nget n1 n9 0\nexpose n9 0\nput s9 0 s1\nput s9 0 none\nput s1 0 s9\ntake s2 s9 0\nwrap s2 n9\nunwrap n1 s9\npreserve s9\nwset s9 s1 s1\nwset s0 s9 s1\nwset s0 s1 s9\nwset s9 s1 none\nwset s0 s9 none\nwget s2 s9 s1\nwget s2 s0 s9\ndrop n9\ncopy n9 n8\ncopy s9 s8\nget n9 n0 0\ntake s9 s1 0\nwget s9 s0 s1\nunwrap n9 s1\nwrap s9 n0\n|= #1\n= @1\n= @2\n! empty\n! empty\n! empty\n! empty\n! empty\n! empty\n! empty\n! empty\n! empty\n! empty\n! empty\n! empty\n! empty\n! empty\n! empty\n! empty\n! empty\n! empty\n! empty\n! empty\n= ok\n= none\n= none\n= none\n= none\n= none\n! kind\n= ~1\n;\
+    wrong_kinds_are_refused|native n0 1\nwrap s0 n0\nweakmap s1\nscript s2 1\nput s1 0 s2\ntake s3 s1 0\nunwrap n1 s1\nunwrap n1 s2\npreserve s1\npreserve s2\nwset s0 s2 s2\nwset s2 s2 s2\nwset s2 s2 none\nwget s3 s0 s2\nwget s3 s2 s2\n|= #1\n= ~1\n= @1\n= @2\n! kind\n! kind\n! kind\n! kind\n! kind\n! kind\n! kind\n! kind\n! kind\n! kind\n! kind\n;\
+    refusals_in_their_order|weakmap s0\nscript s1 1\nnative n0 1\nput s0 0 s9\nwset s1 s9 s1\nwget s2 s1 s9\nset n0 9 s9\nput s0 9 s1\nset n0 0 n0\nget s9 n0 1\n|= @1\n= @2\n= #1\n! empty\n! empty\n! empty\n! empty\n! kind\n= ok\n! slot\n;\
+    refusals_and_odd_lines|native n0 1\nnative n1 0\nset n0 0 n1\nget s0 n0 0\nget s0 n0 7\nset n0 9 none\nset n0 9 n8\nexpose n0 0\nweakmap s0\nscript s1 0\nput s0 9 s1\nput s1 0 s0\nunwrap n0 s9\nunwrap n0 s1\nslice 0\ncollect now\n\n% note\naaaaaaaaaaaaaaaaaaaaaaaaaaaaaaaaaaaaaaaaaaaaaaaaaaaaaaaaaaaaaaaaaaaaaaaaaaaaaaaaaaaaaaaaaaaaaaaaaaaaaaaaaaaaaaaaaaaaaaaaa\ncensus\r\n|= #1\n= #2\n= ok\n! kind\n! slot\n! slot\n! empty\n! kind\n= @1\n= @2\n! kind\n! slot\n! empty\n! kind\n! line\n! line\n! long\n+ #1\n+ #2\n+ @1\n+ @2\n= census 4\n;\
+    numbers_at_their_bounds|native n0 64\nset n0 63 n0\nset n0 64 n0\nset n0 4294967295 n0\nset n0 4294967296 n0\nnative n0 65\nnative n0 01\nnative n256 0\nnative n255 0\ncopy n1 s0\ncopy n1 n7\ndrop n7\nslice 1000000\nslice 1000001\n|= #1\n= ok\n! slot\n! slot\n! line\n! line\n! line\n! line\n= #2\n! line\n= none\n= ok\n= ok\n! line\n;\
+    units_at_their_bounds|slice 1000001\nslice 1000000\nslice 1\nslice 0\n|! line\n= ok\n= ok\n! line\n;\
+    line_of_120_bytes_is_taken|native n0 0                                                                                                             \nnative n1 0                                                                                                              \n%aaaaaaaaaaaaaaaaaaaaaaaaaaaaaaaaaaaaaaaaaaaaaaaaaaaaaaaaaaaaaaaaaaaaaaaaaaaaaaaaaaaaaaaaaaaaaaaaaaaaaaaaaaaaaaaaaaaaaaa\n%aaaaaaaaaaaaaaaaaaaaaaaaaaaaaaaaaaaaaaaaaaaaaaaaaaaaaaaaaaaaaaaaaaaaaaaaaaaaaaaaaaaaaaaaaaaaaaaaaaaaaaaaaaaaaaaaaaaaaaaa\naaaaaaaaaaaaaaaaaaaaaaaaaaaaaaaaaaaaaaaaaaaaaaaaaaaaaaaaaaaaaaaaaaaaaaaaaaaaaaaaaaaaaaaaaaaaaaaaaaaaaaaaaaaaaaaaaaaaaaa\r\naaaaaaaaaaaaaaaaaaaaaaaaaaaaaaaaaaaaaaaaaaaaaaaaaaaaaaaaaaaaaaaaaaaaaaaaaaaaaaaaaaaaaaaaaaaaaaaaaaaaaaaaaaaaaaaaaaaaaaaa\r\ncensus\n|= #1\n! long\n! long\n! line\n! long\n+ #1\n= census 1\n;\
+    last_line_needs_no_line_feed|native n0 0\ncensus\r|= #1\n+ #1\n= census 1\n;\
+    proxy_key_lives_as_long_as_map_and_delegate|weakmap s0\nscript s1 0\nproxy s2 s1\nscript s3 0\nwset s0 s2 s3\ndrop s2\ndrop s3\ngc\ncensus\ndrop s1\ngc\n|= @1\n= @2\n= @3\n= @4\n= ok\n= ok\n= ok\n= ok\n+ @1\n+ @2\n+ @3\n+ @4\n= census 4\n= ok\n- free @2\n- free @3\n- free @4\n= ok\n;\
+    reflector_with_a_proxy_is_preserved|native n0 0\nwrap s0 n0\nproxy s1 s0\ndrop s0\ndrop s1\ngc\ncensus\n|= #1\n= ~1\n= @1\n= ok\n= ok\n- free @1\n= ok\n+ #1\n+ ~1\n= census 2\n;\
+    cycle_through_a_proxy_key|native n0 0\nwrap s1 n0\nweakmap s0\nproxy s2 s1\nscript s3 1\nput s3 0 s1\nwset s0 s2 s3\ndrop n0\ndrop s1\ndrop s2\ndrop s3\ngc\ncollect\ngc\n|= #1\n= ~1\n= @1\n= @2\n= @3\n= ok\n= ok\n= ok\n= ok\n= ok\n= ok\n= ok\n- unlink #1\n= ok\n- free ~1\n- free #1\n- free @2\n- free @3\n= ok\n;\
+    proxy_keeps_its_delegate|script s0 1\nscript s1 0\nput s0 0 s1\nproxy s2 s0\ndrop s0\ndrop s1\ngc\ncensus\ndrop s2\ngc\nscript s0 0\nproxy s1 s0\ndrop s1\ngc\n|= @1\n= @2\n= ok\n= @3\n= ok\n= ok\n= ok\n+ @1\n+ @2\n+ @3\n= census 3\n= ok\n- free @1\n- free @2\n- free @3\n= ok\n= @4\n= @5\n= ok\n- free @5\n= ok\n;\
+    proxy_of_a_proxy_of_a_reflector|native n0 0\nwrap s0 n0\nproxy s1 s0\nproxy s2 s1\ndrop n0\ndrop s0\ndrop s1\ngc\ncollect\ncensus\ndrop s2\ngc\ncollect\ngc\n|= #1\n= ~1\n= @1\n= @2\n= ok\n= ok\n= ok\n= ok\n= ok\n+ #1\n+ ~1\n+ @1\n+ @2\n= census 4\n= ok\n- free @1\n- free @2\n= ok\n- unlink #1\n= ok\n- free ~1\n- free #1\n= ok\n;\
+    key_that_is_a_proxy_of_a_key|weakmap s0\nscript s1 0\nproxy s2 s1\nproxy s3 s2\nscript s4 0\nscript s5 0\nwset s0 s3 s4\nwset s0 s2 s5\ndrop s2\ndrop s3\ndrop s4\ndrop s5\ngc\ncensus\ndrop s1\ngc\n|= @1\n= @2\n= @3\n= @4\n= @5\n= @6\n= ok\n= ok\n= ok\n= ok\n= ok\n= ok\n= ok\n+ @1\n+ @2\n+ @3\n+ @4\n+ @5\n+ @6\n= census 6\n= ok\n- free @2\n- free @3\n- free @4\n- free @5\n- free @6\n= ok\n;\
+    proxy_is_a_key_of_two_maps|weakmap s0\nweakmap s1\nscript s2 0\nproxy s3 s2\nscript s4 0\nscript s5 0\nwset s0 s3 s4\nwset s1 s3 s5\ndrop s3\ndrop s4\ndrop s5\ngc\ndrop s0\ngc\ndrop s1\ngc\n|= @1\n= @2\n= @3\n= @4\n= @5\n= @6\n= ok\n= ok\n= ok\n= ok\n= ok\n= ok\n= ok\n- free @1\n- free @5\n= ok\n= ok\n- free @2\n- free @4\n- free @6\n= ok\n;\
+    delegate_is_the_map_itself|weakmap s0\nproxy s1 s0\nscript s2 0\nwset s0 s1 s2\ndrop s1\ndrop s2\ngc\ncensus\ndrop s0\ngc\n|= @1\n= @2\n= @3\n= ok\n= ok\n= ok\n= ok\n+ @1\n+ @2\n+ @3\n= census 3\n= ok\n- free @1\n- free @2\n- free @3\n= ok\n;\
+    delegate_is_the_value|weakmap s0\nscript s1 0\nproxy s2 s1\nwset s0 s2 s1\ndrop s2\ngc\ncensus\ndrop s1\ngc\ncensus\n|= @1\n= @2\n= @3\n= ok\n= ok\n= ok\n+ @1\n+ @2\n+ @3\n= census 3\n= ok\n- free @2\n- free @3\n= ok\n+ @1\n= census 1\n;\
+    value_holds_the_delegate|weakmap s0\nscript s1 0\nproxy s2 s1\nscript s3 1\nput s3 0 s1\nwset s0 s2 s3\ndrop s1\ndrop s2\ndrop s3\ngc\ncensus\n|= @1\n= @2\n= @3\n= @4\n= ok\n= ok\n= ok\n= ok\n= ok\n- free @2\n- free @3\n- free @4\n= ok\n+ @1\n= census 1\n;\
+    entry_of_a_proxy_key_is_taken_out|weakmap s0\nscript s1 0\nproxy s2 s1\nwset s0 s2 s1\nwget s3 s0 s2\nwset s0 s2 none\ndrop s3\ndrop s2\ngc\nproxy s2 s1\nwset s0 s2 s2\ndrop s2\ngc\ndrop s0\ngc\n|= @1\n= @2\n= @3\n= ok\n= @2\n= ok\n= ok\n= ok\n- free @3\n= ok\n= @4\n= ok\n= ok\n= ok\n= ok\n- free @1\n- free @4\n= ok\n";
 
 #[test]
 fn worked_examples_are_answered(rt: HostRuntime) {
-    are_answered(&rt, &EXAMPLES);
+    rows_are_answered(&rt, ROWS);
 }

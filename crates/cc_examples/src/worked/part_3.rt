@@ -1,214 +1,64 @@
-//! Some of the worked examples.
+//! Some of the worked examples: the name of each, its script, and what this makes the program write.
 //!
 //! Made by tools/worked_examples.py from examples/worked.txt.
 
-use crate::script::{Example, are_answered};
-use cc_replay::Status;
+use crate::script::rows_are_answered;
 
-const EXAMPLES: [Example; 20] = [
-    // A reflector that became a key lives as long as its native, and its entry with it.
-    Example {
-        name: "entry_preserves_its_reflector_key",
-        natives: 1000000,
-        scripts: 1000000,
-        bytes: 4294967295,
-        input: b"native n0 0\nwrap s1 n0\nweakmap s0\nscript s2 0\nwset s0 s1 s2\ndrop s1\ndrop s2\ngc\nwrap s1 n0\nwget s2 s0 s1\n",
-        output: b"= #1\n= ~1\n= @1\n= @2\n= ok\n= ok\n= ok\n= ok\n= ~1\n= @2\n",
-        status: Status::Done,
-    },
-    // Gc, collect and gc take a cycle that goes through an entry of a map that lives on.
-    Example {
-        name: "cycle_through_an_entry",
-        natives: 1000000,
-        scripts: 1000000,
-        bytes: 4294967295,
-        input: b"native n0 0\nwrap s1 n0\nweakmap s0\nscript s2 1\nput s2 0 s1\nwset s0 s1 s2\ndrop n0\ndrop s1\ndrop s2\ngc\ncollect\ngc\ncensus\n",
-        output: b"= #1\n= ~1\n= @1\n= @2\n= ok\n= ok\n= ok\n= ok\n= ok\n= ok\n- unlink #1\n= ok\n- free ~1\n- free #1\n- free @2\n= ok\n+ @1\n= census 1\n",
-        status: Status::Done,
-    },
-    // A collection keeps the value of an entry whose key a live native holds, and what the value leads to.
-    Example {
-        name: "value_lives_by_its_mapping",
-        natives: 1000000,
-        scripts: 1000000,
-        bytes: 4294967295,
-        input: b"native n0 1\nnative n1 0\nweakmap s0\nscript s1 0\nscript s2 1\nwrap s3 n1\nput s2 0 s3\nset n0 0 s1\nwset s0 s1 s2\ndrop s1\ndrop s2\ndrop s3\ndrop n1\ngc\ncollect\nget s1 n0 0\nwget s2 s0 s1\ntake s3 s2 0\nunwrap n1 s3\n",
-        output: b"= #1\n= #2\n= @1\n= @2\n= @3\n= ~2\n= ok\n= ok\n= ok\n= ok\n= ok\n= ok\n= ok\n= ok\n= ok\n= @2\n= @3\n= ~2\n= #2\n",
-        status: Status::Done,
-    },
-    // An entry's value is replaced, read and taken out; a register frees what it alone held when something else comes into it.
-    Example {
-        name: "entries_are_replaced_and_taken_out",
-        natives: 1000000,
-        scripts: 1000000,
-        bytes: 4294967295,
-        input: b"native n0 0\nnative n0 0\nweakmap s0\nscript s1 0\nscript s2 0\nwset s0 s1 s2\nwset s0 s1 s1\nwget s3 s0 s1\nwset s0 s1 none\nwget s3 s0 s1\ncopy s3 s3\ndrop s2\ngc\n",
-        output: b"= #1\n- free #1\n= #2\n= @1\n= @2\n= @3\n= ok\n= ok\n= @2\n= ok\n= none\n= none\n= ok\n- free @3\n= ok\n",
-        status: Status::Done,
-    },
-    // Reading a slot of a weak map is refused for the kind of the object, and not for the slot.
-    Example {
-        name: "weak_map_has_no_slot_to_read",
-        natives: 1000000,
-        scripts: 1000000,
-        bytes: 4294967295,
-        input: b"weakmap s0\ntake s1 s0 0\n",
-        output: b"= @1\n! kind\n",
-        status: Status::Done,
-    },
-    // An entry is not looked up by an empty register.
-    Example {
-        name: "empty_key_is_refused",
-        natives: 1000000,
-        scripts: 1000000,
-        bytes: 4294967295,
-        input: b"weakmap s0\nwget s1 s0 s9\nwget s1 s0 s0\n",
-        output: b"= @1\n! empty\n= none\n",
-        status: Status::Done,
-    },
-    // Writing a slot of a weak map, or emptying it, is refused for the kind of the object, but first for an empty register.
-    Example {
-        name: "weak_map_has_no_slot_to_write",
-        natives: 1000000,
-        scripts: 1000000,
-        bytes: 4294967295,
-        input: b"weakmap s0\nput s0 0 s0\nput s0 0 none\nput s0 0 s9\nput s9 0 s0\ntake s1 s0 64\n",
-        output: b"= @1\n! kind\n! kind\n! empty\n! empty\n! kind\n",
-        status: Status::Done,
-    },
-    // A weak map that is the value of an entry of another one lives by it, and so do the values of its own entries.
-    Example {
-        name: "map_reached_through_an_entry_alone",
-        natives: 1000000,
-        scripts: 1000000,
-        bytes: 4294967295,
-        input: b"weakmap s0\nweakmap s1\nscript s2 0\nscript s3 0\nscript s4 0\nwset s0 s2 s1\nwset s1 s3 s4\ndrop s1\ndrop s4\ngc\nwget s1 s0 s2\nwget s4 s1 s3\ndrop s1\ndrop s4\nwset s0 s2 none\ngc\ncensus\n",
-        output: b"= @1\n= @2\n= @3\n= @4\n= @5\n= ok\n= ok\n= ok\n= ok\n= ok\n= @2\n= @5\n= ok\n= ok\n= ok\n- free @2\n- free @5\n= ok\n+ @1\n+ @3\n+ @4\n= census 3\n",
-        status: Status::Done,
-    },
-    // The entry of a map that is freed is dropped, while its key and its value live on.
-    Example {
-        name: "entry_goes_with_its_map",
-        natives: 1000000,
-        scripts: 1000000,
-        bytes: 4294967295,
-        input: b"weakmap s0\nscript s1 0\nscript s2 0\nwset s0 s1 s2\ndrop s0\ngc\nweakmap s0\nwget s3 s0 s1\ncensus\n",
-        output: b"= @1\n= @2\n= @3\n= ok\n= ok\n- free @1\n= ok\n= @4\n= none\n+ @2\n+ @3\n+ @4\n= census 3\n",
-        status: Status::Done,
-    },
-    // A weak map that is its own key keeps the value as long as it lives.
-    Example {
-        name: "map_is_its_own_key",
-        natives: 1000000,
-        scripts: 1000000,
-        bytes: 4294967295,
-        input: b"weakmap s0\nscript s1 0\nwset s0 s0 s1\ndrop s1\ngc\nwget s1 s0 s0\ndrop s1\ndrop s0\ngc\n",
-        output: b"= @1\n= @2\n= ok\n= ok\n= ok\n= @2\n= ok\n= ok\n- free @1\n- free @2\n= ok\n",
-        status: Status::Done,
-    },
-    // An entry does not keep its map, also where that is its value.
-    Example {
-        name: "map_is_a_value_of_its_own",
-        natives: 1000000,
-        scripts: 1000000,
-        bytes: 4294967295,
-        input: b"weakmap s0\nscript s1 0\nwset s0 s1 s0\nwget s2 s0 s1\ndrop s2\ndrop s0\ngc\ncensus\n",
-        output: b"= @1\n= @2\n= ok\n= @1\n= ok\n= ok\n- free @1\n= ok\n+ @2\n= census 1\n",
-        status: Status::Done,
-    },
-    // The value of two entries lives by the one whose key lives, and goes when that key goes too.
-    Example {
-        name: "two_entries_have_one_value",
-        natives: 1000000,
-        scripts: 1000000,
-        bytes: 4294967295,
-        input: b"weakmap s0\nscript s1 0\nscript s2 0\nscript s3 0\nwset s0 s1 s3\nwset s0 s2 s3\ndrop s3\ndrop s1\ngc\nwget s3 s0 s2\ndrop s3\ndrop s2\ngc\n",
-        output: b"= @1\n= @2\n= @3\n= @4\n= ok\n= ok\n= ok\n= ok\n- free @2\n= ok\n= @4\n= ok\n= ok\n- free @3\n- free @4\n= ok\n",
-        status: Status::Done,
-    },
-    // An entry does not keep a value that is its own key.
-    Example {
-        name: "value_is_its_own_key",
-        natives: 1000000,
-        scripts: 1000000,
-        bytes: 4294967295,
-        input: b"weakmap s0\nscript s1 0\nwset s0 s1 s1\ngc\nwget s2 s0 s1\ndrop s1\ndrop s2\ngc\ncensus\n",
-        output: b"= @1\n= @2\n= ok\n= ok\n= @2\n= ok\n= ok\n- free @2\n= ok\n+ @1\n= census 1\n",
-        status: Status::Done,
-    },
-    // A reflector is not preserved where its entry is taken out.
-    Example {
-        name: "taken_out_entry_preserves_nothing",
-        natives: 1000000,
-        scripts: 1000000,
-        bytes: 4294967295,
-        input: b"native n0 0\nwrap s1 n0\nweakmap s0\nwset s0 s1 none\ndrop s1\ngc\ncensus\n",
-        output: b"= #1\n= ~1\n= @1\n= ok\n= ok\n- free ~1\n= ok\n+ #1\n+ @1\n= census 2\n",
-        status: Status::Done,
-    },
-    // An entry is taken out of one map, where the other keys of that map and the same key of another map keep theirs.
-    Example {
-        name: "entry_is_taken_out_of_its_map_alone",
-        natives: 1000000,
-        scripts: 1000000,
-        bytes: 4294967295,
-        input: b"weakmap s0\nweakmap s1\nscript s2 0\nscript s3 0\nwset s0 s2 s3\nwset s1 s2 s3\nwset s0 s3 s2\nwset s0 s2 none\nwget s4 s0 s2\nwget s4 s1 s2\nwget s4 s0 s3\n",
-        output: b"= @1\n= @2\n= @3\n= @4\n= ok\n= ok\n= ok\n= ok\n= none\n= @4\n= @3\n",
-        status: Status::Done,
-    },
-    // A reflector that is a value lives by its map and a key that a native holds, and goes with its native when the map goes.
-    Example {
-        name: "value_goes_with_its_map",
-        natives: 1000000,
-        scripts: 1000000,
-        bytes: 4294967295,
-        input: b"native n0 1\nnative n1 0\nwrap s0 n1\nweakmap s1\nscript s2 0\nwset s1 s2 s0\nset n0 0 s2\ndrop n1\ndrop s0\ndrop s2\ngc\ncollect\ndrop s1\ngc\ncensus\n",
-        output: b"= #1\n= #2\n= ~2\n= @1\n= @2\n= ok\n= ok\n= ok\n= ok\n= ok\n= ok\n= ok\n= ok\n- free ~2\n- free #2\n- free @1\n= ok\n+ #1\n+ @2\n= census 2\n",
-        status: Status::Done,
-    },
-    // A collection with two nodes takes a unit to begin, one for each node, and one to end.
-    Example {
-        name: "two_cycle_takes_four_units",
-        natives: 1000000,
-        scripts: 1000000,
-        bytes: 4294967295,
-        input: b"native n0 1\nnative n1 1\nset n0 0 n1\nset n1 0 n0\ndrop n0\ndrop n1\nslice 1\nslice 1\nslice 1\nslice 1\n",
-        output: b"= #1\n= #2\n= ok\n= ok\n= ok\n= ok\n= ok\n= ok\n= ok\n- unlink #1\n- unlink #2\n- free #1\n- free #2\n= ok\n",
-        status: Status::Done,
-    },
-    // A native that stands in the buffer without the purple mark is no node, so a collection that begins with it alone takes two units.
-    Example {
-        name: "only_purple_natives_are_candidates",
-        natives: 1000000,
-        scripts: 1000000,
-        bytes: 4294967295,
-        input: b"native n0 0\nslice 2\nnative n1 1\nset n1 0 n1\ndrop n1\nslice 3\n",
-        output: b"= #1\n= ok\n= #2\n= ok\n= ok\n- unlink #2\n- free #2\n= ok\n",
-        status: Status::Done,
-    },
-    // A native that gets a reference is not purple any more, so a collection that begins with it alone takes two units.
-    Example {
-        name: "added_reference_ends_purple",
-        natives: 1000000,
-        scripts: 1000000,
-        bytes: 4294967295,
-        input: b"native n0 0\ncopy n1 n0\ndrop n1\ncopy n1 n0\nslice 2\nnative n2 1\nset n2 0 n2\ndrop n2\nslice 3\n",
-        output: b"= #1\n= #1\n= ok\n= #1\n= ok\n= #2\n= ok\n= ok\n- unlink #2\n- free #2\n= ok\n",
-        status: Status::Done,
-    },
-    // A purple native that is freed leaves the buffer, so a collection that begins then takes two units.
-    Example {
-        name: "freed_native_leaves_the_buffer",
-        natives: 1000000,
-        scripts: 1000000,
-        bytes: 4294967295,
-        input: b"native n0 0\ncopy n1 n0\ndrop n1\ndrop n0\nslice 2\nnative n2 1\nset n2 0 n2\ndrop n2\nslice 3\n",
-        output: b"= #1\n= #1\n= ok\n- free #1\n= ok\n= ok\n= #2\n= ok\n= ok\n- unlink #2\n- free #2\n= ok\n",
-        status: Status::Done,
-    },
-];
+const ROWS: &str = "\
+    entry_of_a_proxy_key_is_set_again|weakmap s0\nscript s1 0\nproxy s2 s1\nscript s3 0\nscript s4 0\nwset s0 s2 s3\nwset s0 s2 s4\ndrop s2\ndrop s3\ndrop s4\ngc\ncensus\ndrop s1\ngc\ncensus\n|= @1\n= @2\n= @3\n= @4\n= @5\n= ok\n= ok\n= ok\n= ok\n= ok\n- free @4\n= ok\n+ @1\n+ @2\n+ @3\n+ @5\n= census 4\n= ok\n- free @2\n- free @3\n- free @5\n= ok\n+ @1\n= census 1\n;\
+    proxy_is_a_value|weakmap s0\nscript s1 0\nscript s2 0\nproxy s3 s2\nwset s0 s1 s3\ndrop s3\ngc\nwget s3 s0 s1\ndrop s3\ndrop s1\ngc\n|= @1\n= @2\n= @3\n= @4\n= ok\n= ok\n= ok\n= @4\n= ok\n= ok\n- free @2\n- free @4\n= ok\n;\
+    gray_proxy_keeps_its_delegate|native n0 1\nnative n1 0\nwrap s1 n1\nproxy s2 s1\nset n0 0 s2\ndrop s1\ndrop s2\ndrop n1\ngc\ncollect\ncensus\ndrop n0\ngc\ncollect\ngc\ncensus\n|= #1\n= #2\n= ~2\n= @1\n= ok\n= ok\n= ok\n= ok\n= ok\n= ok\n+ #1\n+ #2\n+ ~2\n+ @1\n= census 4\n- free #1\n= ok\n- free @1\n= ok\n- unlink #2\n= ok\n- free ~2\n- free #2\n= ok\n= census 0\n;\
+    gray_proxy_key_of_a_live_native|native n0 1\nnative n1 0\nweakmap s0\nscript s1 0\nproxy s2 s1\nscript s3 1\nwrap s4 n1\nput s3 0 s4\npreserve s4\nset n0 0 s1\nwset s0 s2 s3\ndrop s1\ndrop s2\ndrop s3\ndrop s4\ndrop n1\ngc\ncollect\ncensus\nget s1 n0 0\ngc\ncensus\n|= #1\n= #2\n= @1\n= @2\n= @3\n= @4\n= ~2\n= ok\n= ok\n= ok\n= ok\n= ok\n= ok\n= ok\n= ok\n= ok\n= ok\n= ok\n+ #1\n+ #2\n+ @1\n+ @2\n+ @3\n+ @4\n+ ~2\n= census 7\n= @2\n= ok\n+ #1\n+ #2\n+ @1\n+ @2\n+ @3\n+ @4\n+ ~2\n= census 7\n;\
+    exposed_proxy_exposes_its_delegate|native n0 1\nnative n1 0\nwrap s1 n1\nproxy s2 s1\nset n0 0 s2\ndrop s1\ndrop s2\ndrop n1\ngc\nslice 1\nget s2 n0 0\nset n0 0 none\nslice 99\ncensus\n|= #1\n= #2\n= ~2\n= @1\n= ok\n= ok\n= ok\n= ok\n= ok\n= ok\n= @1\n= ok\n= ok\n+ #1\n+ #2\n+ ~2\n+ @1\n= census 4\n;\
+    delegate_exposed_between_slices|native n0 2\nnative n1 0\nweakmap s0\nscript s1 0\nproxy s2 s1\nscript s3 1\nwrap s4 n1\nput s3 0 s4\npreserve s4\nset n0 0 s1\nset n0 1 s0\nwset s0 s2 s3\ndrop s0\ndrop s1\ndrop s2\ndrop s3\ndrop s4\ndrop n1\ngc\nslice 1\nexpose n0 0\nslice 99\ncensus\n|= #1\n= #2\n= @1\n= @2\n= @3\n= @4\n= ~2\n= ok\n= ok\n= ok\n= ok\n= ok\n= ok\n= ok\n= ok\n= ok\n= ok\n= ok\n= ok\n= ok\n= @2\n= ok\n+ #1\n+ #2\n+ @1\n+ @2\n+ @3\n+ @4\n+ ~2\n= census 7\n;\
+    delegate_read_after_its_mapping_was_noted|native n0 1\nnative n1 0\nweakmap s0\nscript s1 0\nproxy s2 s1\nscript s3 1\nwrap s4 n1\nput s3 0 s4\npreserve s4\nset n0 0 s1\nwset s0 s2 s3\ndrop s1\ndrop s2\ndrop s3\ndrop s4\ndrop n1\ngc\nslice 1\nget s1 n0 0\nset n0 0 none\nslice 99\ngc\ncensus\ndrop s1\ngc\ncollect\ngc\ncensus\n|= #1\n= #2\n= @1\n= @2\n= @3\n= @4\n= ~2\n= ok\n= ok\n= ok\n= ok\n= ok\n= ok\n= ok\n= ok\n= ok\n= ok\n= ok\n= @2\n= ok\n= ok\n= ok\n+ #1\n+ #2\n+ @1\n+ @2\n+ @3\n+ @4\n+ ~2\n= census 7\n= ok\n- free @2\n- free @3\n- free @4\n= ok\n- unlink #2\n= ok\n- free ~2\n- free #2\n= ok\n+ #1\n+ @1\n= census 2\n;\
+    entry_of_a_proxy_set_in_mid_collection|native n0 1\nwrap s1 n0\nweakmap s0\nscript s3 1\nput s3 0 s1\npreserve s1\nset n0 0 n0\ndrop s1\ndrop s3\ngc\nslice 1\nwrap s1 n0\nscript s3 1\nput s3 0 s1\nproxy s2 s1\nwset s0 s2 s3\ndrop n0\ndrop s1\ndrop s2\ndrop s3\nslice 99\ngc\ncollect\ngc\ncensus\n|= #1\n= ~1\n= @1\n= @2\n= ok\n= ok\n= ok\n= ok\n= ok\n- free @2\n= ok\n= ok\n= ~1\n= @3\n= ok\n= @4\n= ok\n= ok\n= ok\n= ok\n= ok\n= ok\n= ok\n- unlink #1\n= ok\n- free ~1\n- free #1\n- free @3\n- free @4\n= ok\n+ @1\n= census 1\n;\
+    delegate_comes_before_its_key|native n0 2\nweakmap s0\nscript s1 1\nproxy s2 s1\nscript s3 1\nscript s4 0\nscript s5 0\nput s1 0 s4\nput s3 0 s5\nset n0 0 s1\nset n0 1 s3\nwset s0 s2 s3\ndrop s1\ndrop s2\ndrop s3\ndrop s4\ndrop s5\nnative n1 1\nset n1 0 n1\ndrop n1\ngc\nslice 4\nexpose n0 0\nslice 1\nexpose n0 1\nslice 1\nslice 1\nslice 1\n|= #1\n= @1\n= @2\n= @3\n= @4\n= @5\n= @6\n= ok\n= ok\n= ok\n= ok\n= ok\n= ok\n= ok\n= ok\n= ok\n= ok\n= #2\n= ok\n= ok\n= ok\n= ok\n= @2\n= ok\n= @4\n= ok\n= ok\n- unlink #2\n- free #2\n= ok\n;\
+    gray_proxy_key_takes_seven_units|native n0 1\nweakmap s0\nscript s1 0\nproxy s2 s1\nscript s3 0\nwset s0 s2 s3\nset n0 0 s1\ndrop s1\ndrop s2\ndrop s3\nnative n1 1\nset n1 0 n1\ndrop n1\ngc\nslice 6\nslice 1\nget s1 n0 0\ngc\ncensus\n|= #1\n= @1\n= @2\n= @3\n= @4\n= ok\n= ok\n= ok\n= ok\n= ok\n= #2\n= ok\n= ok\n= ok\n= ok\n- unlink #2\n- free #2\n= ok\n= @2\n= ok\n+ #1\n+ @1\n+ @2\n+ @3\n+ @4\n= census 5\n;\
+    proxy_has_no_slots|script s0 1\nproxy s1 s0\nput s1 0 s0\nput s1 0 none\nput s1 4 s9\ntake s2 s1 0\ntake s2 s1 4294967295\nunwrap n0 s1\npreserve s1\nwset s1 s0 s0\nwset s1 s0 none\nwget s2 s1 s0\nnative n0 1\nset n0 0 s1\nget s3 n0 0\nput s0 0 s3\ntake s2 s0 0\ncensus\n|= @1\n= @2\n! slot\n! slot\n! empty\n! slot\n! slot\n! kind\n! kind\n! kind\n! kind\n! kind\n= #1\n= ok\n= @2\n= ok\n= @2\n+ #1\n+ @1\n+ @2\n= census 3\n;\
+    proxy_of_nothing_is_refused|script s0 0\nproxy s0 s1\nproxy s1 s1\ncopy s2 s0\nproxy s0 s0\nproxy s0 s0\ndrop s2\ngc\ncensus\n|= @1\n! empty\n! empty\n= @1\n= @2\n= @3\n= ok\n= ok\n+ @1\n+ @2\n+ @3\n= census 3\n;\
+    forms_of_proxies_are_few|proxy\nproxy s0\nproxy n0 s0\nproxy s0 n0\nproxy s256 s0\nproxy s0 s256\nproxy s0 s1 s2\nproxy s0 none\nproxy s0 0\nProxy s0 s1\nproxy s00 s1\nproxy s255 s255\n|! line\n! line\n! line\n! line\n! line\n! line\n! line\n! line\n! line\n! line\n! line\n! empty\n;\
+    version_two_is_asked_for_first|version 2\nnative n1023 256\nscript s1023 256\nset n1023 255 n1023\nset n1023 256 n1023\nput s1023 255 s1023\nput s1023 256 s1023\nnative n1024 0\nscript s1024 0\nnative n0 257\nscript s0 257\nnative n0 1\n|= ok\n= #1\n= @1\n= ok\n! slot\n= ok\n! slot\n! line\n! line\n! line\n! line\n= #2\n;\
+    version_one_means_what_it_meant|native n255 64\nnative n256 0\nmove n255 0 n255 1\nversion 2\n|= #1\n! line\n! line\n! line\n;\
+    comment_before_version_two|% c\nversion 2\n|= ok\n;\
+    blank_lines_before_version_two|\n  \n% note\n\r\n  \r\n%aaaaaaaaaaaaaaaaaaaaaaaaaaaaaaaaaaaaaaaaaaaaaaaaaaaaaaaaaaaaaaaaaaaaaaaaaaaaaaaaaaaaaaaaaaaaaaaaaaaaaaaaaaaaaaaaaaaaaaa\n  version   2  \nnative n1023 0\n|= ok\n= #1\n;\
+    long_line_before_version_two|aaaaaaaaaaaaaaaaaaaaaaaaaaaaaaaaaaaaaaaaaaaaaaaaaaaaaaaaaaaaaaaaaaaaaaaaaaaaaaaaaaaaaaaaaaaaaaaaaaaaaaaaaaaaaaaaaaaaaaaaa\nversion 2\nnative n256 0\nnative n255 65\nnative n255 64\n|! long\n! line\n! line\n! line\n= #1\n;\
+    long_comment_before_version_two|%aaaaaaaaaaaaaaaaaaaaaaaaaaaaaaaaaaaaaaaaaaaaaaaaaaaaaaaaaaaaaaaaaaaaaaaaaaaaaaaaaaaaaaaaaaaaaaaaaaaaaaaaaaaaaaaaaaaaaaaa\nversion 2\nnative n256 0\n|! long\n! line\n! line\n;\
+    bad_line_before_version_two|census now\nversion 2\nnative n256 0\n|! line\n! line\n! line\n;\
+    command_before_version_two|census\nversion 2\nnative n256 0\n|= census 0\n! line\n! line\n;\
+    refused_command_before_version_two|preserve s0\nversion 2\nnative n256 0\n|! empty\n! line\n! line\n;\
+    version_two_is_asked_for_once|version 2\nversion 2\nversion 1\nversion 3\nversion\naaaaaaaaaaaaaaaaaaaaaaaaaaaaaaaaaaaaaaaaaaaaaaaaaaaaaaaaaaaaaaaaaaaaaaaaaaaaaaaaaaaaaaaaaaaaaaaaaaaaaaaaaaaaaaaaaaaaaaaaa\nnative n256 65\n|= ok\n! line\n! line\n! line\n! line\n! long\n= #1\n;\
+    version_one_is_not_asked_for|version 1\nversion 2\nnative n256 0\n|! line\n! line\n! line\n;\
+    version_three_is_not_known|version 3\nversion 2\nnative n256 0\n|! line\n! line\n! line\n;\
+    version_has_no_leading_zero|version 02\nversion 2\nnative n256 0\n|! line\n! line\n! line\n;\
+    version_without_a_number|version\nversion 2\nnative n256 0\n|! line\n! line\n! line\n;\
+    version_with_two_numbers|version 2 2\nversion 2\nnative n256 0\n|! line\n! line\n! line\n;\
+    version_behind_a_tab|version\t2\nversion 2\nnative n256 0\n|! line\n! line\n! line\n;\
+    version_with_a_capital_letter|Version 2\nversion 2\nnative n256 0\n|! line\n! line\n! line\n;\
+    version_two_with_carriage_returns|version 2\r\nnative n256 0\r\n|= ok\n= #1\n;\
+    version_two_with_two_carriage_returns|version 2\r\r\nversion 2\nnative n256 0\n|! line\n! line\n! line\n;\
+    version_two_without_a_line_feed|version 2|= ok\n;\
+    wide_registers_in_every_form|version 2\nnative n1000 2\nscript s1000 1\nweakmap s1001\nproxy s1002 s1000\ncopy n1001 n1000\ncopy s1003 s1000\nset n1000 0 n1001\nset n1000 1 s1003\nget n1002 n1000 0\nget s1004 n1000 1\nexpose n1000 1\nset n1000 1 none\nput s1000 0 s1001\ntake s1005 s1000 0\nput s1000 0 none\nwrap s1006 n1000\nunwrap n1003 s1006\npreserve s1006\nwset s1001 s1002 s1000\nwget s1007 s1001 s1002\nwset s1001 s1002 none\ndrop n1001\ndrop s1004\ncensus\n|= ok\n= #1\n= @1\n= @2\n= @3\n= #1\n= @1\n= ok\n= ok\n= #1\n= @1\n= @1\n= ok\n= ok\n= @2\n= ok\n= ~1\n= #1\n= ok\n= ok\n= @1\n= ok\n= ok\n= ok\n+ #1\n+ @1\n+ @2\n+ @3\n+ ~1\n= census 5\n;\
+    register_1024_is_in_no_form|version 2\nnative n1024 0\nnative n0 257\nscript s1024 0\nscript s0 257\nweakmap s1024\nproxy s1024 s0\nproxy s0 s1024\ncopy n1024 n0\ncopy n0 n1024\ncopy s1024 s0\ncopy s0 s1024\ndrop n1024\ndrop s1024\nset n1024 0 n0\nset n0 0 n1024\nset n1024 0 s0\nset n0 0 s1024\nset n1024 0 none\nget n1024 n0 0\nget n0 n1024 0\nget s1024 n0 0\nget s0 n1024 0\nput s1024 0 s0\nput s0 0 s1024\nput s1024 0 none\ntake s1024 s0 0\ntake s0 s1024 0\nwrap s1024 n0\nwrap s0 n1024\nunwrap n1024 s0\nunwrap n0 s1024\npreserve s1024\nwset s1024 s0 s0\nwset s0 s1024 s0\nwset s0 s0 s1024\nwset s1024 s0 none\nwset s0 s1024 none\nwget s1024 s0 s0\nwget s0 s1024 s0\nwget s0 s0 s1024\nexpose n1024 0\n|= ok\n! line\n! line\n! line\n! line\n! line\n! line\n! line\n! line\n! line\n! line\n! line\n! line\n! line\n! line\n! line\n! line\n! line\n! line\n! line\n! line\n! line\n! line\n! line\n! line\n! line\n! line\n! line\n! line\n! line\n! line\n! line\n! line\n! line\n! line\n! line\n! line\n! line\n! line\n! line\n! line\n! line\n;\
+    register_256_is_in_no_form_of_version_one|native n256 0\nnative n0 65\nscript s256 0\nscript s0 65\nweakmap s256\nproxy s256 s0\nproxy s0 s256\ncopy n256 n0\ncopy n0 n256\ncopy s256 s0\ncopy s0 s256\ndrop n256\ndrop s256\nset n256 0 n0\nset n0 0 n256\nset n256 0 s0\nset n0 0 s256\nset n256 0 none\nget n256 n0 0\nget n0 n256 0\nget s256 n0 0\nget s0 n256 0\nput s256 0 s0\nput s0 0 s256\nput s256 0 none\ntake s256 s0 0\ntake s0 s256 0\nwrap s256 n0\nwrap s0 n256\nunwrap n256 s0\nunwrap n0 s256\npreserve s256\nwset s256 s0 s0\nwset s0 s256 s0\nwset s0 s0 s256\nwset s256 s0 none\nwset s0 s256 none\nwget s256 s0 s0\nwget s0 s256 s0\nwget s0 s0 s256\nexpose n256 0\n|! line\n! line\n! line\n! line\n! line\n! line\n! line\n! line\n! line\n! line\n! line\n! line\n! line\n! line\n! line\n! line\n! line\n! line\n! line\n! line\n! line\n! line\n! line\n! line\n! line\n! line\n! line\n! line\n! line\n! line\n! line\n! line\n! line\n! line\n! line\n! line\n! line\n! line\n! line\n! line\n! line\n;\
+    registers_above_255_are_roots|version 2\nnative n1023 1\nset n1023 0 n1023\nscript s1023 0\ngc\ncollect\ngc\ncensus\ndrop n1023\ndrop s1023\ngc\ncollect\ngc\ncensus\n|= ok\n= #1\n= ok\n= @1\n= ok\n= ok\n= ok\n+ #1\n+ @1\n= census 2\n= ok\n= ok\n- free @1\n= ok\n- unlink #1\n- free #1\n= ok\n= ok\n= census 0\n;\
+    slots_above_63_are_given_up_in_rising_order|version 2\nnative n0 256\nnative n1 0\nnative n2 0\nnative n3 0\nset n0 255 n1\nset n0 64 n2\nset n0 63 n3\ndrop n1\ndrop n2\ndrop n3\ndrop n0\n|= ok\n= #1\n= #2\n= #3\n= #4\n= ok\n= ok\n= ok\n= ok\n= ok\n= ok\n- free #1\n- free #4\n- free #3\n- free #2\n= ok\n;\
+    last_slots_are_looked_at|version 2\nnative n0 256\nscript s0 256\nwrap s1 n0\nput s0 255 s1\nset n0 255 s0\ndrop n0\ndrop s0\ndrop s1\ngc\ncollect\ngc\n|= ok\n= #1\n= @1\n= ~1\n= ok\n= ok\n= ok\n= ok\n= ok\n= ok\n- unlink #1\n= ok\n- free @1\n- free ~1\n- free #1\n= ok\n;\
+    last_register_and_last_slot_move|version 2\nnative n1023 256\nset n1023 255 n1023\nnative n1024 0\nnative n0 257\nversion 2\nnative n0 1\nmove n0 0 n1023 255\nmove n1023 0 n0 0\nmove n1023 0 n0 0\n|= ok\n= #1\n= ok\n! line\n! line\n! line\n= #2\n= #1\n= #1\n= none\n;\
+    move_changes_no_count|version 2\nnative n0 1\nnative n1 1\nnative n2 0\nset n0 0 n2\ndrop n2\nmove n1 0 n0 0\nmove n0 0 n1 0\nget n2 n1 0\ndrop n1\nget n2 n0 0\ndrop n2\nset n0 0 none\ndrop n0\n|= ok\n= #1\n= #2\n= #3\n= ok\n= ok\n= #3\n= #3\n= none\n- free #2\n= ok\n= #3\n= ok\n- free #3\n= ok\n- free #1\n= ok\n;\
+    move_gives_up_what_the_slot_held|version 2\nnative n0 1\nnative n1 1\nnative n2 1\nnative n3 0\nset n0 0 n2\nset n2 0 n3\ndrop n2\ndrop n3\nnative n4 0\nset n1 0 n4\ndrop n4\nmove n0 0 n1 0\nget n2 n0 0\nget n3 n1 0\n|= ok\n= #1\n= #2\n= #3\n= #4\n= ok\n= ok\n= ok\n= ok\n= #5\n= ok\n= ok\n- free #3\n- free #4\n= #5\n= #5\n= none\n;\
+    move_of_nothing_empties_the_slot|version 2\nnative n0 2\nnative n1 1\nnative n2 0\nscript s0 0\nset n0 0 n2\nset n0 1 s0\ndrop n2\ndrop s0\nmove n0 0 n1 0\nmove n0 1 n1 0\nget n2 n0 0\ngc\n|= ok\n= #1\n= #2\n= #3\n= @1\n= ok\n= ok\n= ok\n= ok\n- free #3\n= none\n= none\n= none\n- free @1\n= ok\n;\
+    native_moves_into_its_own_slot|version 2\nnative n0 1\nnative n1 1\nset n1 0 n0\nmove n0 0 n1 0\ndrop n0\nget n2 n1 0\ncensus\ncollect\ncensus\n|= ok\n= #1\n= #2\n= ok\n= #1\n= ok\n= none\n+ #1\n+ #2\n= census 2\n- unlink #1\n- free #1\n= ok\n+ #2\n= census 1\n;\
+    move_onto_its_own_place|version 2\nnative n0 1\nnative n1 0\nset n0 0 n1\ndrop n1\ncopy n2 n0\nmove n0 0 n0 0\nmove n2 0 n0 0\nget n1 n0 0\ndrop n1\ndrop n2\ndrop n0\n|= ok\n= #1\n= #2\n= ok\n= ok\n= #1\n= #2\n= #2\n= #2\n= ok\n= ok\n- free #1\n- free #2\n= ok\n;\
+    move_onto_a_slot_that_holds_it|version 2\nnative n0 2\nnative n1 0\nset n0 0 n1\nset n0 1 n1\ndrop n1\nmove n0 0 n0 1\nget n1 n0 1\nset n0 0 none\n|= ok\n= #1\n= #2\n= ok\n= ok\n= ok\n= #2\n= none\n- free #2\n= ok\n;\
+    all_kinds_of_objects_move|version 2\nnative n0 1\nnative n1 1\nnative n2 0\nscript s0 0\nweakmap s1\nproxy s2 s0\nwrap s3 n1\nset n0 0 n2\ndrop n2\nset n1 0 s0\nmove n0 0 n1 0\nget n2 n0 0\nset n1 0 s1\nmove n0 0 n1 0\nset n1 0 s2\nmove n0 0 n1 0\nset n1 0 s3\nmove n0 0 n1 0\nget s4 n0 0\nset n1 0 n0\nmove n0 0 n1 0\nget s4 n0 0\n|= ok\n= #1\n= #2\n= #3\n= @1\n= @2\n= @3\n= ~2\n= ok\n= ok\n= ok\n- free #3\n= @1\n! kind\n= ok\n= @2\n= ok\n= @3\n= ok\n= ~2\n= ~2\n= ok\n= #1\n! kind\n;\
+    refused_moves_in_their_order|version 2\nnative n0 2\nnative n1 1\nset n1 0 n0\nmove n9 0 n1 0\nmove n0 0 n9 0\nmove n9 7 n9 7\nmove n9 0 n1 7\nmove n0 2 n1 0\nmove n0 0 n1 1\nmove n0 4294967295 n1 4294967295\nmove n0 4294967296 n9 0\nmove n0 1 n1 0\n|= ok\n= #1\n= #2\n= ok\n! empty\n! empty\n! empty\n! empty\n! slot\n! slot\n! slot\n! line\n= #1\n;\
+    forms_of_moves_are_few|version 2\nmove\nmove n0 n1\nmove n0 0 n1\nmove n0 0 n1 0 0\nmove s0 0 n1 0\nmove n0 0 s1 0\nmove n0 none n1 0\nmove n0 0 none 0\nmove n0 0 none\nmove n1024 0 n0 0\nmove n0 0 n1024 0\nmove n0 4294967296 n1 0\nmove n0 0 n1 4294967296\nmove n0 00 n1 0\nmove n0 0 n1 -1\nMove n0 0 n1 0\nmove n0 0, n1 0\nmove n1023 0 n1023 0\n|= ok\n! line\n! line\n! line\n! line\n! line\n! line\n! line\n! line\n! line\n! line\n! line\n! line\n! line\n! line\n! line\n! line\n! line\n! empty\n;\
+    native_given_up_by_a_move_is_suspected|version 2\nnative n0 1\nnative n1 1\nnative n2 1\nset n2 0 n2\nset n0 0 n2\ndrop n2\ncollect\nmove n0 0 n1 0\ncollect\n|= ok\n= #1\n= #2\n= #3\n= ok\n= ok\n= ok\n= ok\n= none\n- unlink #3\n- free #3\n= ok\n;\
+    moved_native_is_no_candidate|version 2\nnative n0 1\nnative n1 1\nnative n2 0\nset n0 0 n2\ndrop n2\ncollect\nnative n3 1\nset n3 0 n3\ndrop n3\nmove n1 0 n0 0\nslice 3\n|= ok\n= #1\n= #2\n= #3\n= ok\n= ok\n= ok\n= #4\n= ok\n= ok\n= #3\n- unlink #4\n- free #4\n= ok\n;\
+    move_ends_purple|version 2\nnative n0 1\nnative n1 1\nnative n2 0\nset n0 0 n2\ndrop n2\nnative n3 1\nset n3 0 n3\ndrop n3\nmove n1 0 n0 0\nslice 3\n|= ok\n= #1\n= #2\n= #3\n= ok\n= ok\n= #4\n= ok\n= ok\n= #3\n- unlink #4\n- free #4\n= ok\n";
 
 #[test]
 fn worked_examples_are_answered(rt: HostRuntime) {
-    are_answered(&rt, &EXAMPLES);
+    rows_are_answered(&rt, ROWS);
 }

@@ -1,214 +1,61 @@
-//! Some of the worked examples.
+//! Some of the worked examples: the name of each, its script, and what this makes the program write.
 //!
 //! Made by tools/worked_examples.py from examples/worked.txt.
 
-use crate::script::{Example, are_answered};
-use cc_replay::Status;
+use crate::script::rows_are_answered;
 
-const EXAMPLES: [Example; 20] = [
-    // A black script object that a native holds is no node, so a collection with that native alone takes three units.
-    Example {
-        name: "black_objects_are_not_looked_at",
-        natives: 1000000,
-        scripts: 1000000,
-        bytes: 4294967295,
-        input: b"native n0 1\nscript s0 0\nset n0 0 s0\ncopy n1 n0\ndrop n1\nslice 3\nnative n2 1\nset n2 0 n2\ndrop n2\nslice 3\n",
-        output: b"= #1\n= @1\n= ok\n= #1\n= ok\n= ok\n= #2\n= ok\n= ok\n- unlink #2\n- free #2\n= ok\n",
-        status: Status::Done,
-    },
-    // A native that becomes purple once more keeps its place in the buffer, so it is looked at before those that became purple in between.
-    Example {
-        name: "marked_again_keeps_its_place_in_the_buffer",
-        natives: 1000000,
-        scripts: 1000000,
-        bytes: 4294967295,
-        input: b"native n0 1\nset n0 0 n0\ncopy n1 n0\ndrop n1\nnative n2 1\nnative n3 0\nset n2 0 n3\ncopy n1 n2\ndrop n1\ndrop n0\nslice 2\nset n2 0 none\nslice 2\n",
-        output: b"= #1\n= ok\n= #1\n= ok\n= #2\n= #3\n= ok\n= #2\n= ok\n= ok\n= ok\n= ok\n- unlink #1\n- free #1\n= ok\n",
-        status: Status::Done,
-    },
-    // Candidates are looked at before the natives that hold gray objects, of which one is freed meanwhile.
-    Example {
-        name: "candidates_come_before_holders",
-        natives: 1000000,
-        scripts: 1000000,
-        bytes: 4294967295,
-        input: b"native n0 1\nset n0 0 n0\nnative n1 1\nscript s0 0\nset n1 0 s0\ndrop s0\ndrop n0\ngc\nslice 2\ndrop n1\nslice 2\n",
-        output: b"= #1\n= ok\n= #2\n= @1\n= ok\n= ok\n= ok\n= ok\n= ok\n- free #2\n= ok\n- unlink #1\n- free #1\n= ok\n",
-        status: Status::Done,
-    },
-    // An entry whose value was replaced keeps its place, so its members are looked at before those of an entry that was set in between.
-    Example {
-        name: "replaced_entry_keeps_its_place",
-        natives: 1000000,
-        scripts: 1000000,
-        bytes: 4294967295,
-        input: b"native n0 2\nweakmap s0\nscript s1 0\nscript s2 1\nscript s3 0\nput s2 0 s3\nset n0 0 s1\nset n0 1 s2\nwset s0 s1 s2\nwset s0 s2 s2\nwset s0 s1 s1\ndrop s1\ndrop s2\ndrop s3\nnative n1 1\nset n1 0 n1\ndrop n1\ngc\nslice 4\nexpose n0 1\nslice 2\n",
-        output: b"= #1\n= @1\n= @2\n= @3\n= @4\n= ok\n= ok\n= ok\n= ok\n= ok\n= ok\n= ok\n= ok\n= ok\n= #2\n= ok\n= ok\n= ok\n= ok\n= @3\n- unlink #2\n- free #2\n= ok\n",
-        status: Status::Done,
-    },
-    // An entry that was taken out and set again goes last, so its members are looked at after those of an entry that was set in between.
-    Example {
-        name: "entry_set_again_goes_last",
-        natives: 1000000,
-        scripts: 1000000,
-        bytes: 4294967295,
-        input: b"native n0 2\nweakmap s0\nscript s1 0\nscript s2 1\nscript s3 0\nput s2 0 s3\nset n0 0 s1\nset n0 1 s2\nwset s0 s1 s1\nwset s0 s2 s2\nwset s0 s1 none\nwset s0 s1 s1\ndrop s1\ndrop s2\ndrop s3\nnative n1 1\nset n1 0 n1\ndrop n1\ngc\nslice 4\nexpose n0 1\nslice 2\nslice 1\n",
-        output: b"= #1\n= @1\n= @2\n= @3\n= @4\n= ok\n= ok\n= ok\n= ok\n= ok\n= ok\n= ok\n= ok\n= ok\n= ok\n= #2\n= ok\n= ok\n= ok\n= ok\n= @3\n= ok\n- unlink #2\n- free #2\n= ok\n",
-        status: Status::Done,
-    },
-    // Collect ends the collection that runs and begins another, which takes what became garbage in between.
-    Example {
-        name: "collect_begins_one_of_its_own",
-        natives: 1000000,
-        scripts: 1000000,
-        bytes: 4294967295,
-        input: b"native n0 1\nset n0 0 n0\nslice 1\ndrop n0\ncollect\n",
-        output: b"= #1\n= ok\n= ok\n= ok\n- unlink #1\n- free #1\n= ok\n",
-        status: Status::Done,
-    },
-    // The numbers of what a collect unlinks begin anew where it has ended the collection that ran, and runs one of its own.
-    Example {
-        name: "collect_ends_one_and_takes_more_in_its_own",
-        natives: 1000000,
-        scripts: 1000000,
-        bytes: 4294967295,
-        input: b"native n0 1\nset n0 0 n0\nnative n1 1\nset n1 0 n1\ndrop n1\nslice 1\ndrop n0\ncollect\n",
-        output: b"= #1\n= ok\n= #2\n= ok\n= ok\n= ok\n= ok\n- unlink #2\n- free #2\n- unlink #1\n- free #1\n= ok\n",
-        status: Status::Done,
-    },
-    // A native that was touched while a collection ran waits for the next one.
-    Example {
-        name: "touched_between_slices",
-        natives: 1000000,
-        scripts: 1000000,
-        bytes: 4294967295,
-        input: b"native n0 1\nset n0 0 n0\ncopy n1 n0\ndrop n1\nslice 1\ncopy n2 n0\ndrop n0\ndrop n2\nslice 10\ncollect\n",
-        output: b"= #1\n= ok\n= #1\n= ok\n= ok\n= #1\n= ok\n= ok\n= ok\n- unlink #1\n- free #1\n= ok\n",
-        status: Status::Done,
-    },
-    // What script read from a native while a collection ran keeps what it holds.
-    Example {
-        name: "read_between_slices",
-        natives: 1000000,
-        scripts: 1000000,
-        bytes: 4294967295,
-        input: b"native n0 1\nscript s0 1\nscript s1 0\nput s0 0 s1\nset n0 0 s0\ndrop s0\ndrop s1\ngc\nslice 1\nget s0 n0 0\nset n0 0 none\nslice 10\ntake s1 s0 0\n",
-        output: b"= #1\n= @1\n= @2\n= ok\n= ok\n= ok\n= ok\n= ok\n= ok\n= @1\n= ok\n= ok\n= @2\n",
-        status: Status::Done,
-    },
-    // A native lives by its reflector, which script touched while the collection ran.
-    Example {
-        name: "native_lives_by_an_exposed_reflector",
-        natives: 1000000,
-        scripts: 1000000,
-        bytes: 4294967295,
-        input: b"native n0 1\nnative n1 0\nnative n2 2\nwrap s0 n1\nset n0 0 s0\nset n2 0 s0\nset n2 1 n2\ndrop s0\ndrop n1\ndrop n2\ngc\nslice 3\nget s1 n0 0\nset n0 0 none\nslice 10\nunwrap n1 s1\n",
-        output: b"= #1\n= #2\n= #3\n= ~2\n= ok\n= ok\n= ok\n= ok\n= ok\n= ok\n= ok\n= ok\n= ~2\n= ok\n- unlink #3\n- free #3\n= ok\n= #2\n",
-        status: Status::Done,
-    },
-    // A native that gets a reference after it was sampled is touched, so it is not looked at with an old count.
-    Example {
-        name: "copied_after_its_node_was_traversed",
-        natives: 1000000,
-        scripts: 1000000,
-        bytes: 4294967295,
-        input: b"native n0 1\nset n0 0 n0\ncopy n1 n0\ndrop n1\nslice 2\ncopy n2 n0\nslice 5\ndrop n0\ndrop n2\ncollect\n",
-        output: b"= #1\n= ok\n= #1\n= ok\n= ok\n= #1\n= ok\n= ok\n= ok\n- unlink #1\n- free #1\n= ok\n",
-        status: Status::Done,
-    },
-    // A native that was looked at and is freed before the end counts as it was sampled: it was held, so this collection keeps what it led to.
-    Example {
-        name: "freed_after_its_node_was_traversed",
-        natives: 1000000,
-        scripts: 1000000,
-        bytes: 4294967295,
-        input: b"native n0 0\nwrap s0 n0\nnative n1 1\nset n1 0 s0\ndrop s0\ndrop n0\ngc\nslice 3\ndrop n1\nslice 2\ngc\ncensus\n",
-        output: b"= #1\n= ~1\n= #2\n= ok\n= ok\n= ok\n= ok\n= ok\n- free #2\n= ok\n= ok\n- free ~1\n- free #1\n= ok\n= census 0\n",
-        status: Status::Done,
-    },
-    // Unlinking one white native may free the one that comes next in the walk.
-    Example {
-        name: "native_vanishes_inside_an_unlink",
-        natives: 1000000,
-        scripts: 1000000,
-        bytes: 4294967295,
-        input: b"native n0 2\nnative n1 0\nset n0 0 n0\nset n0 1 n1\ndrop n0\nslice 1\ndrop n1\nslice 10\n",
-        output: b"= #1\n= #2\n= ok\n= ok\n= ok\n= ok\n= ok\n- unlink #1\n- free #2\n- free #1\n= ok\n",
-        status: Status::Done,
-    },
-    // A native made while a collection runs is kept, and the cycle that the collection began with is taken.
-    Example {
-        name: "native_made_between_slices",
-        natives: 1000000,
-        scripts: 1000000,
-        bytes: 4294967295,
-        input: b"native n0 1\nwrap s0 n0\nset n0 0 s0\ndrop s0\ndrop n0\ngc\nslice 1\nnative n1 0\nslice 9\ngc\ncensus\n",
-        output: b"= #1\n= ~1\n= ok\n= ok\n= ok\n= ok\n= ok\n= #2\n- unlink #1\n= ok\n- free ~1\n- free #1\n= ok\n+ #2\n= census 1\n",
-        status: Status::Done,
-    },
-    // Gc brings a collection that runs to its end before it marks.
-    Example {
-        name: "gc_ends_a_running_collection",
-        natives: 1000000,
-        scripts: 1000000,
-        bytes: 4294967295,
-        input: b"native n0 1\nset n0 0 n0\ndrop n0\nslice 1\ngc\n",
-        output: b"= #1\n= ok\n= ok\n= ok\n- unlink #1\n- free #1\n= ok\n",
-        status: Status::Done,
-    },
-    // A native that holds nothing gray but its reflector is looked at, and so is this, so a collection with one candidate takes five units.
-    Example {
-        name: "native_that_preserves_a_gray_reflector_is_a_holder",
-        natives: 1000000,
-        scripts: 1000000,
-        bytes: 4294967295,
-        input: b"native n0 0\nwrap s0 n0\npreserve s0\ndrop s0\nnative n1 1\nset n1 0 n1\ndrop n1\ngc\nslice 4\nslice 1\n",
-        output: b"= #1\n= ~1\n= ok\n= ok\n= #2\n= ok\n= ok\n= ok\n= ok\n- unlink #2\n- free #2\n= ok\n",
-        status: Status::Done,
-    },
-    // What a native's slots hold is looked at before its reflector, which has become black meanwhile and leads to nothing more.
-    Example {
-        name: "preserved_reflector_is_looked_at_after_the_slots",
-        natives: 1000000,
-        scripts: 1000000,
-        bytes: 4294967295,
-        input: b"native n0 1\nwrap s0 n0\nscript s1 0\nscript s2 0\nput s0 0 s2\nset n0 0 s1\ndrop s0\ndrop s1\ndrop s2\nnative n1 1\nset n1 0 n1\ndrop n1\ngc\nslice 4\nwrap s3 n0\nslice 1\nslice 1\n",
-        output: b"= #1\n= ~1\n= @1\n= @2\n= ok\n= ok\n= ok\n= ok\n= ok\n= #2\n= ok\n= ok\n= ok\n= ok\n= ~1\n= ok\n- unlink #2\n- free #2\n= ok\n",
-        status: Status::Done,
-    },
-    // A map of which an entry tells is looked at before the key, and the key before the value, each of which is exposed in between and leads to nothing more.
-    Example {
-        name: "map_comes_before_its_key",
-        natives: 1000000,
-        scripts: 1000000,
-        bytes: 4294967295,
-        input: b"native n0 3\nweakmap s0\nscript s1 1\nscript s2 1\nscript s3 0\nscript s4 0\nput s1 0 s3\nput s2 0 s4\nset n0 0 s2\nset n0 1 s1\nset n0 2 s0\nwset s0 s1 s2\ndrop s0\ndrop s1\ndrop s2\ndrop s3\ndrop s4\nnative n1 1\nset n1 0 n1\ndrop n1\ngc\nslice 4\nexpose n0 1\nslice 1\nexpose n0 0\nslice 1\nslice 1\n",
-        output: b"= #1\n= @1\n= @2\n= @3\n= @4\n= @5\n= ok\n= ok\n= ok\n= ok\n= ok\n= ok\n= ok\n= ok\n= ok\n= ok\n= ok\n= #2\n= ok\n= ok\n= ok\n= ok\n= @2\n= ok\n= @3\n= ok\n- unlink #2\n- free #2\n= ok\n",
-        status: Status::Done,
-    },
-    // A black key of a gray map is no node, so a collection with one candidate, the holder of the map, the map and the value takes six units.
-    Example {
-        name: "black_key_is_not_looked_at",
-        natives: 1000000,
-        scripts: 1000000,
-        bytes: 4294967295,
-        input: b"native n0 1\nweakmap s0\nscript s1 0\nscript s2 0\nwset s0 s1 s2\nset n0 0 s0\ndrop s0\ndrop s2\nnative n1 1\nset n1 0 n1\ndrop n1\ngc\nslice 5\nslice 1\nget s3 n0 0\nwget s2 s3 s1\n",
-        output: b"= #1\n= @1\n= @2\n= @3\n= ok\n= ok\n= ok\n= ok\n= #2\n= ok\n= ok\n= ok\n= ok\n- unlink #2\n- free #2\n= ok\n= @1\n= @3\n",
-        status: Status::Done,
-    },
-    // An unlinked native gives up its slots in rising order, each with all that goes with it before the next one.
-    Example {
-        name: "unlinking_empties_slots_in_rising_order",
-        natives: 1000000,
-        scripts: 1000000,
-        bytes: 4294967295,
-        input: b"native n0 3\nnative n1 0\nnative n2 1\nnative n3 0\nset n0 0 n0\nset n0 1 n2\nset n0 2 n1\nset n2 0 n3\ndrop n3\ndrop n0\nslice 1\ndrop n1\ndrop n2\nslice 10\n",
-        output: b"= #1\n= #2\n= #3\n= #4\n= ok\n= ok\n= ok\n= ok\n= ok\n= ok\n= ok\n= ok\n= ok\n- unlink #1\n- free #3\n- free #4\n- free #2\n- free #1\n= ok\n",
-        status: Status::Done,
-    },
-];
+const ROWS: &str = "\
+    move_onto_its_own_place_ends_purple|version 2\nnative n0 1\nnative n1 0\nset n0 0 n1\ndrop n1\nnative n2 1\nset n2 0 n2\ndrop n2\nmove n0 0 n0 0\nslice 3\n|= ok\n= #1\n= #2\n= ok\n= ok\n= #3\n= ok\n= ok\n= #2\n- unlink #3\n- free #3\n= ok\n;\
+    refused_move_touches_nothing|version 2\nnative n0 1\nnative n1 0\nset n0 0 n1\ndrop n1\nnative n2 1\nset n2 0 n2\ndrop n2\nmove n0 1 n0 0\nslice 3\nslice 1\n|= ok\n= #1\n= #2\n= ok\n= ok\n= #3\n= ok\n= ok\n! slot\n= ok\n- unlink #3\n- free #3\n= ok\n;\
+    moved_to_a_native_that_is_yet_to_be_traversed|version 2\nnative n0 2\nnative n1 2\nset n0 0 n1\nset n0 1 n0\ncopy n2 n0\ndrop n2\ncopy n2 n1\ndrop n2\nslice 2\nmove n1 0 n0 0\nmove n1 1 n0 1\nslice 2\nget n3 n1 0\nget n4 n1 1\ncensus\ndrop n0\ndrop n1\ndrop n3\ndrop n4\ncollect\n|= ok\n= #1\n= #2\n= ok\n= ok\n= #1\n= ok\n= #2\n= ok\n= ok\n= #2\n= #1\n= ok\n= #2\n= #1\n+ #1\n+ #2\n= census 2\n= ok\n= ok\n= ok\n= ok\n- unlink #1\n- unlink #2\n- free #1\n- free #2\n= ok\n;\
+    moved_to_a_native_that_was_traversed|version 2\nnative n0 2\nnative n1 2\nset n1 0 n0\nset n1 1 n1\ncopy n2 n0\ndrop n2\ncopy n2 n1\ndrop n2\nslice 2\nmove n0 0 n1 0\nmove n0 1 n1 1\nslice 2\nget n3 n0 0\nget n4 n0 1\ncensus\ndrop n0\ndrop n1\ndrop n3\ndrop n4\ncollect\n|= ok\n= #1\n= #2\n= ok\n= ok\n= #1\n= ok\n= #2\n= ok\n= ok\n= #1\n= #2\n= ok\n= #1\n= #2\n+ #1\n+ #2\n= census 2\n= ok\n= ok\n= ok\n= ok\n- unlink #1\n- unlink #2\n- free #1\n- free #2\n= ok\n;\
+    moved_forth_and_back_between_slices|version 2\nnative n0 2\nnative n1 2\nset n0 0 n1\nset n0 1 n0\ncopy n2 n0\ndrop n2\ncopy n2 n1\ndrop n2\nslice 2\nmove n1 0 n0 0\nmove n1 1 n0 1\nslice 1\nmove n0 0 n1 0\nmove n0 1 n1 1\nslice 1\nget n3 n0 0\nget n4 n0 1\n|= ok\n= #1\n= #2\n= ok\n= ok\n= #1\n= ok\n= #2\n= ok\n= ok\n= #2\n= #1\n= ok\n= #2\n= #1\n= ok\n= #2\n= #1\n;\
+    only_reference_moves_behind_its_node|version 2\nnative n0 1\nnative n1 1\nnative n2 0\nset n0 0 n2\ncopy n3 n0\ndrop n3\ncopy n3 n1\ndrop n3\ndrop n2\nslice 2\nmove n1 0 n0 0\nslice 2\nslice 1\nget n2 n1 0\ncensus\n|= ok\n= #1\n= #2\n= #3\n= ok\n= #1\n= ok\n= #2\n= ok\n= ok\n= ok\n= #3\n= ok\n= ok\n= #3\n+ #1\n+ #2\n+ #3\n= census 3\n;\
+    only_reference_moves_before_its_node|version 2\nnative n0 1\nnative n1 1\nnative n2 0\nset n1 0 n2\ncopy n3 n0\ndrop n3\ncopy n3 n1\ndrop n3\ndrop n2\nslice 2\nmove n0 0 n1 0\nslice 2\nslice 1\nget n2 n0 0\ncensus\n|= ok\n= #1\n= #2\n= #3\n= ok\n= #1\n= ok\n= #2\n= ok\n= ok\n= ok\n= #3\n= ok\n= ok\n= #3\n+ #1\n+ #2\n+ #3\n= census 3\n;\
+    moved_reflector_waits_for_gc|version 2\nnative n0 2\nwrap s0 n0\nset n0 0 s0\ndrop s0\ngc\nmove n0 1 n0 0\ndrop n0\ncollect\ngc\ncollect\ngc\n|= ok\n= #1\n= ~1\n= ok\n= ok\n= ok\n= ~1\n= ok\n= ok\n= ok\n- unlink #1\n= ok\n- free ~1\n- free #1\n= ok\n;\
+    move_onto_its_own_place_exposes|version 2\nnative n0 1\nwrap s0 n0\nset n0 0 s0\ndrop s0\ngc\nmove n0 0 n0 0\ndrop n0\ncollect\ngc\ncollect\ngc\n|= ok\n= #1\n= ~1\n= ok\n= ok\n= ok\n= ~1\n= ok\n= ok\n= ok\n- unlink #1\n= ok\n- free ~1\n- free #1\n= ok\n;\
+    native_lives_by_a_moved_reflector|version 2\nnative n0 1\nnative n1 0\nnative n2 2\nwrap s0 n1\nset n0 0 s0\nset n2 0 s0\nset n2 1 n2\ndrop s0\ndrop n1\ndrop n2\nnative n3 1\ngc\nslice 3\nmove n3 0 n0 0\nslice 10\nget s1 n3 0\nunwrap n1 s1\n|= ok\n= #1\n= #2\n= #3\n= ~2\n= ok\n= ok\n= ok\n= ok\n= ok\n= ok\n= #4\n= ok\n= ok\n= ~2\n- unlink #3\n- free #3\n= ok\n= ~2\n= #2\n;\
+    value_lives_by_a_moved_key|version 2\nnative n0 1\nnative n1 0\nweakmap s0\nscript s1 0\nscript s2 1\nwrap s3 n1\nput s2 0 s3\nset n0 0 s1\nwset s0 s1 s2\ndrop s1\ndrop s2\ndrop s3\ndrop n1\nnative n3 1\ngc\nslice 1\nmove n3 0 n0 0\nslice 10\nget s1 n3 0\nwget s2 s0 s1\ntake s3 s2 0\nunwrap n1 s3\n|= ok\n= #1\n= #2\n= @1\n= @2\n= @3\n= ~2\n= ok\n= ok\n= ok\n= ok\n= ok\n= ok\n= ok\n= #3\n= ok\n= ok\n= @2\n= ok\n= @2\n= @3\n= ~2\n= #2\n;\
+    move_exposes_over_slots|version 2\nnative n0 1\nnative n1 0\nnative n2 2\nscript s1 1\nwrap s0 n1\nput s1 0 s0\nset n0 0 s1\nset n2 0 s0\nset n2 1 n2\ndrop s0\ndrop s1\ndrop n1\ndrop n2\nnative n3 1\ngc\nslice 3\nmove n3 0 n0 0\nslice 10\nget s1 n3 0\ntake s0 s1 0\nunwrap n1 s0\n|= ok\n= #1\n= #2\n= #3\n= @1\n= ~2\n= ok\n= ok\n= ok\n= ok\n= ok\n= ok\n= ok\n= ok\n= #4\n= ok\n= ok\n= @1\n- unlink #3\n- free #3\n= ok\n= @1\n= ~2\n= #2\n;\
+    steps_from_a_register|version 2\nnative n0 1\nnative n1 0\nset n0 0 n1\ndrop n1\nwhy #2\ndrop n0\nwhy #2\n|= ok\n= #1\n= #2\n= ok\n= ok\n: #1 n0\n: #2 #1\n= ok\n- free #1\n- free #2\n= ok\n= none\n;\
+    steps_to_a_value|version 2\nweakmap s0\nscript s1 0\nscript s2 0\nwset s0 s1 s2\ndrop s2\nwhy @3\nwhy @9\n|= ok\n= @1\n= @2\n= @3\n= ok\n= ok\n: @1 s0\n: @2 s1\n: @3 @1 @2\n= ok\n= none\n;\
+    first_register_tells|version 2\nnative n1023 0\ncopy n7 n1023\ncopy n300 n1023\nscript s1023 0\ncopy s9 s1023\ncopy s255 s1023\nwhy #1\nwhy @1\ndrop n7\ndrop s9\nwhy #1\nwhy @1\ndrop n300\ndrop s255\nwhy #1\nwhy @1\n|= ok\n= #1\n= #1\n= #1\n= @1\n= @1\n= @1\n: #1 n7\n= ok\n: @1 s9\n= ok\n= ok\n= ok\n: #1 n300\n= ok\n: @1 s255\n= ok\n= ok\n= ok\n: #1 n1023\n= ok\n: @1 s1023\n= ok\n;\
+    register_tells_before_a_slot|version 2\nnative n0 1\nnative n1 1\nnative n2 0\nset n0 0 n1\nset n1 0 n2\nwhy #2\nwhy #3\ndrop n2\nwhy #3\ndrop n1\nwhy #3\n|= ok\n= #1\n= #2\n= #3\n= ok\n= ok\n: #2 n1\n= ok\n: #3 n2\n= ok\n= ok\n: #2 n1\n: #3 #2\n= ok\n= ok\n: #1 n0\n: #2 #1\n: #3 #2\n= ok\n;\
+    native_register_tells_before_a_reflector|version 2\nnative n9 0\nwrap s0 n9\nwhy #1\nwhy ~1\ndrop n9\nwhy #1\nwhy ~1\n|= ok\n= #1\n= ~1\n: #1 n9\n= ok\n: ~1 s0\n= ok\n= ok\n: ~1 s0\n: #1 ~1\n= ok\n: ~1 s0\n= ok\n;\
+    slots_tell_in_rising_order|version 2\nnative n0 256\nnative n1 1\nnative n2 1\nnative n3 0\nset n0 255 n1\nset n0 64 n2\nset n1 0 n3\nset n2 0 n3\ndrop n1\ndrop n2\ndrop n3\nwhy #4\nset n0 64 none\nwhy #4\n|= ok\n= #1\n= #2\n= #3\n= #4\n= ok\n= ok\n= ok\n= ok\n= ok\n= ok\n= ok\n: #1 n0\n: #3 #1\n: #4 #3\n= ok\n- free #3\n= ok\n: #1 n0\n: #2 #1\n: #4 #2\n= ok\n;\
+    nearer_path_tells|version 2\nnative n0 1\nnative n1 1\nnative n2 1\nnative n3 1\nset n0 0 n1\nset n1 0 n2\nset n3 0 n2\ndrop n1\ndrop n2\nwhy #3\ndrop n3\nwhy #3\n|= ok\n= #1\n= #2\n= #3\n= #4\n= ok\n= ok\n= ok\n= ok\n= ok\n: #4 n3\n: #3 #4\n= ok\n- free #4\n= ok\n: #1 n0\n: #2 #1\n: #3 #2\n= ok\n;\
+    steps_through_both_heaps|version 2\nnative n0 2\nnative n1 1\nnative n2 0\nscript s0 1\nwrap s1 n1\nset n0 1 s0\nput s0 0 s1\nset n1 0 n2\ndrop n1\ndrop n2\ndrop s0\ndrop s1\nwhy #3\nwhy @1\ngc\ncollect\nwhy #3\n|= ok\n= #1\n= #2\n= #3\n= @1\n= ~2\n= ok\n= ok\n= ok\n= ok\n= ok\n= ok\n= ok\n: #1 n0\n: @1 #1\n: ~2 @1\n: #2 ~2\n: #3 #2\n= ok\n: #1 n0\n: @1 #1\n= ok\n= ok\n= ok\n: #1 n0\n: @1 #1\n: ~2 @1\n: #2 ~2\n: #3 #2\n= ok\n;\
+    steps_through_a_preserved_reflector|version 2\nnative n0 0\nwrap s0 n0\nscript s1 0\ndrop s0\nwhy ~1\nwrap s0 n0\nput s0 3 s1\ndrop s0\ndrop s1\nwhy ~1\nwhy @1\ndrop n0\nwhy ~1\nwhy #1\nwhy @1\n|= ok\n= #1\n= ~1\n= @1\n= ok\n= none\n= ~1\n= ok\n= ok\n= ok\n: #1 n0\n: ~1 #1\n= ok\n: #1 n0\n: ~1 #1\n: @1 ~1\n= ok\n= ok\n= none\n= none\n= none\n;\
+    slots_tell_before_the_preserved_reflector|version 2\nnative n0 1\nwrap s0 n0\nscript s1 1\nscript s2 0\nput s0 0 s2\nput s1 0 s2\nset n0 0 s1\ndrop s0\ndrop s1\ndrop s2\nwhy @2\nset n0 0 none\nwhy @2\n|= ok\n= #1\n= ~1\n= @1\n= @2\n= ok\n= ok\n= ok\n= ok\n= ok\n= ok\n: #1 n0\n: @1 #1\n: @2 @1\n= ok\n= ok\n: #1 n0\n: ~1 #1\n: @2 ~1\n= ok\n;\
+    slots_tell_before_the_native|version 2\nnative n0 1\nwrap s0 n0\nscript s1 1\nscript s2 0\nput s0 3 s1\nput s1 0 s2\nset n0 0 s2\ndrop n0\ndrop s1\ndrop s2\nwhy @2\nput s0 3 none\nwhy @2\n|= ok\n= #1\n= ~1\n= @1\n= @2\n= ok\n= ok\n= ok\n= ok\n= ok\n= ok\n: ~1 s0\n: @1 ~1\n: @2 @1\n= ok\n= ok\n: ~1 s0\n: #1 ~1\n: @2 #1\n= ok\n;\
+    other_steps_are_left_out|version 2\nscript s0 1\nweakmap s1\nnative n0 1\nscript s2 0\nscript s3 0\nnative n5 0\nscript s5 0\nput s0 0 s1\nset n0 0 s2\nwset s1 s2 s3\ndrop s1\ndrop s2\ndrop s3\nwhy @4\nwhy @5\nwhy #2\n|= ok\n= @1\n= @2\n= #1\n= @3\n= @4\n= #2\n= @5\n= ok\n= ok\n= ok\n= ok\n= ok\n= ok\n: #1 n0\n: @1 s0\n: @3 #1\n: @2 @1\n: @4 @2 @3\n= ok\n: @5 s5\n= ok\n: #2 n5\n= ok\n;\
+    entry_waits_for_its_key|version 2\nweakmap s0\nscript s5 1\nscript s6 1\nscript s1 1\nscript s2 0\nput s5 0 s6\nput s6 0 s1\nwset s0 s1 s2\ndrop s6\ndrop s1\ndrop s2\nwhy @5\ntake s6 s5 0\ntake s1 s6 0\nwget s2 s0 s1\nput s1 0 s2\ndrop s6\ndrop s1\ndrop s2\nwhy @5\n|= ok\n= @1\n= @2\n= @3\n= @4\n= @5\n= ok\n= ok\n= ok\n= ok\n= ok\n= ok\n: @1 s0\n: @2 s5\n: @3 @2\n: @4 @3\n: @5 @1 @4\n= ok\n= @3\n= @4\n= @5\n= ok\n= ok\n= ok\n= ok\n: @2 s5\n: @3 @2\n: @4 @3\n: @5 @4\n= ok\n;\
+    entry_tells_before_a_slot_of_its_key|version 2\nweakmap s1\nscript s2 1\nscript s3 0\nput s2 0 s3\nwset s1 s2 s3\ndrop s3\nwhy @3\ncopy s5 s1\ndrop s1\nwhy @3\n|= ok\n= @1\n= @2\n= @3\n= ok\n= ok\n= ok\n: @1 s1\n: @2 s2\n: @3 @1 @2\n= ok\n= @1\n= ok\n: @2 s2\n: @3 @2\n= ok\n;\
+    entries_tell_in_their_order|version 2\nweakmap s0\nscript s1 0\nscript s2 0\nscript s3 0\nwset s0 s2 s2\nwset s0 s1 s3\nwset s0 s2 s3\ndrop s3\nwhy @4\nwget s3 s0 s2\nwset s0 s2 none\nwset s0 s2 s3\ndrop s3\nwhy @4\n|= ok\n= @1\n= @2\n= @3\n= @4\n= ok\n= ok\n= ok\n= ok\n: @1 s0\n: @3 s2\n: @4 @1 @3\n= ok\n= @4\n= ok\n= ok\n= ok\n: @1 s0\n: @2 s1\n: @4 @1 @2\n= ok\n;\
+    chain_of_entries|version 2\nweakmap s0\nscript s1 0\nscript s2 0\nscript s3 0\nscript s4 0\nwset s0 s2 s3\nwset s0 s1 s2\nwset s0 s3 s4\ndrop s2\ndrop s3\ndrop s4\nwhy @5\ndrop s1\nwhy @5\n|= ok\n= @1\n= @2\n= @3\n= @4\n= @5\n= ok\n= ok\n= ok\n= ok\n= ok\n= ok\n: @1 s0\n: @2 s1\n: @3 @1 @2\n: @4 @1 @3\n: @5 @1 @4\n= ok\n= ok\n= none\n;\
+    steps_through_a_delegate|version 2\nscript s1 1\nscript s3 0\nput s1 0 s3\nproxy s2 s1\ndrop s1\ndrop s3\nwhy @1\nwhy @2\nproxy s4 s2\ndrop s2\nwhy @2\nscript s5 0\nproxy s6 s5\ndrop s6\nwhy @5\nwhy @6\n|= ok\n= @1\n= @2\n= ok\n= @3\n= ok\n= ok\n: @3 s2\n: @1 @3\n= ok\n: @3 s2\n: @1 @3\n: @2 @1\n= ok\n= @4\n= ok\n: @4 s4\n: @3 @4\n: @1 @3\n: @2 @1\n= ok\n= @5\n= @6\n= ok\n: @5 s5\n= ok\n= none\n;\
+    steps_to_a_proxy_key|version 2\nweakmap s0\nscript s1 0\nproxy s2 s1\nscript s3 0\nwset s0 s2 s3\ndrop s2\ndrop s3\nwhy @3\nwhy @4\ndrop s1\nwhy @2\nwhy @3\nwhy @4\ngc\nwhy @4\n|= ok\n= @1\n= @2\n= @3\n= @4\n= ok\n= ok\n= ok\n: @1 s0\n: @2 s1\n: @3 @1 @2\n= ok\n: @1 s0\n: @2 s1\n: @3 @1 @2\n: @4 @1 @3\n= ok\n= ok\n= none\n= none\n= none\n- free @2\n- free @3\n- free @4\n= ok\n= none\n;\
+    delegate_found_last|version 2\nweakmap s0\nscript s5 1\nscript s1 0\nproxy s2 s1\nscript s3 0\nscript s7 1\nput s5 0 s1\nwset s0 s2 s3\nput s7 0 s3\ndrop s1\ndrop s2\ndrop s3\nwhy @5\nwhy @4\ndrop s7\nwhy @5\n|= ok\n= @1\n= @2\n= @3\n= @4\n= @5\n= @6\n= ok\n= ok\n= ok\n= ok\n= ok\n= ok\n: @6 s7\n: @5 @6\n= ok\n: @1 s0\n: @2 s5\n: @3 @2\n: @4 @1 @3\n= ok\n= ok\n: @1 s0\n: @2 s5\n: @3 @2\n: @4 @1 @3\n: @5 @1 @4\n= ok\n;\
+    chain_of_proxy_keys|version 2\nweakmap s0\nscript s1 0\nproxy s2 s1\nproxy s3 s2\nscript s4 0\nwset s0 s3 s4\nwset s0 s2 s0\ndrop s2\ndrop s3\ndrop s4\nwhy @5\n|= ok\n= @1\n= @2\n= @3\n= @4\n= @5\n= ok\n= ok\n= ok\n= ok\n= ok\n: @1 s0\n: @2 s1\n: @3 @1 @2\n: @4 @1 @3\n: @5 @1 @4\n= ok\n;\
+    map_is_key_and_delegate|version 2\nweakmap s0\nscript s1 0\nwset s0 s0 s1\nproxy s2 s0\nscript s3 0\nwset s0 s2 s3\ndrop s1\ndrop s2\ndrop s3\nwhy @1\nwhy @2\nwhy @3\nwhy @4\n|= ok\n= @1\n= @2\n= ok\n= @3\n= @4\n= ok\n= ok\n= ok\n= ok\n: @1 s0\n= ok\n: @1 s0\n: @2 @1 @1\n= ok\n: @1 s0\n: @3 @1 @1\n= ok\n: @1 s0\n: @3 @1 @1\n: @4 @1 @3\n= ok\n;\
+    entry_does_not_lead_back|version 2\nweakmap s0\nscript s1 0\nscript s2 1\nwset s0 s1 s2\nput s2 0 s1\ndrop s1\ndrop s2\nwhy @2\nwhy @3\nwget s1 s0 s1\nweakmap s3\nscript s4 0\nwset s3 s4 s4\ndrop s3\nwhy @4\nwhy @5\n|= ok\n= @1\n= @2\n= @3\n= ok\n= ok\n= ok\n= ok\n= none\n= none\n! empty\n= @4\n= @5\n= ok\n= ok\n= none\n: @5 s4\n= ok\n;\
+    cycle_of_natives_is_told_once|version 2\nnative n0 1\nnative n1 1\nnative n2 1\nset n0 0 n1\nset n1 0 n2\nset n2 0 n0\ndrop n0\ndrop n2\nwhy #1\nwhy #2\nwhy #3\ndrop n1\nwhy #1\nwhy #2\nwhy #3\ncensus\ncollect\nwhy #2\n|= ok\n= #1\n= #2\n= #3\n= ok\n= ok\n= ok\n= ok\n= ok\n: #2 n1\n: #3 #2\n: #1 #3\n= ok\n: #2 n1\n= ok\n: #2 n1\n: #3 #2\n= ok\n= ok\n= none\n= none\n= none\n+ #1\n+ #2\n+ #3\n= census 3\n- unlink #1\n- unlink #2\n- unlink #3\n- free #1\n- free #2\n- free #3\n= ok\n= none\n;\
+    cycle_through_an_entry_is_told_once|version 2\nnative n0 0\nwrap s1 n0\nweakmap s0\nscript s2 1\nput s2 0 s1\nwset s0 s1 s2\ndrop s1\ndrop s2\nwhy @2\nwhy ~1\ndrop n0\nwhy @2\nwhy #1\ngc\ncollect\nwhy ~1\ngc\nwhy ~1\n|= ok\n= #1\n= ~1\n= @1\n= @2\n= ok\n= ok\n= ok\n= ok\n: #1 n0\n: @1 s0\n: ~1 #1\n: @2 @1 ~1\n= ok\n: #1 n0\n: ~1 #1\n= ok\n= ok\n= none\n= none\n= ok\n- unlink #1\n= ok\n= none\n- free ~1\n- free #1\n- free @2\n= ok\n= none\n;\
+    swept_reflector_follows_from_nothing|version 2\nnative n0 0\nwhy ~1\nwrap s0 n0\nwhy ~1\ndrop s0\nwhy ~1\ngc\nwhy ~1\nwhy #1\nwrap s3 n0\nwhy ~1\n|= ok\n= #1\n= none\n= ~1\n: ~1 s0\n= ok\n= ok\n= none\n- free ~1\n= ok\n= none\n: #1 n0\n= ok\n= ~1\n: ~1 s3\n= ok\n;\
+    names_never_made_follow_from_nothing|version 2\nwhy #1\nwhy @1\nwhy ~1\nnative n0 0\nscript s0 0\nwhy #2\nwhy @2\nwhy ~1\nwhy ~2\nwhy #4294967295\nwhy @4294967295\nwhy ~4294967295\nwhy #1\nwhy @1\n|= ok\n= none\n= none\n= none\n= #1\n= @1\n= none\n= none\n= none\n= none\n= none\n= none\n= none\n: #1 n0\n= ok\n: @1 s0\n= ok\n;\
+    forms_of_why_are_few|version 2\nnative n0 0\nscript s0 0\nwrap s1 n0\nwhy\nwhy 7\nwhy #0\nwhy @0\nwhy ~0\nwhy n0\nwhy s0\nwhy none\nwhy #\nwhy @\nwhy ~\nwhy # 1\nwhy #1 #1\nwhy #1 1\nwhy ##1\nwhy #@1\nwhy #01\nwhy #00\nwhy #-1\nwhy #+1\nwhy #1,\nwhy #n0\nwhy #4294967296\nwhy @4294967296\nwhy ~4294967296\nwhy #10000000000000000000001\nwhy %1\nwhy $1\nwhy A1\nwhy }\nWhy #1\nWHY #1\nwhy\t#1\nwhy #1\t\nwhy#1\nwhyy #1\nwh #1\n  why   #1  \nwhy @1\nwhy ~1\r\n|= ok\n= #1\n= @1\n= ~1\n! line\n! line\n! line\n! line\n! line\n! line\n! line\n! line\n! line\n! line\n! line\n! line\n! line\n! line\n! line\n! line\n! line\n! line\n! line\n! line\n! line\n! line\n! line\n! line\n! line\n! line\n! line\n! line\n! line\n! line\n! line\n! line\n! line\n! line\n! line\n! line\n! line\n: #1 n0\n= ok\n: @1 s0\n= ok\n: ~1 s1\n= ok\n;\
+    version_one_has_no_why|native n0 0\nwhy #1\nwhy @1\nversion 2\nwhy #1\n|= #1\n! line\n! line\n! line\n! line\n;\
+    why_before_version_two|why #1\nversion 2\nnative n256 0\n|! line\n! line\n! line\n;\
+    why_between_slices|version 2\nnative n0 1\nnative n1 1\nset n0 0 n1\nset n1 0 n0\ndrop n1\nwhy #2\nslice 1\nwhy #2\ndrop n0\nwhy #2\nwhy #1\ncollect\ndrop n0\nnative n2 1\nnative n3 1\nset n2 0 n3\nset n3 0 n2\ndrop n2\ndrop n3\nwhy #3\nslice 1\nwhy #3\nslice 1\nwhy #4\nslice 1\nwhy #3\nslice 1\nwhy #3\nwhy #4\n|= ok\n= #1\n= #2\n= ok\n= ok\n= ok\n: #1 n0\n: #2 #1\n= ok\n= ok\n: #1 n0\n: #2 #1\n= ok\n= ok\n= none\n= none\n- unlink #1\n- unlink #2\n- free #1\n- free #2\n= ok\n= ok\n= #3\n= #4\n= ok\n= ok\n= ok\n= ok\n= none\n= ok\n= none\n= ok\n= none\n= ok\n= none\n- unlink #3\n- unlink #4\n- free #3\n- free #4\n= ok\n= none\n= none\n;\
+    why_of_a_freed_candidate|version 2\nnative n0 0\ncopy n1 n0\ndrop n1\nslice 1\nwhy #1\ndrop n0\nwhy #1\nnative n5 1\nnative n6 0\nset n5 0 n6\ndrop n6\nwhy #1\nwhy #2\nwhy #3\nslice 1\nwhy #3\nslice 1\nwhy #1\nwhy #3\n|= ok\n= #1\n= #1\n= ok\n= ok\n: #1 n0\n= ok\n- free #1\n= ok\n= none\n= #2\n= #3\n= ok\n= ok\n= none\n: #2 n5\n= ok\n: #2 n5\n: #3 #2\n= ok\n= ok\n: #2 n5\n: #3 #2\n= ok\n= ok\n= none\n: #2 n5\n: #3 #2\n= ok\n;\
+    unlinked_native_follows_from_nothing|version 2\nnative n0 1\nwrap s0 n0\nset n0 0 s0\ndrop s0\ndrop n0\ngc\ncollect\nwhy #1\nwhy ~1\ngc\nwhy #1\n|= ok\n= #1\n= ~1\n= ok\n= ok\n= ok\n= ok\n- unlink #1\n= ok\n= none\n= none\n- free ~1\n- free #1\n= ok\n= none\n;\
+    why_exposes_nothing|version 2\nnative n0 1\nwrap s0 n0\nset n0 0 s0\ndrop s0\ngc\nwhy ~1\ndrop n0\ncollect\ngc\ncensus\n|= ok\n= #1\n= ~1\n= ok\n= ok\n= ok\n: #1 n0\n: ~1 #1\n= ok\n= ok\n- unlink #1\n= ok\n- free ~1\n- free #1\n= ok\n= census 0\n;\
+    why_touches_nothing|version 2\nnative n0 1\nset n0 0 n0\nnative n1 1\nnative n2 0\nset n1 0 n2\ndrop n2\ncollect\ncopy n3 n0\ndrop n3\ndrop n0\nwhy #1\nwhy #2\nwhy #3\nslice 2\nwhy #3\nslice 1\n|= ok\n= #1\n= ok\n= #2\n= #3\n= ok\n= ok\n= ok\n= #1\n= ok\n= ok\n= none\n: #2 n1\n= ok\n: #2 n1\n: #3 #2\n= ok\n= ok\n: #2 n1\n: #3 #2\n= ok\n- unlink #1\n- free #1\n= ok\n;\
+    why_changes_no_register_and_no_census|version 2\nnative n0 1\nwrap s0 n0\nscript s1 0\nput s0 0 s1\nset n0 0 s0\ncensus\nwhy @1\ncensus\nget s2 n0 0\ntake s3 s2 0\nwhy @1\n|= ok\n= #1\n= ~1\n= @1\n= ok\n= ok\n+ #1\n+ ~1\n+ @1\n= census 3\n: @1 s1\n= ok\n+ #1\n+ ~1\n+ @1\n= census 3\n= ~1\n= @1\n: @1 s1\n= ok\n;\
+    why_in_a_row_of_collections|version 2\nnative n0 1\nscript s0 0\nset n0 0 s0\ndrop s0\nnative n1 1\nset n1 0 n1\ndrop n1\ngc\nwhy @1\ncollect\nwhy #2\ngc\nwhy @1\ncensus\n|= ok\n= #1\n= @1\n= ok\n= ok\n= #2\n= ok\n= ok\n= ok\n: #1 n0\n: @1 #1\n= ok\n- unlink #2\n- free #2\n= ok\n= none\n= ok\n: #1 n0\n: @1 #1\n= ok\n+ #1\n+ @1\n= census 2\n;\
+    why_without_a_line_feed|version 2\nnative n0 0\nwhy #1|= ok\n= #1\n: #1 n0\n= ok\n";
 
 #[test]
 fn worked_examples_are_answered(rt: HostRuntime) {
-    are_answered(&rt, &EXAMPLES);
+    rows_are_answered(&rt, ROWS);
 }

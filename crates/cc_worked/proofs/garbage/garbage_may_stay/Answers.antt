@@ -1,5 +1,5 @@
 use Rattle.std.specs.Prelude.{refl}
-use Rattle.cc_worked.specs.Garbage.{no_gc_at_all, no_first_gc, no_collect, no_last_gc, two_collects, one_gc_more, refused_line_after_the_first, refused_line_after_the_second, refused_line_after_the_third, bad_line_between, slice_between, collect_without_memory}
+use Rattle.cc_worked.specs.Garbage.{no_gc_at_all, no_first_gc, no_collect, no_last_gc, two_collects, one_gc_more, refused_line_after_the_first, refused_line_after_the_second, refused_line_after_the_third, bad_line_between, slice_between, collect_without_memory, garbage_may_stay_after_a_why, garbage_may_stay_after_a_census, garbage_may_stay_after_a_drop}
 use Rattle.cc_worked.proofs.Opened.{all_of_a_run}
 use Rattle.cc_worked.proofs.Judged.{right}
 use Rattle.cc_worked.proofs.garbage.garbage_may_stay.Goals as goal
@@ -51,3 +51,15 @@ returns-clause-slice_between c = right slice_between refl
 pub returns-clause-collect_without_memory : goal.returns-clause-collect_without_memory
 unfolding all_of_a_run
 returns-clause-collect_without_memory c = right collect_without_memory refl
+
+pub returns-clause-garbage_may_stay_after_a_why : goal.returns-clause-garbage_may_stay_after_a_why
+unfolding all_of_a_run
+returns-clause-garbage_may_stay_after_a_why c = right garbage_may_stay_after_a_why refl
+
+pub returns-clause-garbage_may_stay_after_a_census : goal.returns-clause-garbage_may_stay_after_a_census
+unfolding all_of_a_run
+returns-clause-garbage_may_stay_after_a_census c = right garbage_may_stay_after_a_census refl
+
+pub returns-clause-garbage_may_stay_after_a_drop : goal.returns-clause-garbage_may_stay_after_a_drop
+unfolding all_of_a_run
+returns-clause-garbage_may_stay_after_a_drop c = right garbage_may_stay_after_a_drop refl
