@@ -35,8 +35,9 @@ const PASSED: [&str; 2] = [
     "ccreplay check 37 --bytes 36",
 ];
 
-/// Lines whose words are not.
-const NOT_TAKEN: [&str; 42] = [
+/// Lines whose words are not; the first one has none.
+const NOT_TAKEN: [&str; 44] = [
+    "",
     "ccreplay",
     "replay",
     "ccreplay play",
@@ -70,6 +71,7 @@ const NOT_TAKEN: [&str; 42] = [
     "ccreplay make 18446744073709551616 0",
     "ccreplay make --seed 7 --count 0",
     "ccreplay make 7 0 --natives 1",
+    "ccreplay make --natives 1 7 0",
     "ccreplay check",
     "check 12",
     "ccreplay check x",
@@ -92,17 +94,29 @@ const NARROW: [&str; 4] = [
 /// Two natives, an object, and one byte more than the 36 before it.
 const INPUT: &[u8] = b"native n0 0\nnative n1 0\nscript s0 0\n\n";
 
-/// Runs the words of a line on the input, and looks at the status and at what is written.
-fn answers(rt: &(impl Abort + AllocGlobal), line: &str, status: Status, written: &[u8]) {
+/// The words of a line, parted by one blank each; none of a line without a byte.
+fn words_of<'a>(rt: &(impl Abort + AllocGlobal), line: &'a str) -> Vec<&'a str> {
     let mut words = Vec::new(rt.alloc());
     for word in line.split(' ') {
         words.push(word).expect(rt, "memory");
     }
+    if line.is_empty() {
+        words.clear();
+    }
+    words
+}
+
+/// Runs the words of a line on the input, and looks at the status and at what is written. Where the words are not taken, nothing
+/// is read and nothing is written.
+fn answers(rt: &(impl Abort + AllocGlobal), line: &str, status: Status, written: &[u8]) {
+    let words = words_of(rt, line);
     let mut source = SureSource::new(INPUT.to_vec(rt.alloc()).expect(rt, "memory"));
     let mut sink = BytesSink::new(rt.alloc(), 300, Vec::new(rt.alloc())).expect(rt, "memory");
     let ended = status_of_run(rt.alloc(), words.as_slice(), &mut source, &mut sink);
     assert_eq!(rt; ended, status, "at {line}");
     assert!(rt; sink.written().starts_with(written), "at {line}");
+    let touched = source.left().len() < INPUT.len() || !sink.written().is_empty();
+    assert!(rt; touched == (status != Status::Usage), "at {line}");
 }
 
 #[test]
@@ -134,4 +148,6 @@ fn options_narrow_a_run(rt: HostRuntime) {
     for line in NARROW.iter() {
         answers(&rt, line, Status::Limit, b"= #1\n! full\n! full\n");
     }
+    let none = "ccreplay replay --natives 0";
+    answers(&rt, none, Status::Done, b"! full\n! full\n= @1\n");
 }

@@ -1,5 +1,5 @@
-//! Tests of whole scripts that are deep or long, of long paths and long lines, of summaries of made scripts, and of command
-//! lines: by one function over texts that are made while they are read and written.
+//! Tests of whole scripts that are deep or long, of long paths and long lines, and of summaries of made scripts: by one function
+//! over texts that are made while they are read and written.
 #![tactic(auto)]
 
 #[cfg(test)]
@@ -12,5 +12,3 @@ mod shapes;
 mod summaries;
 #[cfg(test)]
 mod text;
-#[cfg(test)]
-mod words;

@@ -1,10 +1,9 @@
 //! Summaries of made scripts.
 
 use crate::text::Part::Once;
-use crate::text::answers;
-use cc_outside::{BytesSink, Sink};
-use cc_replay::{Status, make};
-use std::alloc::Global;
+use crate::text::{answers, status_of};
+use cc_outside::{BytesSink, Sink, SureSource};
+use cc_replay::Status;
 
 /// Words with the seed and the count of lines, and the summary, which another program gave.
 const SUMMARIES: [(&[&str], &str); 7] = [
@@ -49,31 +48,9 @@ const SUMMARIES: [(&[&str], &str); 7] = [
 fn made_scripts_are_summed_up(rt: HostRuntime) {
     for (words, summary) in SUMMARIES.iter() {
         let wanted = [Once(*summary)];
-        let reads = answers(&rt, *words, &[Once("census\n")], &wanted, Status::Done);
+        let reads = answers(&rt, *words, &[Once("census\n")], &wanted);
         assert!(rt; reads == 0, "at {words:?}");
     }
-}
-
-/// Words of `make` that are not taken.
-const FAULTY: [&[&str]; 5] = [
-    &["ccreplay", "make", "7", "1000001"],
-    &["ccreplay", "make", "18446744073709551616", "1"],
-    &["ccreplay", "make", "7"],
-    &["ccreplay", "make", "7", "0", "0"],
-    &["ccreplay", "make", "--natives", "1", "7", "0"],
-];
-
-#[test]
-fn words_of_make_are_taken_or_nothing_is_written(rt: HostRuntime) {
-    for words in FAULTY.iter() {
-        let reads = answers(&rt, *words, &[Once("census\n")], &[], Status::Usage);
-        assert!(rt; reads == 0, "at {words:?}");
-    }
-}
-
-/// The status of `make`. Nothing is known of it in a proof: what is written is looked at.
-fn status_of_make<K: Sink>(alloc: Global, sink: &mut K) -> Status {
-    make(alloc, 7, 0, sink)
 }
 
 #[test]
@@ -81,8 +58,10 @@ fn a_summary_stops_where_a_write_fails(rt: HostRuntime) {
     let fronts: [&[u8]; 3] = [b"", b"commands 20\n", b"commands 20\nok 19\n"];
     for (place, written) in fronts.iter().enumerate() {
         let fails = [place as u64 + 1].to_vec(rt.alloc()).expect(&rt, "memory");
+        let mut source = SureSource::new(Vec::new(rt.alloc()));
         let mut sink = BytesSink::new(rt.alloc(), 300, fails).expect(&rt, "memory");
-        let status = status_of_make(rt.alloc(), &mut sink);
+        let words = ["ccreplay", "make", "7", "0"];
+        let status = status_of(rt.alloc(), &words, &mut source, &mut sink);
         assert!(rt; status == Status::WriteFault, "{status:?} at {place}");
         assert!(rt; sink.written() == *written, "at {place}");
         assert!(rt; sink.faults() == 1, "at {place}");

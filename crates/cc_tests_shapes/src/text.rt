@@ -212,7 +212,7 @@ impl Sink for Wanted<'_> {
 }
 
 /// The status of `run`. Nothing is known of it in a proof: what is written is looked at.
-fn status_of<'a, S: Source, K: Sink>(
+pub fn status_of<'a, S: Source, K: Sink>(
     alloc: Global,
     words: &'a [&'a str],
     source: &mut S,
@@ -221,14 +221,13 @@ fn status_of<'a, S: Source, K: Sink>(
     run(alloc, words, source, sink)
 }
 
-/// The program, run with these words, answers the script with what is wanted and with nothing else, and ends with this
-/// status. How many of its reads were answered.
+/// The program, run with these words, answers the script with what is wanted and with nothing else, and is done. How many of its
+/// reads were answered.
 pub fn answers<'a>(
     rt: &(impl Abort + AllocGlobal),
     words: &'a [&'a str],
     script: &[Part],
     wanted: &[Part],
-    status: Status,
 ) -> u64 {
     let mut source = Script {
         text: Text::new(script),
@@ -252,11 +251,11 @@ pub fn answers<'a>(
         sink.compared.text.next().is_none(),
         "more is wanted at {words:?}"
     );
-    assert!(rt; ended == status, "{ended:?} at {words:?}");
+    assert!(rt; ended == Status::Done, "{ended:?} at {words:?}");
     source.reads.answered()
 }
 
 /// The program answers the script with what is wanted, and with nothing else.
 pub fn plays(rt: &(impl Abort + AllocGlobal), script: &[Part], wanted: &[Part]) {
-    let _reads = answers(rt, &["ccreplay", "replay"], script, wanted, Status::Done);
+    let _reads = answers(rt, &["ccreplay", "replay"], script, wanted);
 }
