@@ -74,7 +74,7 @@ made-reached h g (native_made d n) k w s m i = ⊎_elim
     (λ n. absurd n) i
 made-reached h g _ k w s m i = absurd i
 
--- so it is none of those that were freed
+-- a native that a command makes is none of those that were freed meanwhile
 pub made-not_freed : (h : Heap) (g : Graph) (c : Command) (ks : List ℕ) → IsSound [] h → IsWellMade g → StandsFor h g → IsTrue (in_range c) →
     refusal_of (objects_of h) c ≡ None → (effects h c).events ≡ map freed_event ks → (k : ℕ) → Among k ks → ¬ (Among (native k) (made_natives h c))
 unfolding changed

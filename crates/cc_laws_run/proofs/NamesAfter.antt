@@ -103,7 +103,7 @@ put_in_register-names : (h g : Heap) (d : ℕ) (x : Option Name) → SameNames h
 put_in_register-names h g d x a room there s =
     NamesAfter-freed h (set_register g (N d) x) (put_in_register g d x) (record { natives = a.natives; scripts = a.scripts }) (put_in_register-frees g d x room there s)
 
--- with the reference taken first
+-- a native register written, with the reference taken first
 hold_native-names : (h : Heap) (d : ℕ) (x : Option Name) → d < bank_length → IsIn (native_names h) x → IsSound [] h →
     (ks : List ℕ) × NamesAfter h (hold_native h d x) ks [] []
 unfolding hold_native
@@ -123,7 +123,7 @@ put_in_slot-names h g d i x a there f s = subst (λ (o : Outcome). (ks : List �
     old : Option Name
     old = slice_index_or f.there.slots i None
 
--- with the reference taken first
+-- a slot of a native written, with the reference taken first
 store_native-names : (h : Heap) (d i : ℕ) (x : Option Name) → IsIn (names_there h) x → i < length (slots_at (objects_of h) (N d)) → IsSound [] h →
     (ks : List ℕ) × NamesAfter h (store_native h d i x) ks [] []
 unfolding store_native

@@ -76,7 +76,7 @@ exposed-untouched ds h x holder out o t =
     (closure-derived same_name same_name-exact (exposure_rules h x) o.name
     (has-among same_name same_name-exact (exposed_names h x) o.name t))
 
--- so it spares members
+-- an exposure of what is no member spares members
 Spares-exposed : (ds : List Name) (h : Heap) (x : Name) → ((y z : Name) → Among (y, z) (view h).edges → Among z ds → Among y ds) → ¬ (Among x ds) →
     Spares ds (view h) (view (blackened h (exposed_names h x)))
 Spares-exposed ds h x holder out = Spares-blackened ds h (λ o. has same_name (exposed_names h x) o.name) as_black (λ o. refl) (λ o. refl)
@@ -176,7 +176,7 @@ module _ (ds : List Name) (g : Heap) where
   leaves-touched h (Some (name.Script k)) none d = leaves-exposed h (Some (object k.0)) none d
   leaves-touched h (Some (name.Reflector k)) none d = leaves-exposed h (Some (reflector k.0)) none d
 
-  -- and moved into another slot
+  -- what a slot holds moved into another slot
   leaves-move_slot : (h : Heap) (r i q j : ℕ) → Left h → Left (move_slot h r i q j).heap
   unfolding move_slot
   leaves-move_slot h r i q j d =
@@ -304,7 +304,7 @@ next_native-undoomed s ds h w d m =
     (named-of_living h (native (h.natives_made + 1)) (d.natives (h.natives_made + 1) m)) in
     absurd (omega arith)
 
--- nor is the next script object
+-- the next script object is not doomed
 pub next_object-undoomed : (s : Snapshot) (ds : List Name) (h : Heap) → IsWellFormed h → IsDoomed (view h) s ds → ¬ (Among (object (h.scripts_made + 1)) ds)
 next_object-undoomed s ds h w d m =
     let made : h.scripts_made + 1 ≤ h.scripts_made = (w.object_numbers (h.scripts_made + 1)

@@ -87,7 +87,7 @@ module _ (ds : List Name) (h : Heap) (d : IsApart ds h) where
       go Map j = absurd j
       go _ j = there j
 
-  -- and so is any object
+  -- any object that has a member in a slot is one
   pub slots_in-holder : (x y : Name) → Among y (contents (slots_or_none (slots_in h x))) → Among y ds → Among x ds
   slots_in-holder (name.Native k) y i m = go (native_at h k.0) refl i
     where
@@ -103,7 +103,7 @@ module _ (ds : List Name) (h : Heap) (d : IsApart ds h) where
   slot_of-untouched None i none y m j = m
   slot_of-untouched (Some x) i none y m j = none x (inl refl) (slots_in-holder x y (contents-at (slots_or_none (slots_in h x)) i y m) j)
 
-  -- nor is what a slot of what a register holds holds
+  -- what a slot of what a register holds holds is no member
   pub slot_at-untouched : (r : Reg) (i : ℕ) → IsUntouched ds (slot_at (objects_of h) r i)
   slot_at-untouched r i = slot_of-untouched (register h r) i (register-untouched r)
 
@@ -126,7 +126,7 @@ module _ (ds : List Name) (h : Heap) (d : IsApart ds h) where
       (λ b. b) m
   behind-untouched _ none there y m i = m
 
-  -- nor is the native of the reflector that a script register holds
+  -- the native of the reflector that a script register holds is no member
   pub native_of-untouched : (r : ℕ) → IsWellFormed h → IsUntouched ds (native_of (register h (S r)))
   native_of-untouched r w = behind-untouched (register h (S r)) (register-untouched (S r)) (script_register-there h r w)
 
