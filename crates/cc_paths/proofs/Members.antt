@@ -20,7 +20,7 @@ use Rattle.cc_script.specs.Objects.{Object, is_there, name_at}
 use Rattle.cc_weakmaps.specs.Entries.{KeyedEntry}
 use Rattle.cc_weakmaps.specs.Index.{has_object, is_it}
 use Rattle.cc_weakmaps.specs.Index as keyed
-use Rattle.cc_heaps.specs.Keyed.{Keyed, IsInOrder, name_held, named_entries, named_entry, the_name_at}
+use Rattle.cc_heaps.specs.Keyed.{Keyed, IsInOrder, name_held, named_entry, the_name_at}
 use Rattle.cc_heaps.proofs.Reaching.{HasOneName, key-named, name_at-found, same-tests, the_name-is, the_name-there}
 use Rattle.cc_heaps.proofs.ScriptsChanged.{HasOneName-named}
 use Rattle.cc_search.specs.Members.{IsPlaceOf, place_below}
@@ -105,10 +105,11 @@ native-member h well x n e m =
 
 pub native-below : (h : Heap) → IsWellFormed h → (x : Name) → is_native x ≡ true → (n : ℕ) → place_below h.entries x n ≡ None
 native-below h well x its zero = refl
-native-below h well x its (suc n) = go (slice_get h.entries n) refl
+native-below h well x its (suc n) = go (native-below h well x its n) (slice_get h.entries n) refl
   where
-    go : (o : Option Entry) → slice_get h.entries n ≡ o → place_below h.entries x (suc n) ≡ None
-    go None e = ap (λ o. elim (option_map (is_member x) o) [ None ↦ place_below h.entries x n | Some b ↦ elim b [ true ↦ Some n | false ↦ place_below h.entries x n ] ]) e ∙ native-below h well x its n
-    go (Some d) e =
-        ap (λ o. elim (option_map (is_member x) o) [ None ↦ place_below h.entries x n | Some b ↦ elim b [ true ↦ Some n | false ↦ place_below h.entries x n ] ]) e
-        ∙ (ap (λ b. elim b [ true ↦ Some n | false ↦ place_below h.entries x n ]) (native-member h well x its d (place-among d h.entries n e)) ∙ native-below h well x its n)
+    after : Option Bool → Option ℕ
+    after o = elim o [ None ↦ place_below h.entries x n | Some b ↦ elim b [ true ↦ Some n | false ↦ place_below h.entries x n ] ]
+
+    go : place_below h.entries x n ≡ None → (o : Option Entry) → slice_get h.entries n ≡ o → place_below h.entries x (suc n) ≡ None
+    go before None e = ap (λ o. after (option_map (is_member x) o)) e ∙ before
+    go before (Some d) e = ap (λ o. after (option_map (is_member x) o)) e ∙ (ap (λ b. after (Some b)) (native-member h well x its d (place-among d h.entries n e)) ∙ before)

@@ -1,11 +1,11 @@
 -- WHAT STANDS FOR OBJECTS OF THE HEAPS, by their names.
-use Rattle.std.specs.Prelude.{slice_get, slice_index_or, IsSome, IsTrue}
-use Rattle.std.proofs.Common.{◌≡◌, ℕ, List, length, Option, Some, None, option_map, option_and_then, is_some, refl, sym, ◌∙◌, ap, subst}
+use Rattle.std.specs.Prelude.{slice_get, IsSome, IsTrue}
+use Rattle.std.proofs.Common.{◌≡◌, ℕ, true, List, Option, Some, None, option_map, option_and_then, is_some, refl, sym, ◌∙◌, ap, subst}
 use Rattle.cc_lists.proofs.Places.{place-among}
 use Rattle.cc_names.specs.declared.name.Name.{Name}
 use Rattle.cc_names.specs.declared.number.NKey.{NKey}
 use Rattle.cc_names.specs.declared.number.SKey.{SKey}
-use Rattle.cc_names.specs.Names.{native}
+use Rattle.cc_names.specs.Names.{is_native, native}
 use Rattle.cc_model.specs.Checks.{slots_or_none}
 use Rattle.cc_model.specs.Entries.{Entry}
 use Rattle.cc_model.specs.Places.{places_in}
@@ -14,7 +14,8 @@ use Rattle.cc_counted.specs.declared.held.Held.TheVariants as held
 use Rattle.cc_counted.specs.Counts.{held_of_native}
 use Rattle.cc_script.specs.Objects.{Object, is_there, object_at, name_at}
 use Rattle.cc_weakmaps.specs.Entries.{KeyedEntry}
-use Rattle.cc_heaps.specs.Keyed.{Keyed, IsInOrder, name_held, named_entry, number_at, the_name_at}
+use Rattle.cc_marking.specs.Marking.{IsEntryThere}
+use Rattle.cc_heaps.specs.Keyed.{Keyed, IsInOrder, name_held, named_entry, number_at}
 use Rattle.cc_heaps.specs.Changes.{IsNativeThere, IsScriptThere, IsThere, held_name, native_name, script_name}
 use Rattle.cc_heaps.specs.Places.{places_at}
 use Rattle.cc_heaps.proofs.Reaching.{the_name-there}
@@ -46,6 +47,18 @@ named-there v (held.Script key) e = go (object_at v.scripts key.0) e
     go : (o : Option Object) → IsSome (option_map (λ p. p.name) o) → IsTrue (is_some o)
     go None k = absurd (cc)
     go (Some p) k = refl
+
+-- a native has the name of one
+pub native-named : (v : Keyed) (object : Held) (key : NKey) (x : Name) → object ≡ held.Native key → held_name v (Some object) ≡ Some x → is_native x ≡ true
+native-named v object key x is named = go (number_at v key.0) (ap (λ h. held_name v (Some h)) (sym is) ∙ named)
+  where
+    go : (o : Option ℕ) → option_map native o ≡ Some x → is_native x ≡ true
+    go None k = absurd (cc)
+    go (Some n) k = let it : native n ≡ x = cc in ap is_native (sym it)
+
+-- the name of the script object at a key
+pub script-named : (v : Keyed) (object : Held) (key : SKey) (x : Name) → object ≡ held.Script key → held_name v (Some object) ≡ Some x → name_at v.scripts key.0 ≡ Some x
+script-named v object key x is named = ap (λ h. held_name v (Some h)) (sym is) ∙ named
 
 -- what stands where a name is held
 pub held-as : (v : Keyed) (object : Option Held) (content : Option Name) → held_name v object ≡ content → IsThere v object → IsHeldAs (λ o. held_name v (Some o)) content object
@@ -89,6 +102,8 @@ entry-members v owned order i m k x d at e here =
   where
     keyed : KeyedEntry
     keyed = record { the_map = m.0; key = k.0; delegate = option_map (λ (j : SKey). j.0) d; value = x.0 }
+
+    there : IsEntryThere v.scripts keyed
     there = order.entries_there keyed (place-among keyed v.entries i at)
 
     same : named_entry v.scripts keyed ≡ e
