@@ -14,8 +14,9 @@ use Rattle.cc_model.specs.declared.item.Refusal.{Refusal}
 use Rattle.cc_model.specs.declared.item.Reply.TheVariants.{Named, Refused}
 use Rattle.cc_model.specs.Slots.{empty_slots}
 use Rattle.cc_model.specs.Checks.{lacks_object, reflector_of, named_or_nothing, refusal_of, refused_or, reply_if_taken}
-use Rattle.cc_model.specs.Graph.{Graph, GraphNative, plain_object, weak_map, proxy, numbered, native_in, objects_of, register, set_native, preserve, wrapped, as_wrapped, as_preserved, with_native, with_script, with_proxy, changed, unless_refused, step, reply_to}
+use Rattle.cc_model.specs.Graph.{Graph, GraphNative, plain_object, weak_map, proxy, numbered, native_in, objects_of, register, set_native, preserve, wrapped, as_wrapped, as_preserved, with_native, with_script, with_proxy, changed, unless_refused, step, reply_to, done_to}
 use Rattle.cc_model.specs.WellMade.{IsWellMade, was_made}
+use Rattle.cc_model.specs.Deeds.{deed_of}
 use Rattle.cc_laws_heap.proofs.Face.{IsTaken, IsTaken-from, OfSome, MadeNative, change_numbered, is_some-found, native_register-made, numbered-change, numbered-next, numbered-push, set_native-is}
 use Rattle.cc_check.specs.Standing.{lists, makes}
 
@@ -91,7 +92,7 @@ wrapped-made g k m = subst (λ (e : Graph). IsTrue (was_made e (reflector k))) (
 -- what a command that is not refused names, where a census lists it, is made by then
 named-made : (g : Graph) (c : Command) (x : Name) → IsWellMade g → IsTaken (objects_of g) c → reply_if_taken (objects_of g) c ≡ Named x → lists c ≡ true →
     IsTrue (was_made (changed g c) x)
-unfolding changed reply_if_taken
+unfolding changed done_to deed_of reply_if_taken
 named-made g (Native d n) x w t e l = let same : native (length g.natives + 1) ≡ x = cc in
     subst (λ y. IsTrue (was_made (with_native g n) y)) same (ap is_some (numbered-push g.natives _))
 named-made g (Script d n) x w t e l = let same : object (length g.scripts + 1) ≡ x = cc in

@@ -8,11 +8,11 @@ use Rattle.cc_names.specs.declared.name.Name.TheVariants as name
 use Rattle.cc_names.specs.declared.register.Reg.{Reg}
 use Rattle.cc_names.specs.declared.register.Reg.TheVariants.{N, S}
 use Rattle.cc_model.specs.declared.command.Command.{Command}
-use Rattle.cc_model.specs.declared.command.Command.TheVariants.{Native, Script, WeakMap, Proxy, CopyNative, CopyScript, Drop, Set, Get, Move, Put, Take, Wrap, Unwrap, Preserve, SetEntry, GetEntry, Slice, Collect, Gc, Why, Census}
 use Rattle.cc_model.specs.declared.item.Refusal.{Refusal}
 use Rattle.cc_model.specs.Slots.{empty_slots}
-use Rattle.cc_model.specs.Checks.{slot_at, value_at, native_of, reflector_of, refusal_of}
-use Rattle.cc_model.specs.Graph.{Graph, GraphNative, GraphScript, plain_object, weak_map, proxy, numbered, native_in, script_in, objects_of, register, source, set_register, set_native, set_script, set_slot, preserve, wrapped, set_entry, as_preserved, as_wrapped, with_slot, with_reflector_slot, with_script_slot, with_native, with_script, with_proxy, changed, unless_refused, step, new_graph_native}
+use Rattle.cc_model.specs.Checks.{slot_at, reflector_of, refusal_of}
+use Rattle.cc_model.specs.Deeds.{Deed, nothing_done, native_made, plain_made, map_made, proxy_made, native_held, script_held, script_copied, native_stored, slot_moved, script_stored, reflector_held, reflector_preserved, entry_written, object_exposed, deed_of}
+use Rattle.cc_model.specs.Graph.{done_to, Graph, GraphNative, GraphScript, plain_object, weak_map, proxy, numbered, native_in, script_in, objects_of, register, set_register, set_native, set_script, set_slot, preserve, wrapped, set_entry, as_preserved, as_wrapped, with_slot, with_reflector_slot, with_script_slot, with_native, with_script, with_proxy, changed, unless_refused, step, new_graph_native}
 use Rattle.cc_model.specs.WellMade.{was_made}
 use Rattle.cc_laws_heap.proofs.Face.{Grows-change_native, KeepsReflector-slot, change_numbered, is_some-found, numbered-change, numbered-change_other, numbered-push_old, set_script-is}
 use Rattle.std.proofs.lemmas.Bool.Decides.{eqb_tells}
@@ -134,30 +134,38 @@ Stays-proxy g d (Some x) = Stays-then g (preserve g (Some x)) _ (Stays-preserve 
     (Stays-then (preserve g (Some x)) (with_script (preserve g (Some x)) (proxy x)) _ (Stays-with_script (preserve g (Some x)) (proxy x))
     (Stays-register (with_script (preserve g (Some x)) (proxy x)) (S d) _))
 
+-- A native, and a script object, is made, and a register holds it.
+
+Stays-native_made : (g : Graph) (d n : ℕ) (x : Option Name) → Stays g (set_register (with_native g n) (N d) x)
+Stays-native_made g d n x = Stays-then g (with_native g n) _ (Stays-with_native g n) (Stays-register (with_native g n) (N d) x)
+
+Stays-script_made : (g : Graph) (d : ℕ) (o : GraphScript) (x : Option Name) → Stays g (set_register (with_script g o) (S d) x)
+Stays-script_made g d o x = Stays-then g (with_script g o) _ (Stays-with_script g o) (Stays-register (with_script g o) (S d) x)
+
+-- EACH DEED KEEPS THEM.
+Stays-done : (g : Graph) (d : Deed) → Stays g (done_to g d)
+unfolding done_to
+Stays-done g nothing_done = Stays-same g
+Stays-done g (native_made d n) = Stays-native_made g d n _
+Stays-done g (plain_made d n) = Stays-script_made g d (plain_object (empty_slots n)) _
+Stays-done g (map_made d) = Stays-script_made g d weak_map _
+Stays-done g (proxy_made d x) = Stays-proxy g d x
+Stays-done g (native_held d x) = Stays-register g (N d) x
+Stays-done g (script_held d x) = Stays-register g (S d) x
+Stays-done g (script_copied d x) = Stays-register g (S d) x
+Stays-done g (native_stored d i x) = Stays-slot g (register g (N d)) i x
+Stays-done g (slot_moved d i s j) = let left = set_slot g (register g (N s)) j None in
+    Stays-then g left _ (Stays-slot g (register g (N s)) j None) (Stays-slot left (register g (N d)) i (slot_at (objects_of g) (N s) j))
+Stays-done g (script_stored x i y) = Stays-then g (preserve g x) _ (Stays-preserve g x) (Stays-slot (preserve g x) x i y)
+Stays-done g (reflector_held d x) = Stays-then g (wrapped g x) _ (Stays-wrapped g x) (Stays-register (wrapped g x) (S d) (reflector_of x))
+Stays-done g (reflector_preserved x) = Stays-preserve g x
+Stays-done g (entry_written m k v) = Stays-set_entry g m k v
+Stays-done g (object_exposed x) = Stays-same g
+
 -- EACH COMMAND KEEPS THEM.
 Stays-changed : (g : Graph) (c : Command) → Stays g (changed g c)
 unfolding changed
-Stays-changed g (Native d n) = Stays-then g (with_native g n) _ (Stays-with_native g n) (Stays-register (with_native g n) (N d) _)
-Stays-changed g (Script d n) = Stays-then g (with_script g (plain_object (empty_slots n))) _ (Stays-with_script g (plain_object (empty_slots n))) (Stays-register (with_script g (plain_object (empty_slots n))) (S d) _)
-Stays-changed g (WeakMap d) = Stays-then g (with_script g weak_map) _ (Stays-with_script g weak_map) (Stays-register (with_script g weak_map) (S d) _)
-Stays-changed g (Proxy d s) = Stays-proxy g d (register g (S s))
-Stays-changed g (CopyNative d s) = Stays-register g (N d) (register g (N s))
-Stays-changed g (CopyScript d s) = Stays-register g (S d) (register g (S s))
-Stays-changed g (Drop r) = Stays-register g r None
-Stays-changed g (Set d i r) = Stays-slot g (register g (N d)) i (source g r)
-Stays-changed g (Get r s i) = Stays-register g r (slot_at (objects_of g) (N s) i)
-Stays-changed g (Move d i s j) = Stays-then g (set_slot g (register g (N s)) j None) _ (Stays-slot g (register g (N s)) j None)
-    (Stays-slot (set_slot g (register g (N s)) j None) (register g (N d)) i (slot_at (objects_of g) (N s) j))
-Stays-changed g (Put d i s) = Stays-then g (preserve g (register g (S d))) _ (Stays-preserve g (register g (S d)))
-    (Stays-slot (preserve g (register g (S d))) (register g (S d)) i (source g (option_map S s)))
-Stays-changed g (Take d s i) = Stays-register g (S d) (slot_at (objects_of g) (S s) i)
-Stays-changed g (Wrap d s) = Stays-then g (wrapped g (register g (N s))) _ (Stays-wrapped g (register g (N s)))
-    (Stays-register (wrapped g (register g (N s))) (S d) (reflector_of (register g (N s))))
-Stays-changed g (Unwrap d s) = Stays-register g (N d) (native_of (register g (S s)))
-Stays-changed g (Preserve s) = Stays-preserve g (register g (S s))
-Stays-changed g (SetEntry m k v) = Stays-set_entry g (register g (S m)) (register g (S k)) (source g (option_map S v))
-Stays-changed g (GetEntry d m k) = Stays-register g (S d) (value_at (objects_of g) (register g (S m)) (register g (S k)))
-Stays-changed g _ = Stays-same g
+Stays-changed g c = Stays-done g (deed_of (objects_of g) c)
 
 -- A STEP KEEPS THEM.
 pub Stays-step : (g : Graph) (c : Command) → Stays g (step g c)
@@ -166,34 +174,3 @@ Stays-step g c = go (refusal_of (objects_of g) c)
     go : (o : Option Refusal) → Stays g (unless_refused o g (changed g c))
     go None = Stays-changed g c
     go (Some refusal) = Stays-same g
-
--- Commands that leave the graph
-
-unless-same : (o : Option Refusal) (g : Graph) → unless_refused o g g ≡ g
-unless-same None g = refl
-unless-same (Some refusal) g = refl
-
--- a slice of a collection,
-pub step-slice : (g : Graph) (units : ℕ) → step g (Slice units) ≡ g
-unfolding changed
-step-slice g units = unless-same (refusal_of (objects_of g) (Slice units)) g
-
--- a collection,
-pub step-collect : (g : Graph) → step g Collect ≡ g
-unfolding changed
-step-collect g = unless-same (refusal_of (objects_of g) Collect) g
-
--- a script collection,
-pub step-gc : (g : Graph) → step g Gc ≡ g
-unfolding changed
-step-gc g = unless-same (refusal_of (objects_of g) Gc) g
-
--- and `why` leave it.
-pub step-why : (g : Graph) (x : Name) → step g (Why x) ≡ g
-unfolding changed
-step-why g x = unless-same (refusal_of (objects_of g) (Why x)) g
-
--- So does a census.
-pub step-census : (g : Graph) → step g Census ≡ g
-unfolding changed
-step-census g = unless-same (refusal_of (objects_of g) Census) g

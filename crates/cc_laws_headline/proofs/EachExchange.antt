@@ -1,6 +1,6 @@
 -- EACH TURN OF A LAWFUL AND QUIET TRANSCRIPT: its answer is lawful in the state before it, and a census after the row is
 -- quiet there.
-use Rattle.std.proofs.Common.{◌≡◌, suc, Bool, true, false, List, [], ◌∷◌, ◌++◌, length, Option, Some, None, refl, sym, ◌∙◌, ap, subst, inl, inr, ◌⊎◌, ⊎_elim}
+use Rattle.std.proofs.Common.{arith, ◌≡◌, suc, Bool, true, false, List, [], ◌∷◌, ◌++◌, length, Option, Some, None, refl, sym, ◌∙◌, ap, subst, inl, inr, ◌⊎◌, ⊎_elim}
 use Rattle.std.proofs.lemmas.Bool.{true≢false, and_parts}
 use Rattle.std.specs.Prelude.{IsTrue}
 use Rattle.std.specs.List.{list_all}
@@ -9,7 +9,7 @@ use Rattle.cc_lists.specs.Members.{Among}
 use Rattle.cc_names.specs.Allowance.{Allowance}
 use Rattle.cc_names.specs.declared.name.Name.{Name}
 use Rattle.cc_model.specs.declared.command.Command.{Command}
-use Rattle.cc_model.specs.declared.command.Command.TheVariants.{Nothing, Why, Collect, Gc, Census}
+use Rattle.cc_model.specs.declared.command.Command.TheVariants.{Nothing, Collect, Gc, Census}
 use Rattle.cc_model.specs.declared.item.Reply.{Reply}
 use Rattle.cc_model.specs.declared.item.Reply.TheVariants.{Done, Nothing as nothing}
 use Rattle.cc_model.specs.declared.item.Event.{Event}
@@ -59,10 +59,7 @@ command-reply-is s c a (Some reply) l = l.replies
 reply-is : (s : State) (ask : Ask) (a : Answer) → AnswersAsk s ask a → ReplyIs s ask a.reply
 reply-is s long a l = ap (λ (b : Answer). b.reply) l
 reply-is s bad a l = ap (λ (b : Answer). b.reply) l
-reply-is s (taken Nothing) a l = ap (λ (b : Answer). b.reply) l
-reply-is s (taken Census) a l = tt
-reply-is s (taken (Why x)) a l = tt
-reply-is s (taken c) a l = command-reply-is s c a a.reply l.2
+reply-is s (taken c) a l = grind (arith, command-reply-is)
 
 -- what it tells is not reached in the graph after it
 events-spare : (g : Graph) (names : List Name) (c : Command) (es : List Event) → EachMayBe g names c es →
@@ -86,10 +83,7 @@ silent-spares s a e x m = absurd (⊎_elim (λ i. subst (Among (Unlinked x)) e i
 answer-spares : (s : State) (ask : Ask) (a : Answer) → AnswersAsk s ask a → SparesReached (next s ask a) a
 answer-spares s long a l = silent-spares s a (ap (λ (b : Answer). b.events) l)
 answer-spares s bad a l = silent-spares s a (ap (λ (b : Answer). b.events) l)
-answer-spares s (taken Nothing) a l = silent-spares (next s (taken Nothing) a) a (ap (λ (b : Answer). b.events) l)
-answer-spares s (taken Census) a l = silent-spares (next s (taken Census) a) a (ap (λ (b : Answer). b.events) l)
-answer-spares s (taken (Why x)) a l = silent-spares (next s (taken (Why x)) a) a (⊎_elim (λ e. ap (λ (b : Answer). b.events) e) (λ e. ap (λ (b : Answer). b.events) e) l)
-answer-spares s (taken c) a l = command-spares s c a a.reply l.2
+answer-spares s (taken c) a l = grind (arith, silent-spares, command-spares)
 
 -- and a census lists what is there
 census-lists : (s : State) (ask : Ask) (a : Answer) → AnswersAsk s ask a → ListsWhatIsThere s ask a

@@ -2,19 +2,24 @@
 use Rattle.std.specs.Prelude.{Bool, true, false, List, [], ◌∷◌, Option, Some, None, nat_lt}
 use Rattle.cc_names.specs.declared.register.Reg.{Reg}
 use Rattle.cc_names.specs.declared.register.Reg.TheVariants.{N, S}
-use Rattle.cc_model.specs.declared.command.Command.TheVariants.{Nothing, Version2, Why, Drop, Collect, Gc, Census}
+use Rattle.cc_model.specs.declared.command.Command.TheVariants.{Drop, Collect, Gc, Census}
+use Rattle.cc_model.specs.Mutating.{census, Class, says, class_of}
 use Rattle.cc_model.specs.Asks.{Ask, long, bad, taken}
 use Rattle.cc_model.specs.Checks.{Objects}
 use Rattle.cc_model.specs.Deeds.{Deed, native_made, plain_made, map_made, proxy_made, native_held, script_held, script_copied, reflector_held, deed_of}
 
--- a command: no line that is too long or not in the grammar, none that is blank, no comment, and none that asks for a version
+-- all but what is said, of which a census alone is asked for
+abbrev pub is_asked : Class → Bool
+is_asked (says census) = true
+is_asked (says q) = false
+is_asked _ = true
+
+-- a command: no line that is too long or not in the grammar, none that is blank, no comment, and none that asks for a version or
+-- for a way to an object
 abbrev pub is_command : Ask → Bool
 is_command long = false
 is_command bad = false
-is_command (taken Nothing) = false
-is_command (taken (Why x)) = false
-is_command (taken Version2) = false
-is_command (taken c) = true
+is_command (taken c) = is_asked (class_of c)
 
 -- the register that a deed writes
 abbrev pub written_by : Deed → Option Reg

@@ -4,17 +4,19 @@ use Rattle.std.proofs.lemmas.Bool.{and_parts, leb-true}
 use Rattle.cc_names.specs.declared.name.Name.{Name}
 use Rattle.cc_names.specs.Names.{number_of}
 use Rattle.cc_model.specs.declared.command.Command.{Command}
-use Rattle.cc_model.specs.declared.command.Command.TheVariants.{Collect}
 use Rattle.cc_model.specs.declared.item.Event.{Event}
 use Rattle.cc_model.specs.declared.item.Event.TheVariants.{Unlinked}
-use Rattle.cc_model.specs.Lawful.{may_unlink, runs_allowed}
+use Rattle.cc_model.specs.Mutating.{Class, class_of}
+use Rattle.cc_model.specs.Lawful.{may_unlink, runs_in, runs_allowed}
 use Rattle.cc_verdict.specs.Hearing.{Told, may_come, runs_begun, runs_with}
 use Rattle.cc_check.specs.Standing.{told_of}
 use Rattle.cc_check.proofs.answer.Answer.after.Goals as goal
 
 allowed-few : (c : Command) → runs_allowed c ≤ 2
-allowed-few Collect = omega arith
-allowed-few _ = omega arith
+allowed-few c = few_in (class_of c)
+  where
+    few_in : (k : Class) → runs_in k ≤ 2
+    few_in k = grind arith
 
 -- as many runs as there are with a native that may be unlinked are few
 few : (c : Command) (t : Told) (e : Event) (x : Name) → IsTrue (may_come c t e) → e ≡ Unlinked x → runs_begun t.last (number_of x) ≡ 1 → t.runs + 1 ≤ 2

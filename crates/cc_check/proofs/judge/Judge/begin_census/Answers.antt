@@ -1,4 +1,4 @@
-use Rattle.std.proofs.Common.{◌≡◌, ℕ, List, ◌∷◌, length, reverse, sym, ◌∙◌, ap, subst}
+use Rattle.std.proofs.Common.{◌≡◌, ℕ, List, ◌∷◌, length, reverse, refl, sym, ◌∙◌, ap, subst}
 use Rattle.cc_names.specs.declared.name.Name.{Name}
 use Rattle.cc_model.specs.declared.command.Command.TheVariants.{Census}
 use Rattle.cc_model.specs.declared.item.Reply.TheVariants.{Census as counted}
@@ -12,7 +12,7 @@ use Rattle.cc_verdict.specs.Following.{place, place_after}
 use Rattle.cc_check.specs.Judging.{MayAnswer, MayRecite}
 use Rattle.cc_check.specs.Standing.{place_of}
 use Rattle.cc_check.proofs.Judged.{IsJudged-as, recites-as}
-use Rattle.cc_check.proofs.Stays.{step-census}
+use Rattle.cc_model.proofs.NoDeeds.{no_deed-leaves}
 use Rattle.cc_check.proofs.judge.Judge.begin_census.Goals as goal
 
 pub returns : goal.returns
@@ -24,7 +24,7 @@ returns c =
     let now = c.census.new.self in
     let same : now ≡ listed = c.in_ok-names.ensures.same in
     let place_is : place g now nothing_yet ≡ after =
-    ap (λ (names : List Name). place g names nothing_yet) same ∙ ap (λ (h : Graph). place h listed nothing_yet) (sym (step-census g)) in
+    ap (λ (names : List Name). place g names nothing_yet) same ∙ ap (λ (h : Graph). place h listed nothing_yet) (sym (no_deed-leaves Census refl g)) in
     let told = items_of (census_of listed) in
     let count_is : c.in_ok-count.count ≡ length listed = c.in_ok-count.ensures.key ∙ (c.len.ensures ∙ ap (λ (names : List Name). length names) same) in
     let items_are : reverse c.list.new.recital.items ≡ told = c.in_ok-list.ensures.items

@@ -1,4 +1,4 @@
-use Rattle.std.proofs.Common.{◌≡◌, ◌≢◌, ℕ, Bool, true, false, List, [], ◌∷◌, Some, reverse, sym, ◌∙◌, ap, subst}
+use Rattle.std.proofs.Common.{◌≡◌, ◌≢◌, ℕ, Bool, true, false, List, [], ◌∷◌, Some, reverse, refl, sym, ◌∙◌, ap, subst}
 use Rattle.std.proofs.lemmas.Bool.{true≢false}
 use Rattle.cc_lists.specs.Members.{has}
 use Rattle.cc_names.specs.declared.name.Name.{Name}
@@ -18,7 +18,7 @@ use Rattle.cc_verdict.specs.Following.{Follows, Place, place, place_after}
 use Rattle.cc_check.specs.Judging.{MayAnswer, MayRecite}
 use Rattle.cc_check.specs.Standing.{place_of}
 use Rattle.cc_check.proofs.Judged.{IsJudged-as, on_between, recites-as}
-use Rattle.cc_check.proofs.Stays.{step-why}
+use Rattle.cc_model.proofs.NoDeeds.{no_deed-graph}
 use Rattle.cc_check.proofs.judge.Judge.begin_reasons.Goals as goal
 
 abbrev no_memory : Reply
@@ -40,11 +40,6 @@ returns-then-hear_reply c =
       no = λ no_line. absurd (true≢false no_line);
     }
 
--- the reply to `why` leaves the graph
-why-stays : (g : Graph) (x : Name) (b : Bool) → graph_after g (Why x) (Some (done_or_nothing b)) ≡ g
-why-stays g x true = step-why g x
-why-stays g x false = step-why g x
-
 -- what is recited is what `why` answers
 reasons-are : (g : Graph) (x : Name) (found steps : List Step) (b : Bool) → found ≡ derivation (leads_made g) → steps ≡ (needed_for found (x ∷ [])).steps →
     b ≡ has same_name (named found) x → items_of (explaining steps (done_or_nothing b)) ≡ items_of (why_of (leads_made g) x)
@@ -60,7 +55,7 @@ returns c =
     let p = place_of c.args.self.now in
     let led = is_led_to (leads_made g) x in
     let after = place_after p (taken (Why x)) (why_of (leads_made g) x) in
-    let graph_is : graph_after g (Why x) (Some (done_or_nothing led)) ≡ g = why-stays g x led in
+    let graph_is : graph_after g (Why x) (Some (done_or_nothing led)) ≡ g = no_deed-graph (Why x) refl g (Some (done_or_nothing led)) in
     let place_is : place_of c.hear_reply.new.self ≡ after = c.hear_reply.ensures.place
     ∙ ap (λ (h : Graph). place h c.args.self.now.listed nothing_yet) (sym graph_is) in
     let told = items_of (why_of (leads_made g) x) in
