@@ -1,6 +1,5 @@
 -- DEEDS ANSWERED: they are done, or lack memory; and what that is for a command.
-use Rattle.std.proofs.Common.{◌≡◌, ◌≢◌, ℕ, ◌<◌, ◌≤◌, Bool, true, false, List, Option, Some, None, refl, sym, ◌∙◌, ap, subst, arith}
-use Rattle.std.proofs.lemmas.Bool.{leb-true, leb-false}
+use Rattle.std.proofs.Common.{◌≡◌, ◌≢◌, ℕ, Bool, true, false, List, Option, Some, None, refl, sym, ◌∙◌, ap, subst, arith}
 use Rattle.cc_names.specs.declared.name.Name.{Name}
 use Rattle.cc_model.specs.declared.command.Command.{Command}
 use Rattle.cc_model.specs.declared.item.Refusal.{Refusal}
@@ -8,7 +7,7 @@ use Rattle.cc_model.specs.declared.item.Refusal.TheVariants.{NoMemory}
 use Rattle.cc_model.specs.declared.item.Reply.{Reply}
 use Rattle.cc_model.specs.declared.item.Reply.TheVariants.{Named, Done, Refused}
 use Rattle.cc_model.specs.Telling.{Telling, TellsEvents}
-use Rattle.cc_model.specs.Checks.{Objects, named_or_nothing, refusal_of, reply_if_taken}
+use Rattle.cc_model.specs.Checks.{Objects, named_or_nothing, refusal_of}
 use Rattle.cc_model.specs.Deeds.{Deed}
 use Rattle.cc_model.specs.Heap.{Heap, Outcome, objects_of, silently}
 use Rattle.cc_model.specs.Effects.{done_in, effects}
@@ -90,7 +89,7 @@ module _ (c : Command) (old new : Keyed) (reply : Reply) (before after : Telling
   applied-taken none a = record {
     refused = λ r e. let f = sym none ∙ e in absurd (cc);
     done = λ e m. record { reply_is = a.answered m; heap = a.heap m; told = a.told m };
-    memory = λ e. (none, a.memory e);
+    memory = λ e. let f = a.memory e in (none, f.0, f.1, f.2);
     keys = a.keys;
     order = a.order;
   }
@@ -103,7 +102,3 @@ as-taken o c e is none = subst (IsTaken o) is (IsTaken-from o c none)
 pub exposed-none : (h : Heap) → exposed h None ≡ h
 unfolding exposed
 exposed-none h = refl
-
--- what is not at least is less
-pub room-left : (a b : ℕ) → ¬ (a ≤ b) → b < a
-room-left a b h = grind (arith, leb-true, leb-false)

@@ -1,22 +1,20 @@
 -- WHAT FOLLOWS WHERE A COMMAND IS ANSWERED, by the laws: the reply is the graph's, the heaps go on standing for the graph,
 -- snapshots stay fresh, colours keep their invariant, and counts stay small.
 use Rattle.std.proofs.Common.{◌≡◌, ◌≢◌, ℕ, Bool, true, false, List, ◌++◌, Option, Some, None, IsTrue, refl, sym, ◌∙◌, ap, subst, inl, inr, ◌⊎◌, ⊎_elim, arith}
-use Rattle.std.specs.Option.{is_none}
 use Rattle.std.specs.List.{filter}
-use Rattle.std.proofs.lemmas.Bool.{false≢true, not-true}
+use Rattle.std.proofs.lemmas.Bool.{false≢true}
 use Rattle.cc_lists.specs.Members.{Among, has}
 use Rattle.cc_lists.proofs.Members.{Among-append, Among-filter, Among-map_cases, Among-right, has-among}
 use Rattle.cc_names.specs.declared.name.Name.{Name}
-use Rattle.cc_names.specs.declared.register.Reg.TheVariants.{S}
 use Rattle.cc_names.specs.Names.{native, reflector, same_name, is_native, is_script}
 use Rattle.cc_names.proofs.NameTests.{same_name-exact}
 use Rattle.cc_model.specs.declared.command.Command.{Command}
-use Rattle.cc_model.specs.declared.command.Command.TheVariants.{Native, Script, WeakMap, Proxy, Wrap, SetEntry}
 use Rattle.cc_model.specs.declared.item.Refusal.{Refusal}
 use Rattle.cc_model.specs.declared.item.Refusal.TheVariants.{NoMemory}
 use Rattle.cc_model.specs.declared.item.Reply.{Reply}
 use Rattle.cc_model.specs.declared.item.Reply.TheVariants.{Refused}
 use Rattle.cc_model.specs.Telling.{Telling}
+use Rattle.cc_model.specs.Mutating.{Class, does, class_of, is_applied, is_deed}
 use Rattle.cc_model.specs.Ranges.{in_range}
 use Rattle.cc_model.specs.Checks.{refusal_of, refused_or, reply_if_taken}
 use Rattle.cc_model.specs.Colours.{HasColourInvariant}
@@ -25,7 +23,7 @@ use Rattle.cc_model.specs.Fresh.{IsFresh}
 use Rattle.cc_model.specs.Graph.{step, reply_to, unless_refused, changed}
 use Rattle.cc_model.specs.Graph as graph
 use Rattle.cc_model.specs.Heap.{Heap, HeapNative, has_reflector, objects_of}
-use Rattle.cc_model.specs.Lawful.{State, RepliesWith, graph_after, is_without_memory, may_want_memory}
+use Rattle.cc_model.specs.Lawful.{State, RepliesWith, class_may_want_memory, graph_after, is_without_memory, may_want_memory}
 use Rattle.cc_model.specs.Listed.{census_order}
 use Rattle.cc_model.specs.Run.{census_names}
 use Rattle.cc_model.specs.Snapshot.{Snapshot}
@@ -35,6 +33,7 @@ use Rattle.cc_model.specs.WellFormed.{native_names, script_names}
 use Rattle.cc_model.specs.WellMade.{IsWellMade}
 use Rattle.cc_model.proofs.Replies.{is_without_memory-true}
 use Rattle.cc_laws_heap.proofs.Face.{AreColoured-from_view, HasColourInvariant-from, IsTaken-from, command-stands, effects-coloured, effects-sound, has_reflector-none, objects-stand, refusal_of-alike, reply_if_taken-alike, step-well}
+use Rattle.cc_laws_heap.proofs.Wanting.{takes-may_want}
 use Rattle.cc_laws_snapshot.proofs.Face.{effects-fresh}
 use Rattle.cc_heaps.specs.Standing.{StandsAfter}
 use Rattle.cc_heaps.specs.Keyed.{Keyed, IsInOrder}
@@ -62,17 +61,16 @@ reflector-unlisted h names k listed none = go (has same_name names (reflector k)
         let there : Among (reflector k) (native_names h ++ script_names h) = subst (Among (reflector k)) (sym listed) in_census in
         ⊎_elim (λ m. absurd (unnamed m)) (λ m. absurd (has_reflector-none h k none m)) (Among-append (reflector k) (native_names h) (script_names h) there)
 
--- a command that takes memory here may want it: `wrap` where the listed names are those that are there, and `wset` where
--- the graph has no entry either
-takes-may_want : (h : Heap) (s : State) (c : Command) → StandsFor h s.graph → AreListedFor c h s.listed → takes_memory h c ≡ true →
-    IsTrue (may_want_memory s c)
-takes-may_want h s (Native d n) stands listed takes = refl
-takes-may_want h s (Script d n) stands listed takes = refl
-takes-may_want h s (WeakMap d) stands listed takes = refl
-takes-may_want h s (Proxy d r) stands listed takes = refl
-takes-may_want h s (Wrap d n) stands listed takes = grind (arith, objects-stand, false≢true, reflector-unlisted, not-true)
-takes-may_want h s (SetEntry m k (Some v)) stands listed takes = ap is_none (sym ((objects-stand h s.graph stands).value (S m) (S k))) ∙ takes
-takes-may_want h s _ stands listed takes = absurd (false≢true takes)
+-- a command of the mutator does a deed
+does-deed : (k : Class) → is_deed k ≡ true → k ≡ does
+does-deed does e = refl
+does-deed _ e = absurd (false≢true e)
+
+-- a command that takes memory here may want it: `wrap` where the listed names are those that are there
+may-want : (h : Heap) (s : State) (c : Command) → StandsFor h s.graph → AreListedFor c h s.listed → IsTrue (is_applied c) → takes_memory h c ≡ true → IsTrue (may_want_memory s c)
+may-want h s c stands listed applied takes =
+    ap (class_may_want_memory s c) (does-deed (class_of c) applied)
+    ∙ takes-may_want h s c stands (λ d n k is none. reflector-unlisted h s.listed k (subst (λ e. AreListedFor e h s.listed) is listed) none) takes
 
 module _ (c : Command) (old new : Keyed) (reply : Reply) (before after : Telling) (a : IsApplied c old new reply before after) where
   -- WHAT HAPPENED: nothing, or the effects of the command, where it is not refused
@@ -80,8 +78,8 @@ module _ (c : Command) (old new : Keyed) (reply : Reply) (before after : Telling
   happened = grind (arith, is_without_memory-true, with-memory, a.refused, a.memory, a.done)
 
   -- THE REPLY IS THE GRAPH'S, for each graph that the heaps stand for, or want of memory
-  pub applied-replies : (s : State) → StandsFor old.heap s.graph → AreListedFor c old.heap s.listed → RepliesWith s c reply
-  applied-replies s stands listed = go (refusal_of (objects_of old.heap) c) refl (is_without_memory reply) refl
+  pub applied-replies : IsTrue (is_applied c) → (s : State) → StandsFor old.heap s.graph → AreListedFor c old.heap s.listed → RepliesWith s c reply
+  applied-replies applied s stands listed = go (refusal_of (objects_of old.heap) c) refl (is_without_memory reply) refl
     where
       alike : refusal_of (objects_of old.heap) c ≡ refusal_of (graph.objects_of s.graph) c
       alike = refusal_of-alike (objects_of old.heap) (graph.objects_of s.graph) (objects-stand old.heap s.graph stands) c
@@ -94,7 +92,7 @@ module _ (c : Command) (old new : Keyed) (reply : Reply) (before after : Telling
       go (Some r) e b f = inl ((a.refused r e).0 ∙ refusing (Some r) e)
       go None e true f =
           let without : reply ≡ Refused NoMemory = is_without_memory-true reply f in
-          inr (record { refused = without; command_may = takes-may_want old.heap s c stands listed (a.memory without).1; no_other = sym alike ∙ e })
+          inr (record { refused = without; command_may = may-want old.heap s c stands listed applied (a.memory without).1; no_other = sym alike ∙ e })
       go None e false f = inl ((a.done e (with-memory reply f)).reply_is
           ∙ (reply_if_taken-alike (objects_of old.heap) (graph.objects_of s.graph) (objects-stand old.heap s.graph stands) c ∙ refusing None e))
 

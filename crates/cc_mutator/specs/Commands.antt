@@ -6,7 +6,7 @@ use Rattle.cc_model.specs.declared.command.Command.{Command}
 use Rattle.cc_model.specs.declared.item.Refusal.{Refusal}
 use Rattle.cc_model.specs.declared.item.Refusal.TheVariants.{NoMemory as no_memory}
 use Rattle.cc_model.specs.declared.item.Reply.{Reply}
-use Rattle.cc_model.specs.declared.item.Reply.TheVariants.{Refused, Named, Done}
+use Rattle.cc_model.specs.declared.item.Reply.TheVariants.{Refused, Done}
 use Rattle.cc_model.specs.Telling.{Telling, TellsEvents}
 use Rattle.cc_model.specs.Checks.{named_or_nothing, refusal_of, reply_if_taken}
 use Rattle.cc_model.specs.Deeds.{Deed, deed_of}

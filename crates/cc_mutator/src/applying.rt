@@ -1,5 +1,6 @@
 //! A command of the mutator, checked and done on the heaps.
 ghost use Rattle.std.specs.Prelude.{◌≡◌, ◌≢◌, IsTrue, true, ℕ, List, Some, None};
+ghost use Rattle.cc_model.specs.declared.command.Command.TheVariants.{Drop, Get};
 ghost use Rattle.cc_model.specs.declared.item.Refusal.{Refusal};
 ghost use Rattle.cc_model.specs.declared.item.Refusal.TheVariants.{NoMemory as no_memory};
 ghost use Rattle.cc_model.specs.declared.item.Reply.TheVariants.{Refused as refused};
@@ -9,7 +10,7 @@ ghost use Rattle.cc_model.specs.Effects.{takes_memory};
 ghost use Rattle.cc_model.specs.Heap.{objects_of};
 ghost use Rattle.cc_model.specs.Lawful.{State, RepliesWith, graph_after};
 ghost use Rattle.cc_model.specs.Mutating.{is_applied};
-ghost use Rattle.cc_model.specs.Ranges.{in_range};
+ghost use Rattle.cc_model.specs.Ranges.{in_range, is_reg};
 ghost use Rattle.cc_model.specs.StandsFor.{StandsFor};
 ghost use Rattle.cc_model.specs.View.{view};
 ghost use Rattle.cc_heaps.specs.Keyed.{IsInOrder};
@@ -28,7 +29,34 @@ use crate::scripts::{
 };
 use cc_heaps::Heaps;
 use cc_model::{Command, Notices, Reply, refusal};
-use cc_names::Reg;
+use cc_names::{Reg, RegNo};
+
+/// Empties a register.
+#[tactic(auto, unfolding(cc_model::specs::Deeds::deed_of, cc_model::specs::Checks::reply_if_taken))]
+fn empty<N: Notices>(heaps: &mut Heaps, r: Reg, out: &mut N) -> Reply
+    requires within { IsTrue (is_reg r) }
+    requires order { (owned : List ℕ) × IsInOrder owned heaps.old × AreOwnedOnce owned }
+    ensures { IsTakenUp (Drop r) heaps.old heaps.new result (N.telling out.old) (N.telling out.new) }
+{
+    match r {
+        Reg::N(k) => drop_native(heaps, k, out),
+        Reg::S(k) => drop_script(heaps, k),
+    }
+}
+
+/// Reads slot `i` of the native in a register into a register of either kind.
+#[tactic(auto, unfolding(cc_model::specs::Deeds::deed_of, cc_model::specs::Checks::reply_if_taken))]
+fn get<N: Notices>(heaps: &mut Heaps, d: Reg, s: RegNo, i: u32, out: &mut N) -> Reply
+    requires within { IsTrue (is_reg d) }
+    requires order { (owned : List ℕ) × IsInOrder owned heaps.old × AreOwnedOnce owned }
+    requires taken { refusal_of (objects_of heaps.old.heap) (Get d s i) ≡ None }
+    ensures { IsTakenUp (Get d s i) heaps.old heaps.new result (N.telling out.old) (N.telling out.new) }
+{
+    match d {
+        Reg::N(k) => get_native(heaps, k, s, i, out),
+        Reg::S(k) => get_script(heaps, k, s, i),
+    }
+}
 
 /// Does a command that is not refused, by the function of its kind.
 #[tactic(auto, unfolding(cc_model::specs::Deeds::deed_of, cc_model::specs::Checks::reply_if_taken))]
@@ -47,11 +75,9 @@ fn carry_out<N: Notices>(heaps: &mut Heaps, command: &Command, out: &mut N) -> R
         Command::Proxy(d, s) => make_proxy(heaps, d, s),
         Command::CopyNative(d, s) => copy_native(heaps, d, s, out),
         Command::CopyScript(d, s) => copy_script(heaps, d, s),
-        Command::Drop(Reg::N(d)) => drop_native(heaps, d, out),
-        Command::Drop(Reg::S(d)) => drop_script(heaps, d),
+        Command::Drop(r) => empty(heaps, r, out),
         Command::Set(d, i, from) => set(heaps, d, i, from, out),
-        Command::Get(Reg::N(d), s, i) => get_native(heaps, d, s, i, out),
-        Command::Get(Reg::S(d), s, i) => get_script(heaps, d, s, i),
+        Command::Get(d, s, i) => get(heaps, d, s, i, out),
         Command::Move(d, i, s, j) => move_slot(heaps, d, i, s, j, out),
         Command::Put(d, i, from) => put(heaps, d, i, from),
         Command::Take(d, s, i) => take(heaps, d, s, i),

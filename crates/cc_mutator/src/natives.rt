@@ -93,10 +93,10 @@ pub(crate) fn set<N: Notices>(
     ensures { IsDone (native_stored d i (source heaps.old.heap from)) heaps.old heaps.new result (N.telling out.old) (N.telling out.new) }
 {
     let content = source_content(heaps, from);
-    match heaps.native_reg(d) {
-        Some(key) => heaps.store_native(key, i as SlotNo, content, out),
-        None => unreachable!(),
-    }
+    let Some(key) = heaps.native_reg(d) else {
+        unreachable!();
+    };
+    heaps.store_native(key, i as SlotNo, content, out);
     Reply::Done
 }
 

@@ -127,11 +127,13 @@ pub(crate) fn put(heaps: &mut Heaps, d: RegNo, i: u32, from: Option<RegNo>) -> R
 /// Preserves the reflector in a register.
 pub(crate) fn preserve(heaps: &mut Heaps, s: RegNo) -> Reply
     requires order { (owned : List ℕ) × IsInOrder owned heaps.old }
+    requires there { is_none (register heaps.old.heap (s_register s)) ≡ false }
     ensures { (t : Telling) → IsDone (reflector_preserved (register heaps.old.heap (s_register s))) heaps.old heaps.new result t t }
 {
-    if let Some(key) = heaps.script_reg(s) {
-        let _ = cc_wrappers::preserve(heaps, key);
-    }
+    let Some(key) = heaps.script_reg(s) else {
+        unreachable!();
+    };
+    let _ = cc_wrappers::preserve(heaps, key);
     Reply::Done
 }
 

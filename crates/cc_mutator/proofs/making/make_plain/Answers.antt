@@ -1,11 +1,9 @@
-use Rattle.std.proofs.Common.{true, None, Some, refl, sym, ◌∙◌, ap}
-use Rattle.cc_names.specs.declared.kind.Kind.TheVariants.{Plain, Map}
-use Rattle.cc_names.specs.declared.register.Reg.TheVariants.{S}
+use Rattle.std.proofs.Common.{true, None, refl, ap}
+use Rattle.cc_names.specs.declared.kind.Kind.TheVariants.{Plain}
 use Rattle.cc_model.specs.declared.item.Refusal.TheVariants.{NoMemory}
 use Rattle.cc_model.specs.declared.item.Reply.TheVariants.{Named}
-use Rattle.cc_model.specs.Effects.{done_in, make_object, make_proxy}
-use Rattle.cc_model.specs.Heap.{register}
-use Rattle.cc_mutator.proofs.Carrying.{answered-denied, answered-done, answered-silently, name-not_refused}
+use Rattle.cc_model.specs.Effects.{done_in, make_object}
+use Rattle.cc_mutator.proofs.Carrying.{answered-denied, answered-silently, name-not_refused}
 use Rattle.cc_mutator.proofs.making.make_plain.Goals as goal
 
 pub returns-in-Ok : goal.returns-in-Ok

@@ -1,7 +1,6 @@
 use Rattle.std.proofs.Common.{◌≡◌, List, Some, not, refl, sym, ◌∙◌, ap}
-use Rattle.cc_names.specs.declared.name.Name.{Name}
 use Rattle.cc_names.specs.declared.register.Reg.TheVariants.{N, S}
-use Rattle.cc_names.specs.Names.{native, reflector}
+use Rattle.cc_names.specs.Names.{reflector}
 use Rattle.cc_model.specs.declared.item.Refusal.TheVariants.{NoMemory}
 use Rattle.cc_model.specs.declared.item.Reply.TheVariants.{Named}
 use Rattle.cc_model.specs.Checks.{named_or_nothing, reflector_of}

@@ -3,7 +3,7 @@ use Rattle.cc_names.specs.declared.register.Reg.TheVariants.{S}
 use Rattle.cc_model.specs.declared.item.Refusal.TheVariants.{NoMemory}
 use Rattle.cc_model.specs.Effects.{done_in, set_entry}
 use Rattle.cc_model.specs.Heap.{register, source}
-use Rattle.cc_mutator.proofs.Carrying.{answered-denied, answered-silently, done-not_refused}
+use Rattle.cc_mutator.proofs.Carrying.{answered-silently, done-not_refused}
 use Rattle.cc_mutator.proofs.scripts.set_entry.Goals as goal
 
 pub returns-in-Ok : goal.returns-in-Ok
