@@ -11,18 +11,18 @@ use Rattle.cc_model.specs.declared.item.Reply.{Reply}
 use Rattle.cc_model.specs.declared.item.Reply.TheVariants.{Refused, Census, Done}
 use Rattle.cc_model.specs.Telling.{Telling, Tells}
 use Rattle.cc_model.specs.Answers.{items_of, item_of_step}
-use Rattle.cc_model.specs.Derivations.{leads_in, path_to, is_led_to, done_or_nothing, why_of}
-use Rattle.cc_model.specs.Mutating.{is_applied}
+use Rattle.cc_model.specs.Derivations.{leads_in, path_to, is_led_to, done_or_nothing}
+use Rattle.cc_model.specs.Mutating.{is_applied, Class, Saying, path, census, says, does, class_of, is_deed, takes_memory_to_say}
 use Rattle.cc_model.specs.Asks.{taken}
 use Rattle.cc_model.specs.Checks.{refusal_of, reply_if_taken}
 use Rattle.cc_model.specs.Heap.{objects_of}
 use Rattle.cc_model.specs.Effects.{effects, takes_memory}
 use Rattle.cc_model.specs.Lawful.{is_without_memory}
-use Rattle.cc_model.specs.Run.{Turn, answering, with_effects, if_granted, unless_refused, mutate, census_names, take_census, say_nothing, do_ask, turn_of}
+use Rattle.cc_model.specs.Run.{Turn, answering, with_effects, if_granted, unless_refused, mutate, census_names, do_ask, turn_of, said, do_class}
 use Rattle.cc_model.specs.Collecting.{Machine, UnitsDone, slice, collect, gc, reply_to_units}
 use Rattle.cc_model.specs.End.{Progress}
 use Rattle.cc_model.proofs.Replies.{is_without_memory-true}
-use Rattle.cc_model.proofs.Tellings.{Tells-nil, Tells-trans}
+use Rattle.cc_model.proofs.Tellings.{Tells-trans}
 use Rattle.cc_heaps.specs.Keyed.{Keyed}
 use Rattle.cc_mutator.specs.Applied.{IsCarriedOut}
 use Rattle.cc_replay.specs.Answered.{IsAnswered}
@@ -33,27 +33,38 @@ use Rattle.cc_laws_run.specs.Memory.{with_memory}
 
 -- A command is one of the mutator, where it is none of these
 pub others-applied : (c : Command) → c ≢ command.Nothing → c ≢ command.Version2 → ((x : Name) → c ≢ command.Why x) → c ≢ command.Census → ((u : ℕ) → c ≢ command.Slice u) → c ≢ command.Collect → c ≢ command.Gc → IsTrue (is_applied c)
-others-applied c nothing version why census slice collect gc_one = grind arith
+others-applied c no_line no_version no_why no_census no_slice no_collect no_gc = grind arith
 
--- and the plain run does it as such
-applied-mutates : (m : Machine) (c : Command) → IsTrue (is_applied c) → do_ask m (taken c) ≡ mutate m c
+-- the plain run does what the class of a command does
+class-done : (m : Machine) (c : Command) (k : Class) → class_of c ≡ k → do_ask m (taken c) ≡ do_class m c k
 unfolding do_ask
-applied-mutates m c a = grind arith
+class-done m c k e = ap (do_class m c) e
+
+-- a command of the mutator does its deed
+applied-does : (k : Class) → is_deed k ≡ true → k ≡ does
+applied-does k e = grind arith
+
+applied-mutates : (m : Machine) (c : Command) → IsTrue (is_applied c) → do_ask m (taken c) ≡ mutate m c
+applied-mutates m c a = class-done m c does (applied-does (class_of c) a)
 
 mutate-by : (m : Machine) (c : Command) (o : Option Refusal) → refusal_of (objects_of m.heap) c ≡ o → mutate m c ≡ unless_refused m c o
 unfolding mutate
 mutate-by m c o e = ap (unless_refused m c) e
 
+-- what a command of the mutator makes of a machine with these heaps
+abbrev mutating : Machine → Command → Machine → Turn
+mutating m c n = with_effects n (reply_if_taken (objects_of m.heap) c) (effects m.heap c)
+
 -- where memory is there
-granted : (m : Machine) (c : Command) (takes : Bool) → if_granted (with_memory m []) c takes ≡ with_effects (with_memory m []) (reply_if_taken (objects_of m.heap) c) (effects m.heap c)
-granted m c true = refl
-granted m c false = refl
+granted : (m : Machine) (takes : Bool) (done : Machine → Turn) → if_granted (with_memory m []) takes done ≡ done (with_memory m [])
+granted m true done = refl
+granted m false done = refl
 
 -- where it is not
-denied : (m : Machine) (c : Command) (takes : Bool) → takes ≡ true →
-    if_granted (with_memory m (false ∷ [])) c takes ≡ answering (with_memory m []) [] (Refused NoMemory)
-denied m c true e = refl
-denied m c false e = absurd (cc)
+denied : (m : Machine) (takes : Bool) (done : Machine → Turn) → takes ≡ true →
+    if_granted (with_memory m (false ∷ [])) takes done ≡ answering (with_memory m []) [] (Refused NoMemory)
+denied m true done e = refl
+denied m false done e = absurd (cc)
 
 module _ (old new : Machine) (before after : Telling) where
   -- by the turn
@@ -68,7 +79,7 @@ module _ (old new : Machine) (before after : Telling) where
     answered-done mid r none d t =
         let m = with_memory old [] in
         by_turn c [] (with_effects m (reply_if_taken (objects_of old.heap) c) (effects old.heap c))
-        (applied-mutates m c applied ∙ (mutate-by m c None none ∙ granted old c (takes_memory old.heap c)))
+        (applied-mutates m c applied ∙ (mutate-by m c None none ∙ granted old (takes_memory old.heap c) (mutating old c)))
         (sym d.heap) (sym same_snapshot)
         (subst (λ (x : Reply). Tells before after (map of_event (effects old.heap c).events ++ of_reply x ∷ [])) d.reply_is
         (Tells-trans before mid after (map of_event (effects old.heap c).events) (of_reply r ∷ []) d.told t))
@@ -78,7 +89,7 @@ module _ (old new : Machine) (before after : Telling) where
         Tells before after (of_reply (Refused NoMemory) ∷ []) → IsAnswered old new (taken c) before after
     answered-denied none takes same t =
         by_turn c (false ∷ []) (answering (with_memory old []) [] (Refused NoMemory))
-        (applied-mutates (with_memory old (false ∷ [])) c applied ∙ (mutate-by (with_memory old (false ∷ [])) c None none ∙ denied old c (takes_memory old.heap c) takes))
+        (applied-mutates (with_memory old (false ∷ [])) c applied ∙ (mutate-by (with_memory old (false ∷ [])) c None none ∙ denied old (takes_memory old.heap c) (mutating old c) takes))
         (sym same) (sym same_snapshot)
         t
 
@@ -119,36 +130,29 @@ module _ (old new : Machine) (before after : Telling) where
       let d = gc (with_memory old s.memory) in
       answered-units command.Gc s.memory d d.progress Done mid s.led refl t
 
+-- WHAT IS SAID, where there is memory
+pub answered-said : (m : Machine) (c : Command) (q : Saying) (before after : Telling) → class_of c ≡ says q → Tells before after (items_of (said m.heap q)) →
+    IsAnswered m m (taken c) before after
+answered-said m c q before after is t = by_turn m m before after c [] (turn_of (with_memory m []) (said m.heap q))
+    (class-done (with_memory m []) c (says q) is ∙ granted m (takes_memory_to_say q) (λ n. turn_of n (said m.heap q))) refl refl t
+
+-- `why`, where there is none
+pub answered-no_memory : (m : Machine) (x : Name) (before after : Telling) → Tells before after (of_reply (Refused NoMemory) ∷ []) →
+    IsAnswered m m (taken (command.Why x)) before after
+answered-no_memory m x before after t = by_turn m m before after (command.Why x) (false ∷ []) (answering (with_memory m []) [] (Refused NoMemory))
+    (class-done (with_memory m (false ∷ [])) (command.Why x) (says (path x)) refl) refl refl t
+
 -- `why`, where there is memory
 pub answered-why : (m : Machine) (x : Name) (before mid after : Telling) → Tells before mid (map item_of_step (path_to (leads_in m.heap) x)) →
     Tells mid after (of_reply (done_or_nothing (is_led_to (leads_in m.heap) x)) ∷ []) → IsAnswered m m (taken (command.Why x)) before after
-unfolding do_ask
-answered-why m x before mid after steps t =
-    by_turn m m before after (command.Why x) [] (turn_of (with_memory m []) (why_of (leads_in m.heap) x)) refl refl refl
+answered-why m x before mid after steps t = answered-said m (command.Why x) (path x) before after refl
     (Tells-trans before mid after (map item_of_step (path_to (leads_in m.heap) x)) (of_reply (done_or_nothing (is_led_to (leads_in m.heap) x)) ∷ []) steps t)
-
--- and where there is none
-pub answered-no_memory : (m : Machine) (x : Name) (before after : Telling) → Tells before after (of_reply (Refused NoMemory) ∷ []) →
-    IsAnswered m m (taken (command.Why x)) before after
-unfolding do_ask
-answered-no_memory m x before after t = by_turn m m before after (command.Why x) (false ∷ []) (answering (with_memory m []) [] (Refused NoMemory)) refl refl refl t
 
 -- the census
 pub answered-census : (m : Machine) (before mid after : Telling) → Tells before mid (map Listed (census_names m.heap)) →
     Tells mid after (of_reply (Census (length (census_names m.heap))) ∷ []) → IsAnswered m m (taken command.Census) before after
-unfolding do_ask
-answered-census m before mid after listed t = by_turn m m before after command.Census [] (take_census (with_memory m []) (census_names m.heap)) refl refl refl
+answered-census m before mid after listed t = answered-said m command.Census census before after refl
     (Tells-trans before mid after (map Listed (census_names m.heap)) (of_reply (Census (length (census_names m.heap))) ∷ []) listed t)
-
--- nothing asked
-pub answered-nothing : (m : Machine) (before : Telling) → IsAnswered m m (taken command.Nothing) before before
-unfolding do_ask
-answered-nothing m before = by_turn m m before before command.Nothing [] (say_nothing (with_memory m [])) refl refl refl (Tells-nil before)
-
--- the version asked for
-pub answered-version : (m : Machine) (before after : Telling) → Tells before after (of_reply Done ∷ []) → IsAnswered m m (taken command.Version2) before after
-unfolding do_ask
-answered-version m before after told = by_turn m m before after command.Version2 [] (answering (with_memory m []) [] Done) refl refl refl told
 
 -- A COMMAND OF THE MUTATOR, by what applying it gives, and its reply
 pub answered-applied : (c : Command) → IsTrue (is_applied c) → (old new : Keyed) (kept : Option Built) (before mid after : Telling) (r : Reply) →

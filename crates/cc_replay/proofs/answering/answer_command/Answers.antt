@@ -1,16 +1,22 @@
-use Rattle.std.proofs.Common.{arith}
+use Rattle.std.proofs.Common.{ap}
+use Rattle.cc_model.specs.Mutating.{silence, version, class_of}
+use Rattle.cc_model.proofs.Tellings.{Tells-nil}
 use Rattle.cc_collector.specs.Kept.{machine_of}
 use Rattle.cc_replay.proofs.Beginning.{counts_few}
-use Rattle.cc_replay.proofs.Replying.{others-applied, answered-nothing, answered-version}
+use Rattle.cc_replay.proofs.Replying.{others-applied, answered-said}
 use Rattle.cc_replay.proofs.answering.answer_command.Goals as goal
 
 pub returns-in-Nothing-clause-answered : goal.returns-in-Nothing-clause-answered
-returns-in-Nothing-clause-answered g c = grind (arith, answered-nothing, g.N.Notices.telling)
+returns-in-Nothing-clause-answered g c =
+    let telling = g.N.Notices.telling in
+    answered-said (machine_of c.args.heaps.now.heap c.args.collector.now) c.args.command silence (telling c.args.out.now) (telling c.args.out.now) (ap class_of c.in-Nothing.is)
+    (Tells-nil (telling c.args.out.now))
 
 pub returns-in-Version2-clause-answered : goal.returns-in-Version2-clause-answered
 returns-in-Version2-clause-answered g c =
     let telling = g.N.Notices.telling in
-    rw c.in-Version2.is (answered-version (machine_of c.args.heaps.now.heap c.args.collector.now) (telling c.args.out.now) (telling c.tell.new.self) c.tell.ensures)
+    answered-said (machine_of c.args.heaps.now.heap c.args.collector.now) c.args.command version (telling c.args.out.now) (telling c.tell.new.self) (ap class_of c.in-Version2.is)
+    c.tell.ensures
 
 pub answer_mutator-requires-clause-applied : goal.answer_mutator-requires-clause-applied
 answer_mutator-requires-clause-applied g c = search (others-applied)
