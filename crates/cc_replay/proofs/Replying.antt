@@ -33,7 +33,7 @@ use Rattle.cc_laws_run.specs.Memory.{with_memory}
 
 -- A command is one of the mutator, where it is none of these
 pub others-applied : (c : Command) → c ≢ command.Nothing → c ≢ command.Version2 → ((x : Name) → c ≢ command.Why x) → c ≢ command.Census → ((u : ℕ) → c ≢ command.Slice u) → c ≢ command.Collect → c ≢ command.Gc → IsTrue (is_applied c)
-others-applied c nothing version why census slice collect gc_one = grind arith
+others-applied c no_line no_version no_why no_census no_slice no_collect no_gc = grind arith
 
 -- the plain run does what the class of a command does
 class-done : (m : Machine) (c : Command) (k : Class) → class_of c ≡ k → do_ask m (taken c) ≡ do_class m c k
