@@ -1,5 +1,6 @@
 -- DEEDS ANSWERED: they are done, or lack memory; and what that is for a command.
-use Rattle.std.proofs.Common.{◌≡◌, ◌≢◌, ℕ, Bool, true, false, List, Option, Some, None, refl, sym, ◌∙◌, ap, subst, arith}
+use Rattle.std.proofs.Common.{◌≡◌, ◌≢◌, ℕ, Bool, true, false, List, Option, Some, None, refl, sym, ◌∙◌, ap, subst, arith, ◌≤◌, ◌<◌}
+use Rattle.std.proofs.lemmas.Bool.{leb-true, leb-false}
 use Rattle.cc_names.specs.declared.name.Name.{Name}
 use Rattle.cc_model.specs.declared.command.Command.{Command}
 use Rattle.cc_model.specs.declared.item.Refusal.{Refusal}
@@ -102,3 +103,7 @@ as-taken o c e is none = subst (IsTaken o) is (IsTaken-from o c none)
 pub exposed-none : (h : Heap) → exposed h None ≡ h
 unfolding exposed
 exposed-none h = refl
+
+-- what is not at least is less
+pub room-left : (a b : ℕ) → ¬ (a ≤ b) → b < a
+room-left a b h = grind (arith, leb-true, leb-false)
