@@ -94,12 +94,12 @@ fn status_of(stop: WordsStop) -> Status
 
 /// Reads the words of a command line, the program's name first, and answers the source's lines, or a made script, or says
 /// whether a transcript is lawful, as they say: for the words of `replay` as `replay` does, for those of `make` as `make`
-/// does, for those of `check` as `check` does.
+/// does, for those of `check` as `check_input` does.
 ///
 /// Want of memory is answered for the words, for setting up, and in a check. A command that wants memory is refused by its
 /// answer.
 ///
-/// For the words of `replay` the source is read as `replay` reads it, for those of `check` as `check` reads it, for those
+/// For the words of `replay` the source is read as `replay` reads it, for those of `check` as `check_input` reads it, for those
 /// of `make` not at all.
 pub fn run<'a, S: Source, K: Sink>(
     alloc: Global,

@@ -14,5 +14,5 @@ of_one_check P script n limits l e p =
 
 pub returns-in-Check-clause-decides : goal.returns-in-Check-clause-decides
 returns-in-Check-clause-decides g c = λ bytes script limits known given.
-    of_one_check (λ n l. (c.check.result ≡ Done → IsLawfulInput l n bytes) × (c.check.result ≡ Unlawful → ¬ (IsLawfulInput l n bytes))) script c.in-Check.script limits c.in-Check.limits
-    (c.in-Ok.ensures.only (Check script limits) given ∙ c.in-Check.is) (c.check.ensures.decides bytes known)
+    of_one_check (λ n l. (c.check_input.result ≡ Done → IsLawfulInput l n bytes) × (c.check_input.result ≡ Unlawful → ¬ (IsLawfulInput l n bytes))) script c.in-Check.script limits c.in-Check.limits
+    (c.in-Ok.ensures.only (Check script limits) given ∙ c.in-Check.is) (c.check_input.ensures.decides bytes known)
