@@ -332,11 +332,11 @@ module _ (g : Graph) (w : IsWellMade g) (b : IsBlank g) where
   done_to-reaches (plain_made d n) m = object-made _ (graph.with_script g (plain_object (empty_slots n))) d (Follows-plain (Reached g) (husk g) g n w start)
   done_to-reaches (map_made d) m = object-made _ (graph.with_script g weak_map) d (Follows-map (Reached g) (husk g) g w start)
   done_to-reaches (proxy_made d x) m = proxy-reaches d x m.0
-  done_to-reaches (native_held d x) m = no-more _ _ (Follows-hold (Reached g) (husk g) g d x x refl m.reached start)
+  done_to-reaches (native_held d x) m = no-more _ _ (Follows-hold (Reached g) (husk g) g d x x refl m.1.reached start)
   done_to-reaches (script_held d x) m = no-more _ _ (Follows-script_register (Reached g) (husk g) g d x x refl m.reached start)
   done_to-reaches (script_copied d x) m = no-more _ _ (Follows-script_register (Reached g) (husk g) g d x x refl m.reached start)
   done_to-reaches (native_stored d i x) m = no-more _ _
-      (Follows-slot (Reached g) (husk g) g (graph.register g (N d)) i x (register-reached g (N d)) m.reached (native-preserved g d) start)
+      (Follows-slot (Reached g) (husk g) g (graph.register g (N d)) i x (register-reached g (N d)) m.0.reached (native-preserved g d) start)
   done_to-reaches (slot_moved d i s j) m = move-reaches d i s j
   done_to-reaches (script_stored x i y) m = no-more _ _ (Follows-put_script (Reached g) (husk g) g x i y m.0.reached (behind x m.0) m.1.reached start)
   done_to-reaches (reflector_held d x) m = wrap-reaches d x m
