@@ -1,5 +1,5 @@
 -- WHETHER THE NEXT ANSWER CAN BE GIVEN, told by what is asked next and by the row.
-use Rattle.std.proofs.Common.{◌≡◌, Bool, true, false, List, [], ◌∷◌, refl}
+use Rattle.std.proofs.Common.{◌≡◌, true, false, List, [], ◌∷◌, refl}
 use Rattle.std.specs.Prelude.{◌↔◌}
 use Rattle.std.proofs.lemmas.Bool.{false≢true, true≢false}
 use Rattle.cc_names.specs.declared.name.Name.{Name}

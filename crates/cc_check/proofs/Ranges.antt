@@ -1,5 +1,5 @@
 -- WHAT IS LEFT OF A SCRIPT is in range.
-use Rattle.std.proofs.Common.{◌≡◌, true, ◌&&◌, List, [], ◌∷◌, ap, ◌∙◌, sym, subst, ⊎_elim}
+use Rattle.std.proofs.Common.{List, [], ◌∷◌, subst, ⊎_elim}
 use Rattle.std.specs.Prelude.{IsTrue}
 use Rattle.std.specs.List.{list_all}
 use Rattle.std.proofs.lemmas.Bool.{and_parts}

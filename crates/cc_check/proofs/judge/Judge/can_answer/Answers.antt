@@ -1,10 +1,8 @@
-use Rattle.std.proofs.Common.{◌≡◌, List, refl, sym, ◌∙◌, subst}
-use Rattle.std.specs.Prelude.{◌↔◌}
+use Rattle.std.proofs.Common.{List, refl, sym, ◌∙◌, subst}
 use Rattle.cc_names.specs.declared.name.Name.{Name}
 use Rattle.cc_model.specs.declared.command.Command.TheVariants.{Census}
 use Rattle.cc_model.specs.Asks.{taken}
 use Rattle.cc_model.specs.Quiet.{CensusIsQuiet}
-use Rattle.cc_verdict.specs.GoingOn.{CanAnswer}
 use Rattle.cc_check.specs.Standing.{asks_left, place_of, row_meant}
 use Rattle.cc_check.proofs.Ahead.{census-can, no_census-can}
 use Rattle.cc_check.proofs.Judged.{IfOk-then}

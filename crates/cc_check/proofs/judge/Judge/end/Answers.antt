@@ -1,5 +1,4 @@
-use Rattle.std.proofs.Common.{Some, refl, sym, subst}
-use Rattle.cc_model.specs.Listed.{after_reply}
+use Rattle.std.proofs.Common.{refl, sym, subst}
 use Rattle.cc_verdict.specs.GoingOn.{ListsAll}
 use Rattle.cc_check.specs.Standing.{hearing_in}
 use Rattle.cc_check.proofs.Kept.{all-in, kept-end}

@@ -1,4 +1,4 @@
-use Rattle.std.proofs.Common.{◌≡◌, true, List, ℕ, Ok, refl, sym, ap, subst, ◌∙◌}
+use Rattle.std.proofs.Common.{◌≡◌, true, Ok, refl, sym, ap, subst, ◌∙◌}
 use Rattle.cc_verdict.specs.GoingOn.{CanGoOn}
 use Rattle.cc_verdict.specs.Positions.{GoesOn, Position}
 use Rattle.cc_check.specs.Standing.{IsKept, asks_left, position_of}
