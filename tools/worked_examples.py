@@ -46,6 +46,7 @@ class Example:
         self.output = []
         self.status = 0
         self.verdict = None
+        self.parts = None
 
     def is_whole(self):
         """Whether the whole input is read."""
@@ -112,6 +113,8 @@ def add_key(example, key, rest):
         example.output += pieces(rest)
     elif key == 'verdict':
         example.verdict = rest
+    elif key == 'parts':
+        example.parts = rest
     else:
         raise TableError(f'unknown word {key}')
 
@@ -123,6 +126,8 @@ def check_example(example, has_verdicts):
         raise TableError(f'{example.name} ends with status {example.status}, which no theorem says')
     if has_verdicts != (example.verdict in OUTCOMES):
         raise TableError(f'{example.name} has the verdict {example.verdict}')
+    if (example.verdict == 'unlawful') != (example.parts is not None):
+        raise TableError(f'{example.name} parts at {example.parts}')
 
 
 def read_table(path, has_verdicts=False):
@@ -344,6 +349,13 @@ def files_of_tests(examples):
     return made
 
 
+def parting(example):
+    """Where the transcript parts from every lawful one."""
+    if example.parts is None:
+        return 'Parting::Lawful'
+    return 'Parting::End' if example.parts == 'end' else f'Parting::Line({int(example.parts)})'
+
+
 def verdict_case(example):
     natives, scripts, read = example.limits
     return f"""    // {sentence(example.shows)}
@@ -355,17 +367,18 @@ def verdict_case(example):
         script: {byte_string(example.input)},
         transcript: {byte_string(example.output)},
         verdict: Verdict::{OUTCOMES[example.verdict]},
+        parting: {parting(example)},
     }},
 """
 
 
 def file_of_verdicts(cases):
-    return f"""//! Some transcripts, and whether they are lawful.
+    return f"""//! Some transcripts, whether they are lawful, and where they are not.
 //!
 //! Made by tools/worked_examples.py from examples/verdicts.txt.
 
 use crate::example::{{Example, are_judged}};
-use cc_check::Verdict;
+use cc_check::{{Parting, Verdict}};
 
 const EXAMPLES: [Example; {len(cases)}] = [
 {''.join(cases)}];

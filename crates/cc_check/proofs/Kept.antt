@@ -1,5 +1,5 @@
 -- A JUDGE IS KEPT where a command is done, an event comes, and an answer ends.
-use Rattle.std.proofs.Common.{◌≡◌, ◌≤◌, Bool, true, false, List, [], ◌∷◌, ◌++◌, Some, None, refl, sym, ◌∙◌, ap, subst, inl, inr, ◌⊎◌, ⊎_elim}
+use Rattle.std.proofs.Common.{◌≡◌, ◌≤◌, Bool, true, false, List, [], ◌∷◌, ◌++◌, Option, Some, None, refl, sym, ◌∙◌, ap, subst, inl, inr, ◌⊎◌, ⊎_elim}
 use Rattle.std.specs.Prelude.{IsTrue}
 use Rattle.std.proofs.lemmas.Bool.{cases_Bool, true≢false}
 use Rattle.cc_lists.specs.Members.{Among, has, with_last}
@@ -14,16 +14,18 @@ use Rattle.cc_model.specs.declared.item.Event.{Event}
 use Rattle.cc_model.specs.declared.item.Event.TheVariants.{Unlinked, Freed, Abandoned}
 use Rattle.cc_model.specs.declared.item.Reply.{Reply}
 use Rattle.cc_model.specs.declared.item.Reply.TheVariants.{Named, Refused}
-use Rattle.cc_model.specs.Graph.{Graph, reply_to, step}
+use Rattle.cc_model.specs.Graph.{Graph, empty_graph, reply_to, step}
 use Rattle.cc_model.specs.Listed.{after_event, after_reply}
+use Rattle.cc_model.specs.Quiet.{Row}
 use Rattle.cc_model.specs.Ranges.{in_range}
 use Rattle.cc_model.specs.WellMade.{IsWellMade, was_made}
 use Rattle.cc_laws_heap.proofs.Face.{step-well}
-use Rattle.cc_verdict.specs.Hearing.{EndsAbandoned, EndsAsTheGraph, Hearing, MayEnd}
+use Rattle.cc_verdict.specs.Hearing.{EndsAbandoned, EndsAsTheGraph, Hearing, MayEnd, Told, told_after, with_told}
 use Rattle.cc_check.specs.declared.answer.Answer.{Answer}
 use Rattle.cc_check.specs.declared.judge.Judge.{Judge}
 use Rattle.cc_check.specs.Judging.{IsBetween}
-use Rattle.cc_check.specs.Standing.{IsKept, IsNew, IsNewIn, IsOf, hearing_in, lists, makes}
+use Rattle.cc_verdict.specs.GoingOn.{ListsAll, ListsAllAt, ListsAllIn}
+use Rattle.cc_check.specs.Standing.{IsKept, IsNew, IsNewIn, IsOf, ListsAllOf, hearing_in, hearing_of, lists, makes, position_in, position_of, row_meant, told_of}
 use Rattle.cc_check.proofs.Naming.{reply-made, reply-new}
 use Rattle.cc_check.proofs.Stays.{Stays-step}
 
@@ -89,14 +91,28 @@ ending-named h reply x m e = ⊎_elim
 new-in : (j : Judge) (a : Answer) → IsKept j → j.answer ≡ Some a → IsNew j.graph j.listed a × (j.recital.items ≡ [])
 new-in j a k e = subst (IsNewIn j) e k.new
 
+-- as nothing was asked yet
+pub kept-new : (e : Judge) (limits : Allowance) → (limits.natives ≤ 1000000) × (limits.scripts ≤ 1000000) → e.graph ≡ empty_graph limits → e.listed ≡ [] → e.answer ≡ None →
+    ((g : Graph) → IsOf e.known g) → ListsAll (empty_graph limits) [] → IsKept e
+kept-new e limits small graph listed answer known all = record {
+  well_made = subst IsWellMade (sym graph) all.well_made;
+  limits = subst (λ (g : Graph). (g.limits.natives ≤ 1000000) × (g.limits.scripts ≤ 1000000)) (sym graph) small;
+  listed = λ x m. absurd (subst (Among x) listed m);
+  new = subst (IsNewIn e) (sym answer) tt;
+  all_listed = subst (ListsAllOf e) (sym answer) (subst (λ (g : Graph). ListsAll g e.listed) (sym graph) (subst (ListsAll (empty_graph limits)) (sym listed) all));
+  known = known e.graph;
+}
+
 -- as the answer to a command begins
 pub kept-step : (j e : Judge) (c : Command) (a : Answer) → IsBetween j → IsTrue (in_range c) → e.graph ≡ step j.graph c → e.listed ≡ j.listed →
-    e.recital.items ≡ j.recital.items → e.answer ≡ Some a → a.command ≡ c → a.reply ≡ reply_to j.graph c → IsOf e.known (step j.graph c) → IsKept e
-kept-step j e c a b r graph listed recital answer command reply known = record {
+    e.recital.items ≡ j.recital.items → e.answer ≡ Some a → a.command ≡ c → a.reply ≡ reply_to j.graph c → IsOf e.known (step j.graph c) →
+    ListsAllIn (hearing_in e a) → IsKept e
+kept-step j e c a b r graph listed recital answer command reply known all = record {
   well_made = subst IsWellMade (sym graph) (step-well j.graph b.kept.well_made c r);
   limits = subst (λ (l : Allowance). (l.natives ≤ 1000000) × (l.scripts ≤ 1000000)) (sym (ap (λ (g : Graph). g.limits) graph ∙ (Stays-step j.graph c).limits)) b.kept.limits;
   listed = λ x m. subst (λ (g : Graph). IsTrue (was_made g x)) (sym graph) (still x (subst (Among x) listed m));
   new = subst (IsNewIn e) (sym answer) (record { made = made; unlisted = unlisted }, recital ∙ b.recital);
+  all_listed = subst (ListsAllOf e) (sym answer) all;
   known = subst (IsOf e.known) (sym graph) known;
 }
   where
@@ -113,12 +129,14 @@ kept-step j e c a b r graph listed recital answer command reply known = record {
 
 -- after an event
 pub kept-event : (j e : Judge) (a b : Answer) (event : Event) → IsKept j → j.answer ≡ Some a → e.graph ≡ j.graph → e.listed ≡ after_event j.listed event →
-    e.recital.items ≡ j.recital.items → e.answer ≡ Some b → b.command ≡ a.command → b.reply ≡ a.reply → IsOf e.known j.graph → IsKept e
-kept-event j e a b event k old graph listed recital answer command reply known = record {
+    e.recital.items ≡ j.recital.items → e.answer ≡ Some b → b.command ≡ a.command → b.reply ≡ a.reply → IsOf e.known j.graph →
+    ListsAllIn (hearing_in e b) → IsKept e
+kept-event j e a b event k old graph listed recital answer command reply known all = record {
   well_made = subst IsWellMade (sym graph) k.well_made;
   limits = subst (λ (g : Graph). (g.limits.natives ≤ 1000000) × (g.limits.scripts ≤ 1000000)) (sym graph) k.limits;
   listed = λ x m. subst (λ (g : Graph). IsTrue (was_made g x)) (sym graph) (k.listed x (after_event-among j.listed event x (subst (Among x) listed m)));
   new = subst (IsNewIn e) (sym answer) (record { made = made; unlisted = unlisted }, recital ∙ (new-in j a k old).1);
+  all_listed = subst (ListsAllOf e) (sym answer) all;
   known = subst (IsOf e.known) (sym graph) known;
 }
   where
@@ -131,8 +149,9 @@ kept-event j e a b event k old graph listed recital answer command reply known =
 
 -- where an answer ends
 pub kept-end : (j e : Judge) (a : Answer) (reply : Reply) → IsKept j → j.answer ≡ Some a → MayEnd (hearing_in j a) reply → e.graph ≡ j.graph →
-    e.listed ≡ after_reply j.listed a.command (Some reply) → e.answer ≡ None → IsOf e.known j.graph → IsKept e
-kept-end j e a reply k old may graph listed answer known = record {
+    e.listed ≡ after_reply j.listed a.command (Some reply) → e.answer ≡ None → IsOf e.known j.graph →
+    ListsAll e.graph e.listed → IsKept e
+kept-end j e a reply k old may graph listed answer known all = record {
   well_made = subst IsWellMade (sym graph) k.well_made;
   limits = subst (λ (g : Graph). (g.limits.natives ≤ 1000000) × (g.limits.scripts ≤ 1000000)) (sym graph) k.limits;
   listed = λ x m. subst (λ (g : Graph). IsTrue (was_made g x)) (sym graph) (⊎_elim
@@ -140,5 +159,41 @@ kept-end j e a reply k old may graph listed answer known = record {
       (λ n. (new-in j a k old).0.made x (ending-named (hearing_in j a) reply x may n.0) n.1)
       (after_reply-cases j.listed a.command reply x (subst (Among x) listed m)));
   new = subst (IsNewIn e) (sym answer) tt;
+  all_listed = subst (ListsAllOf e) (sym answer) all;
   known = subst (IsOf e.known) (sym graph) known;
 }
+
+-- all that is reached is listed where an answer is heard
+pub all-in : (j : Judge) (a : Answer) → IsKept j → j.answer ≡ Some a → ListsAllIn (hearing_in j a)
+all-in j a k e = subst (ListsAllOf j) e k.all_listed
+
+-- and between two answers
+pub all-of : (j : Judge) → IsKept j → j.answer ≡ None → ListsAll j.graph j.listed
+all-of j k e = subst (ListsAllOf j) e k.all_listed
+
+-- hearings are alike where all they have is
+abbrev heard_as : Command → Reply → Graph → Row → Told → Hearing
+heard_as c r g row t = record { command = c; reply = r; graph = g; row = row; told = t }
+
+pub heard_as-is : (c d : Command) (r s : Reply) (g h : Graph) (row : Row) (t u : Told) → c ≡ d → r ≡ s → g ≡ h → t ≡ u → heard_as c r g row t ≡ heard_as d s h row u
+heard_as-is c d r s g h row t u e f i k = ap (λ x. heard_as x r g row t) e ∙ (ap (λ x. heard_as d x g row t) f ∙ (ap (λ x. heard_as d s x row t) i ∙ ap (λ x. heard_as d s h row x) k))
+
+told-names : (t : Told) (e : Event) → (told_after t e).names ≡ after_event t.names e
+told-names t (Freed x) = refl
+told-names t (Unlinked x) = refl
+told-names t Abandoned = refl
+
+-- after an event the answer is heard that follows it
+pub heard-event : (j : Judge) (a b : Answer) (event : Event) (listed : List Name) → b.command ≡ a.command → b.reply ≡ a.reply → listed ≡ after_event j.listed event →
+    told_of b (told_after (told_of a j.listed) event).names ≡ told_after (told_of a j.listed) event → hearing_of b j.graph listed j.row ≡ with_told (hearing_in j a) event
+heard-event j a b event listed command reply names told =
+    heard_as-is b.command a.command b.reply a.reply j.graph j.graph (row_meant j.row) (told_of b listed) (told_after (told_of a j.listed) event) command reply refl
+    (subst (λ (ns : List Name). told_of b ns ≡ told_after (told_of a j.listed) event) (told-names (told_of a j.listed) event ∙ sym names) told)
+
+-- wherever it stands
+pub all-at : (j : Judge) → IsKept j → ListsAllAt (position_of j)
+all-at j k = go j.answer k.all_listed
+  where
+    go : (o : Option Answer) → ListsAllOf j o → ListsAllAt (position_in j o)
+    go None l = l
+    go (Some a) l = l

@@ -9,3 +9,5 @@ pub mod Kept
 pub mod Judged
 pub mod Passing
 pub mod Over
+pub mod Ahead
+pub mod Ranges

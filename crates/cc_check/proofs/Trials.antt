@@ -1,21 +1,31 @@
 -- TRIALS, line by line and at the end.
-use Rattle.std.proofs.Common.{◌≡◌, ◌≢◌, ◌↔◌, ℕ, ◌+◌, ◌<◌, true, false, List, [], ◌∷◌, ◌++◌, length, refl, sym, ap, ◌∙◌, subst, append_assoc, arith}
+use Rattle.std.proofs.Common.{◌≡◌, ◌≢◌, ◌↔◌, ℕ, ◌+◌, ◌-◌, ◌<◌, true, false, List, [], ◌∷◌, ◌++◌, length, take, refl, sym, ap, ◌∙◌, subst, append_assoc, length-append, arith}
+use Rattle.std.proofs.lemmas.Bool.{false≢true, true≢false}
+use Rattle.std.proofs.lemmas.List.{take-append-le, take_all}
 use Rattle.std.proofs.lemmas.List.Sums.{sum_by-append}
 use Rattle.cc_names.specs.Allowance.{Allowance}
 use Rattle.cc_model.specs.declared.item.Item.{Item}
 use Rattle.cc_model.specs.declared.item.Item.TheVariants.{Event as of_event, Reply as of_reply}
 use Rattle.cc_model.specs.Answers.{all_items_of}
-use Rattle.cc_model.specs.Asks.{Ask}
+use Rattle.cc_model.specs.Asks.{Ask, asks_of}
+use Rattle.cc_model.specs.Graph.{empty_graph}
+use Rattle.cc_model.specs.Lines.{lines_of}
 use Rattle.cc_model.specs.Texts.{words_of}
-use Rattle.cc_verdict.specs.Following.{Follows, Place, lines_of_items}
+use Rattle.cc_verdict.specs.Following.{Follows, Place, first_place, lines_of_items}
+use Rattle.cc_verdict.specs.GoingOn.{AreInRange, CanGoOn, ListsAll, ListsAllAt}
 use Rattle.cc_verdict.specs.Hearing.{Hearing, Hears, ends, comes}
+use Rattle.cc_verdict.specs.Parting.{HasParted, IsLawfulSoFar}
 use Rattle.cc_verdict.specs.Positions.{Position, GoesOn, reciting, within}
-use Rattle.cc_verdict.specs.Verdicts.{length_of_lines}
+use Rattle.cc_verdict.specs.Verdicts.{IsLawfulTranscript, length_of_lines}
 use Rattle.cc_check.specs.declared.heard.Heard.{Heard}
 use Rattle.cc_check.specs.declared.heard.Heard.TheVariants.{Text, Long}
 use Rattle.cc_check.specs.declared.trial.Trial.{Trial}
 use Rattle.cc_check.specs.Standing.{IsHeard, asks_left, position_of}
-use Rattle.cc_check.specs.Tried.{AnswersScript, Tries, bytes_of}
+use Rattle.cc_check.specs.declared.row.Row.TheVariants.{NothingYet}
+use Rattle.cc_check.specs.Parted.{IsEarly, PartsAt}
+use Rattle.cc_check.specs.Tried.{AnswersScript, IsTried, Tries, bytes_of}
+use Rattle.cc_check.proofs.Ahead.{row-can}
+use Rattle.cc_check.proofs.Ranges.{left-in_range}
 
 -- A LINE THAT GOES ON IS AN ITEM'S
 first-item : (items : List Item) (line : List ℕ) (lines : List (List ℕ)) → line ∷ lines ≡ lines_of_items items → (i : Item) × (line ≡ words_of i)
@@ -70,21 +80,116 @@ counted-more p q a b (Text text) before bytes lines line rest goes is sum was he
 counted-more p q a b Long before bytes lines line rest goes is sum was here =
     absurd (long-ends p a line rest is (λ other long. (goes other long).1 ((goes line is).0 here)))
 
--- A LINE THAT WAS JUDGED
-pub tries-judged : (t u : Trial) (heard : Heard) → t.is_lawful ≡ true → u.bytes ≡ t.bytes + bytes_of heard →
-    (u.is_lawful ≡ true → (line : List ℕ) (rest : List (List ℕ)) → IsHeard heard line →
+-- What a lawful transcript begins with
+
+-- the laws of partings
+abbrev pub IsSoFarLaw : Type 0
+IsSoFarLaw = (limits : Allowance) (script : List ℕ) (lines rest : List (List ℕ)) → Follows (first_place limits) (asks_of script) (lines ++ rest) → IsLawfulSoFar limits script lines
+
+abbrev pub HasPartedLaw : Type 0
+HasPartedLaw = (limits : Allowance) (script : List ℕ) (lines : List (List ℕ)) → ((rest : List (List ℕ)) → ¬ (Follows (first_place limits) (asks_of script) (lines ++ rest))) →
+    HasParted limits script lines
+
+-- lines that answer a script follow from its start
+answers-follow : (limits : Allowance) (script : List ℕ) (lines : List (List ℕ)) → AnswersScript limits script lines → Follows (first_place limits) (asks_of script) lines
+answers-follow limits script lines r = subst (Follows (first_place limits) (asks_of script)) (sym r.lines_are) r.follows
+
+follow-answers : (limits : Allowance) (script : List ℕ) (lines : List (List ℕ)) → Follows (first_place limits) (asks_of script) lines → AnswersScript limits script lines
+follow-answers limits script lines f = record { rest = lines; lines_are = refl; follows = f }
+
+more-length : (lines : List (List ℕ)) (line : List ℕ) → length (lines ++ line ∷ []) ≡ length lines + 1
+more-length lines line = length-append lines (line ∷ [])
+
+-- NOTHING WAS TRIED YET
+pub tried-new : (limits : Allowance) (script : List ℕ) (t : Trial) → t.is_lawful ≡ true → t.lines ≡ 0 → t.bytes ≡ 0 → position_of t.judge ≡ reciting [] (first_place limits) →
+    asks_left t.script ≡ asks_of script → ListsAll (empty_graph limits) [] →
+    ((p : Position) (asks : List Ask) → AreInRange asks → ListsAllAt p → CanGoOn p asks → (lines : List (List ℕ)) × GoesOn p asks lines) → IsSoFarLaw → IsTried limits script t []
+tried-new limits script t is none bytes stands asks all goes law = record {
+  lawful = λ e rest. subst (λ (p : Position). AnswersScript limits script rest ↔ GoesOn p (asks_left t.script) rest) (sym stands)
+      (subst (λ (a : List Ask). AnswersScript limits script rest ↔ GoesOn (reciting [] (first_place limits)) a rest) (sym asks) ((λ a. a), (λ a. a)));
+  counted = λ e rest a. bytes;
+  unlawful = λ e rest a. true≢false (sym is ∙ e);
+  so_far = subst (λ n. IsLawfulSoFar limits script (take n [])) (sym none) (law limits script [] first.0 (answers-follow limits script first.0 first.1));
+  all = λ e. none;
+  parted = λ e. absurd (true≢false (sym is ∙ e));
+}
+  where
+    first : (lines : List (List ℕ)) × GoesOn (reciting [] (first_place limits)) (asks_of script) lines
+    first = goes (reciting [] (first_place limits)) (asks_of script) (subst AreInRange asks (left-in_range t.script)) all
+        (row-can (empty_graph limits) [] NothingYet (asks_of script) (λ e. cc))
+
+-- A LINE THAT WAS JUDGED, and may come
+pub tries-lawful : (t u : Trial) (heard : Heard) → t.is_lawful ≡ true → u.is_lawful ≡ true → u.bytes ≡ t.bytes + bytes_of heard → u.lines ≡ t.lines + 1 →
+    ((line : List ℕ) (rest : List (List ℕ)) → IsHeard heard line →
     GoesOn (position_of t.judge) (asks_left t.script) (line ∷ rest) ↔ GoesOn (position_of u.judge) (asks_left u.script) rest) →
-    (u.is_lawful ≡ false → (line : List ℕ) (rest : List (List ℕ)) → IsHeard heard line →
-    ¬ (GoesOn (position_of t.judge) (asks_left t.script) (line ∷ rest))) →
-    Tries t u heard
-tries-judged t u heard was bytes goes stops = λ limits script lines line is tried. record {
-  lawful = λ e rest. (
-    (λ a. (goes e line rest is).0 ((tried.lawful was (line ∷ rest)).0 (joined limits script lines line rest a))),
-    (λ g. parted limits script lines line rest ((tried.lawful was (line ∷ rest)).1 ((goes e line rest is).1 g))),
-  );
-  counted = λ e rest a.
-      let b = joined limits script lines line rest a in
-      counted-more (position_of t.judge) (position_of u.judge) (asks_left t.script) (asks_left u.script) heard t.bytes u.bytes lines line rest
-      (λ l. goes e l rest) is bytes (tried.counted was (line ∷ rest) b) ((tried.lawful was (line ∷ rest)).0 b);
-  unlawful = λ e rest a. stops e line rest is ((tried.lawful was (line ∷ rest)).0 (joined limits script lines line rest a));
+    (lines : List (List ℕ)) × GoesOn (position_of u.judge) (asks_left u.script) lines → IsSoFarLaw → Tries t u heard
+tries-lawful t u heard was now bytes count goes on law = λ limits script lines line is tried.
+    let back = λ (rest : List (List ℕ)) (g : GoesOn (position_of u.judge) (asks_left u.script) rest). parted limits script lines line rest ((tried.lawful was (line ∷ rest)).1 ((goes line rest is).1 g)) in
+    let whole : take u.lines (lines ++ line ∷ []) ≡ lines ++ line ∷ [] = take_all u.lines (lines ++ line ∷ []) (omega (arith, count, tried.all was, more-length lines line)) in
+    record {
+      lawful = λ e rest. ((λ a. (goes line rest is).0 ((tried.lawful was (line ∷ rest)).0 (joined limits script lines line rest a))), back rest);
+      counted = λ e rest a.
+          let b = joined limits script lines line rest a in
+          counted-more (position_of t.judge) (position_of u.judge) (asks_left t.script) (asks_left u.script) heard t.bytes u.bytes lines line rest
+          (λ l. goes l rest) is bytes (tried.counted was (line ∷ rest) b) ((tried.lawful was (line ∷ rest)).0 b);
+      unlawful = λ e. absurd (true≢false (sym now ∙ e));
+      so_far = subst (IsLawfulSoFar limits script) (sym whole) (law limits script (lines ++ line ∷ []) on.0 (answers-follow limits script ((lines ++ line ∷ []) ++ on.0) (back on.0 on.1)));
+      all = λ e. omega (arith, count, tried.all was, more-length lines line);
+      parted = λ e. absurd (true≢false (sym now ∙ e));
+    }
+
+-- one that may not
+pub tries-parted : (t u : Trial) (heard : Heard) → t.is_lawful ≡ true → u.is_lawful ≡ false → u.lines ≡ t.lines →
+    ((line : List ℕ) (rest : List (List ℕ)) → IsHeard heard line → ¬ (GoesOn (position_of t.judge) (asks_left t.script) (line ∷ rest))) → HasPartedLaw → Tries t u heard
+tries-parted t u heard was now count stops law = λ limits script lines line is tried.
+    let front : take u.lines (lines ++ line ∷ []) ≡ take t.lines lines = ap (λ n. take n (lines ++ line ∷ [])) count ∙ take-append-le t.lines lines (line ∷ []) (omega (arith, tried.all was)) in
+    let whole : take (u.lines + 1) (lines ++ line ∷ []) ≡ lines ++ line ∷ [] = take_all (u.lines + 1) (lines ++ line ∷ []) (omega (arith, count, tried.all was, more-length lines line)) in
+    let none = λ (rest : List (List ℕ)) (a : AnswersScript limits script ((lines ++ line ∷ []) ++ rest)). stops line rest is ((tried.lawful was (line ∷ rest)).0 (joined limits script lines line rest a)) in
+    record {
+      lawful = λ e. absurd (false≢true (sym now ∙ e));
+      counted = λ e. absurd (false≢true (sym now ∙ e));
+      unlawful = λ e rest a. none rest a;
+      so_far = subst (IsLawfulSoFar limits script) (sym front) tried.so_far;
+      all = λ e. absurd (false≢true (sym now ∙ e));
+      parted = λ e. (
+        omega (arith, count, tried.all was, more-length lines line),
+        subst (HasParted limits script) (sym whole) (law limits script (lines ++ line ∷ []) (λ rest f. none rest (follow-answers limits script ((lines ++ line ∷ []) ++ rest) f))),
+      );
+    }
+
+-- and one behind that
+pub tries-after : (t : Trial) (heard : Heard) → t.is_lawful ≡ false → Tries t t heard
+tries-after t heard was = λ limits script lines line is tried.
+    let place = tried.parted was in
+    record {
+      lawful = λ e. absurd (false≢true (sym was ∙ e));
+      counted = λ e. absurd (false≢true (sym was ∙ e));
+      unlawful = λ e rest a. tried.unlawful was (line ∷ rest) (joined limits script lines line rest a);
+      so_far = subst (IsLawfulSoFar limits script) (sym (take-append-le t.lines lines (line ∷ []) (omega (arith, place.0)))) tried.so_far;
+      all = λ e. absurd (false≢true (sym was ∙ e));
+      parted = λ e. (
+        omega (arith, place.0, more-length lines line),
+        subst (HasParted limits script) (sym (take-append-le (t.lines + 1) lines (line ∷ []) (omega (arith, place.0)))) place.1,
+      );
+    }
+
+-- Where the transcript parts
+
+pub parts-there : (limits : Allowance) (script : List ℕ) (t : Trial) (lines : List (List ℕ)) (number : ℕ) → t.is_lawful ≡ false → t.lines + 1 ≡ number → IsTried limits script t lines →
+    PartsAt limits script lines number
+parts-there limits script t lines number was is tried = subst (PartsAt limits script lines) is (record {
+  first = omega arith;
+  within = omega (arith, (tried.parted was).0);
+  parts_here = (tried.parted was).1;
+  lawful_until = subst (λ n. IsLawfulSoFar limits script (take n lines)) before tried.so_far;
+})
+  where
+    before : t.lines ≡ (t.lines + 1) - 1
+    before = omega arith
+
+pub early-there : (limits : Allowance) (script : List ℕ) (t : Trial) (text : List ℕ) → t.is_lawful ≡ true → ¬ (IsLawfulTranscript limits script text) → IsTried limits script t (lines_of text) →
+    IsEarly limits script text
+early-there limits script t text was none tried = record {
+  so_far = subst (IsLawfulSoFar limits script) (take_all t.lines (lines_of text) (omega (arith, tried.all was))) tried.so_far;
+  unlawful = none;
 }

@@ -22,6 +22,15 @@ abbrev pub from_next : List Ask → List Ask
 from_next [] = []
 from_next (ask ∷ asks) = elim (asks_nothing ask) [ true ↦ from_next asks | false ↦ ask ∷ asks ]
 
+-- whether a census is asked first
+abbrev pub is_census : Ask → Bool
+is_census (taken command.Census) = true
+is_census _ = false
+
+abbrev pub begins_with_census : List Ask → Bool
+begins_with_census [] = false
+begins_with_census (ask ∷ asks) = is_census ask
+
 -- these lines go on where this is asked next
 abbrev pub MayAnswer : Place → Ask → List Ask → List (List ℕ) → Type 0
 MayAnswer p ask asks lines = Follows p (ask ∷ asks) lines

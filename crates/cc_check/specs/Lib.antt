@@ -3,3 +3,4 @@ pub mod Judging
 pub mod Tried
 pub mod Stops
 pub mod Checked
+pub mod Parted

@@ -15,6 +15,7 @@ use Rattle.cc_model.specs.WellMade.{IsWellMade, was_made}
 use Rattle.cc_model.specs.Derivations.{derivation, leads_made}
 use Rattle.cc_model.specs.Quiet as quiet
 use Rattle.cc_verdict.specs.Following.{Place, place}
+use Rattle.cc_verdict.specs.GoingOn.{ListsAll, ListsAllIn}
 use Rattle.cc_verdict.specs.Hearing.{Told, Hearing}
 use Rattle.cc_verdict.specs.Positions.{Position, reciting, within}
 use Rattle.cc_check.specs.declared.asked.Asked.{Asked}
@@ -106,10 +107,17 @@ abbrev pub IsNewIn : Judge → Option Answer → Type 0
 IsNewIn j None = Unit {0}
 IsNewIn j (Some a) = IsNew j.graph j.listed a × (j.recital.items ≡ [])
 
--- WHAT STAYS SO: the graph is well made, what is listed was made, and what is known of the reached is of this graph
+-- all that is reached is listed, between two answers or where the graph's reply ends one
+abbrev pub ListsAllOf : Judge → Option Answer → Type 0
+ListsAllOf j None = ListsAll j.graph j.listed
+ListsAllOf j (Some a) = ListsAllIn (hearing_in j a)
+
+-- WHAT STAYS SO: the graph is well made, what is listed was made, all that is reached is listed, and what is known of the reached is
+-- of this graph
 pub record IsKept (j : Judge) : Type 0 where
   pub well_made : IsWellMade j.graph
   pub limits : (j.graph.limits.natives ≤ 1000000) × (j.graph.limits.scripts ≤ 1000000)
   pub listed : (x : Name) → Among x j.listed → IsTrue (was_made j.graph x)
   pub new : IsNewIn j j.answer
+  pub all_listed : ListsAllOf j j.answer
   pub known : IsOf j.known j.graph

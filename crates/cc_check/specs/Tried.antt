@@ -1,10 +1,11 @@
 -- A TRIAL OF A TRANSCRIPT: what is known after some of its lines, and what a line and a source's end make of it.
-use Rattle.std.specs.Prelude.{◌≡◌, ◌↔◌, ℕ, ◌+◌, ◌≤◌, true, false, List, [], ◌∷◌, ◌++◌, length, Option}
+use Rattle.std.specs.Prelude.{◌≡◌, ◌↔◌, ℕ, ◌+◌, ◌<◌, ◌≤◌, true, false, List, [], ◌∷◌, ◌++◌, length, take, Option}
 use Rattle.cc_names.specs.Allowance.{Allowance}
 use Rattle.cc_model.specs.Asks.{asks_of}
 use Rattle.cc_reader.specs.Given.{HasGiven}
 use Rattle.cc_reader.specs.Pending.{Pending}
 use Rattle.cc_verdict.specs.Following.{first_place}
+use Rattle.cc_verdict.specs.Parting.{HasParted, IsLawfulSoFar}
 use Rattle.cc_verdict.specs.Positions.{GoesOn, reciting}
 use Rattle.cc_verdict.specs.Verdicts.{length_of_lines}
 use Rattle.cc_check.specs.declared.heard.Heard.{Heard}
@@ -26,11 +27,15 @@ abbrev pub IsReady : Trial → Type 0
 IsReady t = t.is_lawful ≡ true → IsKept t.judge
 
 -- THE LINES WERE TRIED: whatever lines come behind them, they answer the script exactly where the judge lets them come; and
--- where some can, the bytes of those tried are counted
+-- where some can, the bytes of those tried are counted. So are the lines with which a lawful transcript begins: all of them, or those
+-- before the first with which none does
 pub record IsTried (limits : Allowance) (script : List ℕ) (t : Trial) (lines : List (List ℕ)) : Type 0 where
   pub lawful : t.is_lawful ≡ true → (rest : List (List ℕ)) → AnswersScript limits script (lines ++ rest) ↔ GoesOn (position_of t.judge) (asks_left t.script) rest
   pub counted : t.is_lawful ≡ true → (rest : List (List ℕ)) → AnswersScript limits script (lines ++ rest) → t.bytes ≡ length_of_lines lines
   pub unlawful : t.is_lawful ≡ false → (rest : List (List ℕ)) → ¬ (AnswersScript limits script (lines ++ rest))
+  pub so_far : IsLawfulSoFar limits script (take t.lines lines)
+  pub all : t.is_lawful ≡ true → t.lines ≡ length lines
+  pub parted : t.is_lawful ≡ false → (t.lines < length lines) × HasParted limits script (take (t.lines + 1) lines)
 
 -- one more line is tried
 abbrev pub Tries : Trial → Trial → Heard → Type 0

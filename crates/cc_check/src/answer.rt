@@ -6,10 +6,13 @@ ghost use Rattle.cc_names.specs.Names.{number_of};
 ghost use Rattle.cc_model.specs.declared.item.Refusal.TheVariants as refusals;
 ghost use Rattle.cc_model.specs.declared.item.Reply.{Reply as TheReply};
 ghost use Rattle.cc_model.specs.declared.item.Reply.TheVariants as replies;
+ghost use Rattle.cc_model.specs.Asks.{Ask};
 ghost use Rattle.cc_model.specs.Graph.{Graph};
 ghost use Rattle.cc_model.specs.Lawful.{is_refused, runs_allowed};
 ghost use Rattle.cc_model.specs.Texts.{text_of_reply};
 ghost use Rattle.cc_verdict.specs.Hearing.{EndsAbandoned, EndsAsTheGraph, MayEnd, may_come, may_go_on, nothing_told, runs_begun, runs_with, told_after};
+ghost use Rattle.cc_verdict.specs.GoingOn.{CanGoOn};
+ghost use Rattle.cc_verdict.specs.Positions.{within};
 ghost use Rattle.cc_check.specs.declared.row.Row.{Row};
 ghost use Rattle.cc_check.specs.Standing.{IsHeard, hearing_of, told_of};
 
@@ -105,6 +108,13 @@ impl Answer {
             return Some(refusal);
         }
         None
+    }
+
+    /// Whether the answer can still end: one with events is no refusal by the graph.
+    pub(crate) fn can_go_on(self) -> bool
+        ensures { (g : Graph) (names : List Name) (row : Row) (asks : List Ask) → IsTrue result ↔ CanGoOn (within (hearing_of self g names row)) asks }
+    {
+        !(is_refused(self.reply) && !runs_units(self.command)) || !self.any
     }
 
     /// Whether anything may follow what was told: nothing follows an abandonment, but under a script collection.

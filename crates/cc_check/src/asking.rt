@@ -1,7 +1,7 @@
 //! What is asked next.
 ghost use Rattle.std.specs.Prelude.{◌≡◌, ◌∷◌, [], false, IfNone, IfSome, IsTrue};
 ghost use Rattle.cc_laws_run.specs.Running.{ask_in_range};
-ghost use Rattle.cc_check.specs.Judging.{asks_nothing, from_next};
+ghost use Rattle.cc_check.specs.Judging.{asks_nothing, begins_with_census, from_next, is_census};
 ghost use Rattle.cc_check.specs.Standing.{ask_meant, asks_left};
 
 use crate::asked::Asked;
@@ -29,6 +29,27 @@ fn asks_nothing(asked: Asked) -> bool
 {
     match asked {
         Asked::Taken(Command::Nothing) => true,
+        _ => false,
+    }
+}
+
+/// Whether a census is asked next. The script is not read on.
+pub(crate) fn census_is_next(script: Script<'_>) -> bool
+    ensures { result ≡ begins_with_census (from_next (asks_left script.entry)) }
+{
+    let mut ahead = script;
+    match next_asked(&mut ahead) {
+        Some(asked) => is_census(asked),
+        None => false,
+    }
+}
+
+/// Whether a line asks for a census.
+fn is_census(asked: Asked) -> bool
+    ensures { result ≡ is_census (ask_meant asked) }
+{
+    match asked {
+        Asked::Taken(Command::Census) => true,
         _ => false,
     }
 }

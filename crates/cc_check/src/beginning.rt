@@ -30,8 +30,8 @@ use crate::row::Row;
 use cc_model::{Command, Item, Refusal, Reply};
 use cc_names::{Name, NoMemory, narrow_key};
 use cc_verdict::{
-    answers_are_heard, answers_are_recited_line_by_line, exact_answers_are_recited,
-    reasons_are_recited,
+    all_that_is_reached_is_listed, answers_are_heard, answers_are_recited_line_by_line,
+    exact_answers_are_recited, reasons_are_recited,
 };
 
 impl Judge {
@@ -134,10 +134,12 @@ impl Judge {
     fn step(&mut self, command: Command) -> Result<Answer, NoMemory>
         requires between { IsBetween self.old }
         requires in_range { IsTrue (in_range command) }
+        requires is_heard { IsTrue (is_heard command) }
         ensures kept { OnOk result (IsKept self.new) }
         ensures answer { IfOk result (λ a. self.new.answer ≡ Some a) }
         ensures hearing { IfOk result (λ a. hearing_in self.new a ≡ hearing (place_of self.old) command) }
     {
+        all_that_is_reached_is_listed();
         let reply = self.graph.step(&command)?;
         self.known.go_on(command);
         let answer = Answer::new(command, reply);

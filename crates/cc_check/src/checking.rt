@@ -7,9 +7,11 @@ ghost use Rattle.cc_reader.specs.Given.{AreAllGiven, HasGiven, IsBroken, IsOver}
 ghost use Rattle.cc_reader.specs.HasRead.{ReadsOn};
 ghost use Rattle.cc_reader.specs.Pending.{nothing_read, weight};
 ghost use Rattle.cc_check.specs.Checked.{ends, IsFoundLawful, IsFoundUnlawful, IsOverLimit};
+ghost use Rattle.cc_check.specs.Parted.{IsFoundEarly, IsFoundParted};
 ghost use Rattle.cc_check.specs.Tried.{moment, GoesOnTrying, IsReady, StaysWithin};
 
 use crate::heard::Heard;
+use crate::parting::Parting;
 use crate::trial::Trial;
 use crate::verdict::{CheckStop, Verdict};
 use cc_names::Limits;
@@ -22,6 +24,7 @@ fn hear_next<S: Source>(trial: &mut Trial<'_>, lines: &mut Lines<'_, S>) -> Resu
     requires going { lines.old.stopped ≡ false }
     requires ready { IsReady trial.old }
     requires room { trial.old.bytes + 121 < 2 ^ 64 }
+    requires line { trial.old.lines + 1 < 2 ^ 64 }
     ensures more { result ≡ Ok true → GoesOnTrying HasGiven (moment (S.left lines.old.source.now) lines.old.window trial.old)
         (moment (S.left lines.new.source.now) lines.new.window trial.new) }
     ensures whole { result ≡ Ok false → GoesOnTrying AreAllGiven (moment (S.left lines.old.source.now) lines.old.window trial.old)
@@ -36,6 +39,7 @@ fn hear_next<S: Source>(trial: &mut Trial<'_>, lines: &mut Lines<'_, S>) -> Resu
     ensures falls { result ≡ Ok true → weight lines.new.window < weight lines.old.window }
     ensures ready { OnOk result (IsReady trial.new) }
     ensures bytes { OnOk result (trial.new.bytes ≤ trial.old.bytes + 121) }
+    ensures lines { OnOk result (trial.new.lines ≤ trial.old.lines + 1) }
     ensures limit { lines.new.window.limit ≡ lines.old.window.limit }
     ensures reads { ReadsOn (S.reads lines.old.source.now) (S.reads lines.new.source.now) lines.old.window lines.new.window }
     ensures same { lines.new.source.ghost_name ≡ lines.old.source.ghost_name }
@@ -55,6 +59,8 @@ fn hear_all<S: Source>(trial: &mut Trial<'_>, lines: &mut Lines<'_, S>) -> Resul
     requires going { lines.old.stopped ≡ false }
     requires ready { IsReady trial.old }
     requires room { trial.old.bytes + 121 * weight lines.old.window + 121 < 2 ^ 64 }
+    requires line { trial.old.lines + weight lines.old.window + 2 < 2 ^ 64 }
+    ensures lines { OnOk result (trial.new.lines + 1 < 2 ^ 64) }
     ensures whole { OnOk result (GoesOnTrying AreAllGiven (moment (S.left lines.old.source.now) lines.old.window trial.old)
         (moment (S.left lines.new.source.now) lines.new.window trial.new)) }
     ensures fault { result ≡ Err CheckStop.Fault → GoesOnTrying IsBroken (moment (S.left lines.old.source.now) lines.old.window trial.old)
@@ -97,6 +103,32 @@ fn check_lines<S: Source>(
     Ok(trial.verdict(lines.taken()))
 }
 
+/// Where the lines of a source that was not read yet part from every lawful transcript.
+fn part_lines<S: Source>(
+    alloc: Global,
+    limits: Limits,
+    script: &[u8],
+    lines: &mut Lines<'_, S>,
+) -> Result<Parting, CheckStop>
+    requires going { lines.old.stopped ≡ false }
+    requires within { length script.now ≤ limits.bytes }
+    requires start { lines.old.window ≡ nothing_read (limits.bytes - length script.now) }
+    ensures lawful { result ≡ Ok Parting.Lawful → IsFoundLawful limits script.now (ends S.left S.reads lines.old.source.now lines.new.source.now) }
+    ensures line { (number : ℕ) → result ≡ Ok (Parting.Line number) →
+        IsFoundParted limits script.now (ends S.left S.reads lines.old.source.now lines.new.source.now) number }
+    ensures end { result ≡ Ok Parting.End → IsFoundEarly limits script.now (ends S.left S.reads lines.old.source.now lines.new.source.now) }
+    ensures over { result ≡ Err CheckStop.Limit → IsOverLimit limits script.now (ends S.left S.reads lines.old.source.now lines.new.source.now) }
+    ensures fault { result ≡ Err CheckStop.Fault → Rose (S.faults lines.old.source.now) (S.faults lines.new.source.now) }
+    ensures calm { result ≢ Err CheckStop.Fault → S.faults lines.new.source.now ≡ S.faults lines.old.source.now }
+    ensures reads { (S.reads lines.new.source.now).answered + length script.now ≤ (S.reads lines.old.source.now).answered + limits.bytes + 1 }
+    ensures end_unread { result ≡ Err CheckStop.Fault → (S.reads lines.new.source.now).ended ≡ (S.reads lines.old.source.now).ended }
+    ensures source { lines.new.source.ghost_name ≡ lines.old.source.ghost_name }
+{
+    let mut trial = Trial::new(alloc, limits, script)?;
+    hear_all(&mut trial, lines)?;
+    Ok(trial.parting(lines.taken()))
+}
+
 /// Whether what the source gives, to its end, is a lawful transcript of the script, within the limits of the run that it is of.
 ///
 /// The source is read to its end before there is a verdict, whatever it gives. `Fault` where a read failed. `Limit` where script and
@@ -135,4 +167,37 @@ pub fn check<S: Source>(
 {
     let mut lines = Lines::new(source, limits.bytes() - script.len() as u32);
     check_lines(alloc, limits, script, &mut lines)
+}
+
+/// Where what the source gives, to its end, parts from every lawful transcript of the script, within the limits of the run that it is of.
+///
+/// The line that it names is the first with which no lawful transcript begins, counted from one: the lines before it are those of one.
+/// A transcript that ends too early is so far lawful, to its last line. It is `Lawful` exactly where `check` finds it lawful, and it
+/// stops for the causes of `check`.
+pub fn find_parting<S: Source>(
+    alloc: Global,
+    limits: Limits,
+    script: &[u8],
+    source: &mut S,
+) -> Result<Parting, CheckStop>
+    requires within { length script.now ≤ limits.bytes }
+    // No lawful transcript begins with the lines up to the one that is named, and one begins with the lines before it,
+    ensures line { (number : ℕ) → result ≡ Ok (Parting.Line number) →
+        IsFoundParted limits script.now (ends S.left S.reads source.old source.new) number }
+    // or one begins with all lines, and these bytes are none,
+    ensures end { result ≡ Ok Parting.End → IsFoundEarly limits script.now (ends S.left S.reads source.old source.new) }
+    // or they are one.
+    ensures lawful { result ≡ Ok Parting.Lawful → IsFoundLawful limits script.now (ends S.left S.reads source.old source.new) }
+
+    // A fault comes only where a read failed, and the limit only where it was passed.
+    ensures fault { result ≡ Err CheckStop.Fault → Rose (S.faults source.old) (S.faults source.new) }
+    ensures calm { result ≢ Err CheckStop.Fault → S.faults source.new ≡ S.faults source.old }
+    ensures over { result ≡ Err CheckStop.Limit → IsOverLimit limits script.now (ends S.left S.reads source.old source.new) }
+
+    // At most as many reads are answered as there may be bytes, and one more.
+    ensures reads { (S.reads source.new).answered + length script.now ≤ (S.reads source.old).answered + limits.bytes + 1 }
+    ensures end_unread { result ≡ Err CheckStop.Fault → (S.reads source.new).ended ≡ (S.reads source.old).ended }
+{
+    let mut lines = Lines::new(source, limits.bytes() - script.len() as u32);
+    part_lines(alloc, limits, script, &mut lines)
 }

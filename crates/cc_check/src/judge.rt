@@ -1,12 +1,13 @@
 //! The judge: hears the lines of a transcript one after the other.
-ghost use Rattle.std.specs.Prelude.{◌≡◌, ◌↔◌, ℕ, List, [], ◌∷◌, false, true, Ok, IfOk, IsTrue};
+ghost use Rattle.std.specs.Prelude.{◌≡◌, ◌↔◌, ℕ, List, [], ◌∷◌, false, true, None, Ok, IfOk, IsTrue, OnOk};
 ghost use Rattle.cc_names.specs.Allowance.{Allowance};
 ghost use Rattle.cc_verdict.specs.Following.{first_place};
+ghost use Rattle.cc_verdict.specs.GoingOn.{CanAnswer, CanGoOn};
 ghost use Rattle.cc_verdict.specs.Positions.{GoesOn, reciting};
-ghost use Rattle.cc_check.specs.Standing.{IsHeard, IsKept, asks_left, position_of};
+ghost use Rattle.cc_check.specs.Standing.{IsHeard, IsKept, asks_left, place_of, position_of};
 
 use crate::answer::Answer;
-use crate::asking::next_asked;
+use crate::asking::{census_is_next, next_asked};
 use crate::heard::Heard;
 use crate::known::Known;
 use crate::row::Row;
@@ -16,8 +17,9 @@ use cc_model::Item;
 use cc_names::{Limits, NoMemory};
 use cc_object_graph::ObjectGraph;
 use cc_verdict::{
-    answers_are_heard, answers_are_heard_line_by_line, answers_are_recited_line_by_line,
-    exact_answers_are_recited, lines_that_ask_nothing_have_no_answer, reasons_are_recited,
+    all_that_is_reached_is_listed, answers_are_heard, answers_are_heard_line_by_line,
+    answers_are_recited_line_by_line, dead_ends_lead_nowhere, exact_answers_are_recited,
+    lines_that_ask_nothing_have_no_answer, other_ends_lead_on, reasons_are_recited,
 };
 use std::alloc::Global;
 
@@ -43,6 +45,7 @@ impl Judge {
         ensures start { IfOk result (λ j. position_of j ≡ reciting [] (first_place limits)) }
         ensures kept { IfOk result (λ j. IsKept j) }
     {
+        all_that_is_reached_is_listed();
         Ok(Judge {
             alloc,
             graph: ObjectGraph::new(alloc, limits)?,
@@ -54,13 +57,63 @@ impl Judge {
         })
     }
 
-    /// Hears the next line of the transcript, and answers whether it may come there: whether the transcript can still be lawful.
+    /// Hears the next line of the transcript, and answers whether a lawful transcript goes on with it.
     /// After `false` and after `NoMemory` the judge is only let go.
     pub(crate) fn hear(
         &mut self,
         script: &mut Script<'_>,
         heard: Heard<'_>,
     ) -> Result<bool, NoMemory>
+        requires kept { IsKept self.old }
+        ensures kept { result ≡ Ok true → IsKept self.new }
+        ensures yes { result ≡ Ok true → (line : List ℕ) (lines : List (List ℕ)) → IsHeard heard.entry line →
+            GoesOn (position_of self.old) (asks_left script.old) (line ∷ lines) ↔ GoesOn (position_of self.new) (asks_left script.new) lines }
+        ensures no { result ≡ Ok false → (line : List ℕ) (lines : List (List ℕ)) → IsHeard heard.entry line →
+            ¬ (GoesOn (position_of self.old) (asks_left script.old) (line ∷ lines)) }
+        ensures goes_on { result ≡ Ok true → (lines : List (List ℕ)) × GoesOn (position_of self.new) (asks_left script.new) lines }
+    {
+        dead_ends_lead_nowhere();
+        other_ends_lead_on();
+        if !self.accept(script, heard)? {
+            return Ok(false);
+        }
+        self.can_go_on(*script)
+    }
+
+    /// Whether anything can come behind what was heard.
+    fn can_go_on(&mut self, script: Script<'_>) -> Result<bool, NoMemory>
+        requires kept { IsKept self.old }
+        ensures kept { OnOk result (IsKept self.new) }
+        ensures same { OnOk result (position_of self.new ≡ position_of self.old) }
+        ensures can { IfOk result (λ b. IsTrue b ↔ CanGoOn (position_of self.old) (asks_left script.entry)) }
+    {
+        if let Some(answer) = self.answer {
+            return Ok(answer.can_go_on());
+        }
+        match self.row {
+            Row::AfterAll => self.can_answer(script),
+            _ => Ok(true),
+        }
+    }
+
+    /// Whether the next answer can be given: a census that must list exactly the reached objects does.
+    fn can_answer(&mut self, script: Script<'_>) -> Result<bool, NoMemory>
+        requires kept { IsKept self.old }
+        requires answer { self.old.answer ≡ None }
+        ensures kept { OnOk result (IsKept self.new) }
+        ensures same { OnOk result (position_of self.new ≡ position_of self.old) }
+        ensures can { IfOk result (λ b. IsTrue b ↔ CanAnswer (place_of self.old) (asks_left script.entry)) }
+    {
+        if !census_is_next(script) {
+            return Ok(true);
+        }
+        let names = self.listed.census(self.alloc)?;
+        self.known
+            .is_quiet(self.row, &self.graph, &self.listed, names.as_slice())
+    }
+
+    /// Hears the next line, and answers whether it may come there, where anything may.
+    fn accept(&mut self, script: &mut Script<'_>, heard: Heard<'_>) -> Result<bool, NoMemory>
         requires kept { IsKept self.old }
         ensures kept { result ≡ Ok true → IsKept self.new }
         ensures yes { result ≡ Ok true → (line : List ℕ) (lines : List (List ℕ)) → IsHeard heard.entry line →

@@ -19,6 +19,7 @@ mod judge;
 mod known;
 mod lengths;
 mod numbers;
+mod parting;
 mod reciting;
 mod row;
 mod script;
@@ -26,5 +27,6 @@ mod trial;
 mod verdict;
 mod within;
 
-pub use checking::check;
+pub use checking::{check, find_parting};
+pub use parting::Parting;
 pub use verdict::{CheckStop, Verdict};

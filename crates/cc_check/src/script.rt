@@ -12,7 +12,7 @@ use cc_model::{Command, Dialect};
 use cc_reader::parse;
 
 /// The lines of a script that were not asked yet, and how the next one is read.
-#[derive(Drop)]
+#[derive(Clone, Copy, Drop)]
 pub(crate) struct Script<'a> {
     left: &'a [u8],
     dialect: Dialect,

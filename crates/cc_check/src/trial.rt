@@ -4,23 +4,29 @@ ghost use Rattle.std.specs.Prelude.{◌≡◌, ◌+◌, ◌<◌, ◌≤◌, ◌^
 ghost use Rattle.cc_names.specs.Allowance.{Allowance};
 ghost use Rattle.cc_model.specs.Lines.{lines_of};
 ghost use Rattle.cc_verdict.specs.Verdicts.{IsLawfulTranscript};
+ghost use Rattle.cc_check.specs.Parted.{IsEarly, PartsAt};
 ghost use Rattle.cc_check.specs.Tried.{bytes_of, IsReady, IsTried, Tries};
 
 use crate::heard::Heard;
 use crate::judge::Judge;
+use crate::parting::Parting;
 use crate::script::Script;
 use crate::verdict::Verdict;
 use cc_names::{Limits, NoMemory};
-use cc_verdict::transcripts_are_lines;
+use cc_verdict::{
+    all_that_is_reached_is_listed, other_ends_lead_on, transcripts_are_lines,
+    transcripts_part_line_by_line,
+};
 use std::alloc::Global;
 
-/// A trial: the judge, the lines of the script that are left, whether each line so far could come where it came, and how many
-/// bytes those lines have, each with a line feed.
+/// A trial: the judge, the lines of the script that are left, whether a lawful transcript begins with the lines so far, how many of them
+/// one begins with, and how many bytes those have, each with a line feed.
 #[derive(Drop)]
 pub(crate) struct Trial<'a> {
     judge: Judge,
     script: Script<'a>,
     is_lawful: bool,
+    lines: u64,
     bytes: u64,
 }
 
@@ -34,11 +40,16 @@ impl<'a> Trial<'a> {
         ensures ready { IfOk result IsReady }
         ensures tried { IfOk result (λ t. IsTried limits script.now t []) }
         ensures bytes { IfOk result (λ t. t.bytes ≡ 0) }
+        ensures lines { IfOk result (λ t. t.lines ≡ 0) }
     {
+        all_that_is_reached_is_listed();
+        other_ends_lead_on();
+        transcripts_part_line_by_line();
         Ok(Trial {
             judge: Judge::new(alloc, limits)?,
             script: Script::new(script),
             is_lawful: true,
+            lines: 0,
             bytes: 0,
         })
     }
@@ -47,15 +58,22 @@ impl<'a> Trial<'a> {
     pub(crate) fn hear(&mut self, heard: Heard<'_>) -> Result<(), NoMemory>
         requires ready { IsReady self.old }
         requires room { self.old.bytes + bytes_of heard < 2 ^ 64 }
+        requires line { self.old.lines + 1 < 2 ^ 64 }
         ensures ready { OnOk result (IsReady self.new) }
         ensures tried { OnOk result (Tries self.old self.new heard.entry) }
         ensures bytes { OnOk result (self.new.bytes ≤ self.old.bytes + bytes_of heard.entry) }
+        ensures lines { OnOk result (self.new.lines ≤ self.old.lines + 1) }
     {
+        transcripts_part_line_by_line();
         if !self.is_lawful {
             return Ok(());
         }
-        self.is_lawful = self.judge.hear(&mut self.script, heard)?;
+        if !self.judge.hear(&mut self.script, heard)? {
+            self.is_lawful = false;
+            return Ok(());
+        }
         self.bytes += heard.bytes();
+        self.lines += 1;
         Ok(())
     }
 
@@ -72,6 +90,25 @@ impl<'a> Trial<'a> {
             Verdict::Lawful
         } else {
             Verdict::Unlawful
+        }
+    }
+
+    /// Where a transcript of `taken` bytes, each line of which was heard, parts from every lawful one.
+    pub(crate) fn parting(&mut self, taken: u64) -> Parting
+        requires line { self.old.lines + 1 < 2 ^ 64 }
+        ensures lawful { result ≡ Parting.Lawful → (limits : Allowance) (script text : List ℕ) → length text ≡ taken →
+            IsTried limits script self.old (lines_of text) → IsLawfulTranscript limits script text }
+        ensures line { (number : ℕ) → result ≡ Parting.Line number → (limits : Allowance) (script : List ℕ) (lines : List (List ℕ)) →
+            IsTried limits script self.old lines → PartsAt limits script lines number }
+        ensures end { result ≡ Parting.End → (limits : Allowance) (script text : List ℕ) → length text ≡ taken →
+            IsTried limits script self.old (lines_of text) → IsEarly limits script text }
+    {
+        if !self.is_lawful {
+            return Parting::Line(self.lines + 1);
+        }
+        match self.verdict(taken) {
+            Verdict::Lawful => Parting::Lawful,
+            Verdict::Unlawful => Parting::End,
         }
     }
 }

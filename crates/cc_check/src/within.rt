@@ -19,7 +19,9 @@ use crate::numbers::{events_have_small_numbers, replies_have_small_numbers};
 use cc_listed::Listed;
 use cc_model::{Command, Event, Reply};
 use cc_names::NoMemory;
-use cc_verdict::{answers_are_heard_line_by_line, answers_are_recited_line_by_line};
+use cc_verdict::{
+    all_that_is_reached_is_listed, answers_are_heard_line_by_line, answers_are_recited_line_by_line,
+};
 
 impl Judge {
     /// Hears the next line of an answer: an event that may come, or a reply that may end it.
@@ -53,6 +55,7 @@ impl Judge {
         ensures place { IfOk result (λ b. b ≡ true → position_of self.new ≡ within (with_told (hearing_in self.old answer) event)) }
         ensures no { IfOk result (λ b. b ≡ false → ¬ (MayCome (hearing_in self.old answer) event)) }
     {
+        all_that_is_reached_is_listed();
         if !answer.may_come(event) {
             return Ok(false);
         }
@@ -72,6 +75,7 @@ impl Judge {
         ensures kept { OnOk result (IsKept self.new) }
         ensures place { OnOk result (position_of self.new ≡ reciting [] (place_ended (hearing_in self.old answer) reply)) }
     {
+        all_that_is_reached_is_listed();
         self.row = self.row.after(Asked::Taken(answer.command), reply);
         self.answer = None;
         put_in(&mut self.listed, answer.command, reply)?;

@@ -10,3 +10,7 @@ pub mod Answered
 pub mod Decimals
 pub mod TextsApart
 pub mod HeardLines
+pub mod ReachedStays
+pub mod AllListed
+pub mod DeadEnds
+pub mod Completing

@@ -9,12 +9,17 @@
 #![tactic(auto)]
 
 mod answers;
+mod going_on;
 mod hearing;
 mod lines;
 
 pub use answers::{
     answers_are_heard, exact_answers_are_recited, lines_that_ask_nothing_have_no_answer,
     reasons_are_recited,
+};
+pub use going_on::{
+    all_that_is_reached_is_listed, dead_ends_lead_nowhere, other_ends_lead_on,
+    transcripts_part_line_by_line,
 };
 pub use hearing::{answers_are_heard_line_by_line, answers_are_recited_line_by_line};
 pub use lines::{lines_tell_items_apart, transcripts_are_lines};

@@ -1,9 +1,9 @@
-//! Some transcripts, and whether they are lawful.
+//! Some transcripts, whether they are lawful, and where they are not.
 //!
 //! Made by tools/worked_examples.py from examples/verdicts.txt.
 
 use crate::example::{Example, are_judged};
-use cc_check::Verdict;
+use cc_check::{Parting, Verdict};
 
 const EXAMPLES: [Example; 20] = [
     // A reply with a space behind it is wrong.
@@ -15,6 +15,7 @@ const EXAMPLES: [Example; 20] = [
         script: b"native n0 0\n",
         transcript: b"= #1 \n",
         verdict: Verdict::Unlawful,
+        parting: Parting::Line(1),
     },
     // A reply with a space before it is wrong.
     Example {
@@ -25,6 +26,7 @@ const EXAMPLES: [Example; 20] = [
         script: b"native n0 0\n",
         transcript: b" = #1\n",
         verdict: Verdict::Unlawful,
+        parting: Parting::Line(1),
     },
     // Each line of a transcript ends with a line feed, the last too.
     Example {
@@ -35,6 +37,7 @@ const EXAMPLES: [Example; 20] = [
         script: b"native n0 0\n",
         transcript: b"= #1",
         verdict: Verdict::Unlawful,
+        parting: Parting::End,
     },
     // No carriage return is dropped in a transcript.
     Example {
@@ -45,6 +48,7 @@ const EXAMPLES: [Example; 20] = [
         script: b"native n0 0\n",
         transcript: b"= #1\r\n",
         verdict: Verdict::Unlawful,
+        parting: Parting::Line(1),
     },
     // A blank line is no answer.
     Example {
@@ -55,6 +59,7 @@ const EXAMPLES: [Example; 20] = [
         script: b"native n0 0\n",
         transcript: b"\n= #1\n",
         verdict: Verdict::Unlawful,
+        parting: Parting::Line(1),
     },
     // The reply of another command is wrong.
     Example {
@@ -65,6 +70,7 @@ const EXAMPLES: [Example; 20] = [
         script: b"native n0 0\ndrop n0\n",
         transcript: b"= #1\n= #1\n",
         verdict: Verdict::Unlawful,
+        parting: Parting::Line(2),
     },
     // That nothing is there is wrong where something is.
     Example {
@@ -75,6 +81,7 @@ const EXAMPLES: [Example; 20] = [
         script: b"native n0 0\ncopy n1 n0\n",
         transcript: b"= #1\n= none\n",
         verdict: Verdict::Unlawful,
+        parting: Parting::Line(2),
     },
     // A line of more than 120 bytes is none.
     Example {
@@ -85,6 +92,7 @@ const EXAMPLES: [Example; 20] = [
         script: b"native n0 0\n",
         transcript: b"aaaaaaaaaaaaaaaaaaaaaaaaaaaaaaaaaaaaaaaaaaaaaaaaaaaaaaaaaaaaaaaaaaaaaaaaaaaaaaaaaaaaaaaaaaaaaaaaaaaaaaaaaaaaaaaaaaaaaaaaa\n",
         verdict: Verdict::Unlawful,
+        parting: Parting::Line(1),
     },
     // A line of more than 120 bytes of the script has an answer.
     Example {
@@ -95,6 +103,7 @@ const EXAMPLES: [Example; 20] = [
         script: b"aaaaaaaaaaaaaaaaaaaaaaaaaaaaaaaaaaaaaaaaaaaaaaaaaaaaaaaaaaaaaaaaaaaaaaaaaaaaaaaaaaaaaaaaaaaaaaaaaaaaaaaaaaaaaaaaaaaaaaaaa\nnative n0 0\n",
         transcript: b"= #1\n",
         verdict: Verdict::Unlawful,
+        parting: Parting::Line(1),
     },
     // Nothing may come behind the answer to the last line.
     Example {
@@ -105,6 +114,7 @@ const EXAMPLES: [Example; 20] = [
         script: b"native n0 0\n",
         transcript: b"= #1\n= ok\n",
         verdict: Verdict::Unlawful,
+        parting: Parting::Line(2),
     },
     // A transcript of an empty script is empty.
     Example {
@@ -115,6 +125,7 @@ const EXAMPLES: [Example; 20] = [
         script: b"",
         transcript: b"= ok\n",
         verdict: Verdict::Unlawful,
+        parting: Parting::Line(1),
     },
     // A name's number has no leading zero.
     Example {
@@ -125,6 +136,7 @@ const EXAMPLES: [Example; 20] = [
         script: b"native n0 0\ndrop n0\n",
         transcript: b"= #1\n- free #01\n= ok\n",
         verdict: Verdict::Unlawful,
+        parting: Parting::Line(2),
     },
     // A name's number has no sign.
     Example {
@@ -135,6 +147,7 @@ const EXAMPLES: [Example; 20] = [
         script: b"native n0 0\ndrop n0\n",
         transcript: b"= #1\n- free #+1\n= ok\n",
         verdict: Verdict::Unlawful,
+        parting: Parting::Line(2),
     },
     // A name has a number.
     Example {
@@ -145,6 +158,7 @@ const EXAMPLES: [Example; 20] = [
         script: b"native n0 0\ndrop n0\n",
         transcript: b"= #1\n- free #\n= ok\n",
         verdict: Verdict::Unlawful,
+        parting: Parting::Line(2),
     },
     // A number is never used again.
     Example {
@@ -155,6 +169,7 @@ const EXAMPLES: [Example; 20] = [
         script: b"native n0 0\ndrop n0\nnative n0 0\n",
         transcript: b"= #1\n- free #1\n= ok\n= #1\n",
         verdict: Verdict::Unlawful,
+        parting: Parting::Line(4),
     },
     // What a register reaches may not be freed.
     Example {
@@ -165,6 +180,7 @@ const EXAMPLES: [Example; 20] = [
         script: b"native n0 1\nnative n1 0\nset n0 0 n1\ndrop n1\n",
         transcript: b"= #1\n= #2\n= ok\n- free #2\n= ok\n",
         verdict: Verdict::Unlawful,
+        parting: Parting::Line(4),
     },
     // What a register reaches may not be unlinked.
     Example {
@@ -175,6 +191,7 @@ const EXAMPLES: [Example; 20] = [
         script: b"native n0 0\ncollect\n",
         transcript: b"= #1\n- unlink #1\n= ok\n",
         verdict: Verdict::Unlawful,
+        parting: Parting::Line(2),
     },
     // The value of an entry whose map and key are reached may not be freed.
     Example {
@@ -185,6 +202,7 @@ const EXAMPLES: [Example; 20] = [
         script: b"weakmap s0\nscript s1 0\nscript s2 0\nwset s0 s1 s2\ndrop s2\ngc\n",
         transcript: b"= @1\n= @2\n= @3\n= ok\n= ok\n- free @3\n= ok\n",
         verdict: Verdict::Unlawful,
+        parting: Parting::Line(6),
     },
     // A key that is a proxy lives as long as the map and its delegate.
     Example {
@@ -195,6 +213,7 @@ const EXAMPLES: [Example; 20] = [
         script: b"weakmap s0\nscript s1 0\nproxy s2 s1\nscript s3 0\nwset s0 s2 s3\ndrop s2\ndrop s3\ngc\n",
         transcript: b"= @1\n= @2\n= @3\n= @4\n= ok\n= ok\n= ok\n- free @3\n= ok\n",
         verdict: Verdict::Unlawful,
+        parting: Parting::Line(8),
     },
     // What was freed may not be freed again.
     Example {
@@ -205,6 +224,7 @@ const EXAMPLES: [Example; 20] = [
         script: b"native n0 0\ndrop n0\ngc\n",
         transcript: b"= #1\n- free #1\n= ok\n- free #1\n= ok\n",
         verdict: Verdict::Unlawful,
+        parting: Parting::Line(4),
     },
 ];
 

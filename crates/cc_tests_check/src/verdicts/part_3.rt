@@ -1,9 +1,9 @@
-//! Some transcripts, and whether they are lawful.
+//! Some transcripts, whether they are lawful, and where they are not.
 //!
 //! Made by tools/worked_examples.py from examples/verdicts.txt.
 
 use crate::example::{Example, are_judged};
-use cc_check::Verdict;
+use cc_check::{Parting, Verdict};
 
 const EXAMPLES: [Example; 20] = [
     // What was never made may not be freed.
@@ -15,6 +15,7 @@ const EXAMPLES: [Example; 20] = [
         script: b"native n0 0\ndrop n0\n",
         transcript: b"= #1\n- free #2\n= ok\n",
         verdict: Verdict::Unlawful,
+        parting: Parting::Line(2),
     },
     // An event of a command comes behind the line before it.
     Example {
@@ -25,6 +26,7 @@ const EXAMPLES: [Example; 20] = [
         script: b"native n0 0\nnative n1 0\ndrop n0\n",
         transcript: b"= #1\n- free #1\n= #2\n= ok\n",
         verdict: Verdict::Unlawful,
+        parting: Parting::Line(2),
     },
     // An event comes before the reply of its command.
     Example {
@@ -35,6 +37,7 @@ const EXAMPLES: [Example; 20] = [
         script: b"native n0 0\ndrop n0\n",
         transcript: b"= #1\n= ok\n- free #1\n",
         verdict: Verdict::Unlawful,
+        parting: Parting::Line(3),
     },
     // Script objects are freed under gc alone.
     Example {
@@ -45,6 +48,7 @@ const EXAMPLES: [Example; 20] = [
         script: b"script s0 0\ndrop s0\ncollect\n",
         transcript: b"= @1\n- free @1\n= ok\n= ok\n",
         verdict: Verdict::Unlawful,
+        parting: Parting::Line(2),
     },
     // Natives are unlinked in a collection alone.
     Example {
@@ -55,6 +59,7 @@ const EXAMPLES: [Example; 20] = [
         script: b"native n0 1\nset n0 0 n0\ndrop n0\n",
         transcript: b"= #1\n= ok\n- unlink #1\n- free #1\n= ok\n",
         verdict: Verdict::Unlawful,
+        parting: Parting::Line(3),
     },
     // Natives alone are unlinked.
     Example {
@@ -65,6 +70,7 @@ const EXAMPLES: [Example; 20] = [
         script: b"script s0 0\ndrop s0\ncollect\n",
         transcript: b"= @1\n= ok\n- unlink @1\n= ok\n",
         verdict: Verdict::Unlawful,
+        parting: Parting::Line(3),
     },
     // The numbers that a slice unlinks rise.
     Example {
@@ -75,6 +81,7 @@ const EXAMPLES: [Example; 20] = [
         script: b"native n0 1\nset n0 0 n0\nnative n0 1\nset n0 0 n0\ndrop n0\nslice 9\n",
         transcript: b"= #1\n= ok\n= #2\n= ok\n= ok\n- unlink #2\n- unlink #1\n- free #1\n- free #2\n= ok\n",
         verdict: Verdict::Unlawful,
+        parting: Parting::Line(7),
     },
     // The numbers that collect unlinks rise at most twice.
     Example {
@@ -85,6 +92,7 @@ const EXAMPLES: [Example; 20] = [
         script: b"native n0 1\nset n0 0 n0\nnative n0 1\nset n0 0 n0\nnative n0 1\nset n0 0 n0\ndrop n0\ncollect\n",
         transcript: b"= #1\n= ok\n= #2\n= ok\n= #3\n= ok\n= ok\n- unlink #3\n- unlink #2\n- unlink #1\n- free #1\n- free #2\n- free #3\n= ok\n",
         verdict: Verdict::Unlawful,
+        parting: Parting::Line(10),
     },
     // A refused line has no events.
     Example {
@@ -95,6 +103,7 @@ const EXAMPLES: [Example; 20] = [
         script: b"native n0 0\ndrop n0\nget n1 n0 0\n",
         transcript: b"= #1\n= ok\n- free #1\n! empty\n",
         verdict: Verdict::Unlawful,
+        parting: Parting::Line(3),
     },
     // Natives are listed first.
     Example {
@@ -105,6 +114,7 @@ const EXAMPLES: [Example; 20] = [
         script: b"script s0 0\nnative n0 0\ncensus\n",
         transcript: b"= @1\n= #1\n+ @1\n+ #1\n= census 2\n",
         verdict: Verdict::Unlawful,
+        parting: Parting::Line(3),
     },
     // Natives are listed in the order in which they were made.
     Example {
@@ -115,6 +125,7 @@ const EXAMPLES: [Example; 20] = [
         script: b"native n0 0\nnative n1 0\ncensus\n",
         transcript: b"= #1\n= #2\n+ #2\n+ #1\n= census 2\n",
         verdict: Verdict::Unlawful,
+        parting: Parting::Line(3),
     },
     // What was freed is not listed.
     Example {
@@ -125,6 +136,7 @@ const EXAMPLES: [Example; 20] = [
         script: b"native n0 0\ndrop n0\ncensus\n",
         transcript: b"= #1\n- free #1\n= ok\n+ #1\n= census 1\n",
         verdict: Verdict::Unlawful,
+        parting: Parting::Line(4),
     },
     // What was not freed is listed.
     Example {
@@ -135,6 +147,7 @@ const EXAMPLES: [Example; 20] = [
         script: b"native n0 0\nnative n1 0\ncensus\n",
         transcript: b"= #1\n= #2\n+ #1\n= census 1\n",
         verdict: Verdict::Unlawful,
+        parting: Parting::Line(4),
     },
     // The number of a census is that of its names.
     Example {
@@ -145,6 +158,7 @@ const EXAMPLES: [Example; 20] = [
         script: b"native n0 0\ncensus\n",
         transcript: b"= #1\n+ #1\n= census 2\n",
         verdict: Verdict::Unlawful,
+        parting: Parting::Line(3),
     },
     // Behind gc, collect and gc the census lists exactly what is reached.
     Example {
@@ -155,6 +169,7 @@ const EXAMPLES: [Example; 20] = [
         script: b"native n0 1\nset n0 0 n0\ndrop n0\ngc\ncollect\ngc\ncensus\n",
         transcript: b"= #1\n= ok\n= ok\n= ok\n= ok\n= ok\n+ #1\n= census 1\n",
         verdict: Verdict::Unlawful,
+        parting: Parting::Line(6),
     },
     // The same of a script object.
     Example {
@@ -165,6 +180,7 @@ const EXAMPLES: [Example; 20] = [
         script: b"script s0 0\ndrop s0\ngc\ncollect\ngc\ncensus\n",
         transcript: b"= @1\n= ok\n= ok\n= ok\n= ok\n+ @1\n= census 1\n",
         verdict: Verdict::Unlawful,
+        parting: Parting::Line(5),
     },
     // A command that takes no memory is not refused it.
     Example {
@@ -175,6 +191,7 @@ const EXAMPLES: [Example; 20] = [
         script: b"native n0 0\ndrop n0\n",
         transcript: b"= #1\n! nomem\n",
         verdict: Verdict::Unlawful,
+        parting: Parting::Line(2),
     },
     // Gc is never refused memory.
     Example {
@@ -185,6 +202,7 @@ const EXAMPLES: [Example; 20] = [
         script: b"gc\n",
         transcript: b"! nomem\n",
         verdict: Verdict::Unlawful,
+        parting: Parting::Line(1),
     },
     // A command that is refused for another cause is not refused memory.
     Example {
@@ -195,6 +213,7 @@ const EXAMPLES: [Example; 20] = [
         script: b"native n0 0\nnative n1 0\n",
         transcript: b"= #1\n! nomem\n",
         verdict: Verdict::Unlawful,
+        parting: Parting::Line(2),
     },
     // An entry that is there takes no memory.
     Example {
@@ -205,6 +224,7 @@ const EXAMPLES: [Example; 20] = [
         script: b"weakmap s0\nscript s1 0\nwset s0 s1 s1\nwset s0 s1 s1\n",
         transcript: b"= @1\n= @2\n= ok\n! nomem\n",
         verdict: Verdict::Unlawful,
+        parting: Parting::Line(4),
     },
 ];
 

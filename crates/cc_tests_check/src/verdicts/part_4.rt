@@ -1,9 +1,9 @@
-//! Some transcripts, and whether they are lawful.
+//! Some transcripts, whether they are lawful, and where they are not.
 //!
 //! Made by tools/worked_examples.py from examples/verdicts.txt.
 
 use crate::example::{Example, are_judged};
-use cc_check::Verdict;
+use cc_check::{Parting, Verdict};
 
 const EXAMPLES: [Example; 11] = [
     // A reflector that is listed takes no memory.
@@ -15,6 +15,7 @@ const EXAMPLES: [Example; 11] = [
         script: b"native n0 0\nwrap s0 n0\nwrap s1 n0\n",
         transcript: b"= #1\n= ~1\n! nomem\n",
         verdict: Verdict::Unlawful,
+        parting: Parting::Line(3),
     },
     // A collection that is refused memory is abandoned.
     Example {
@@ -25,6 +26,7 @@ const EXAMPLES: [Example; 11] = [
         script: b"native n0 0\ncollect\n",
         transcript: b"= #1\n! nomem\n",
         verdict: Verdict::Unlawful,
+        parting: Parting::Line(2),
     },
     // A collection that is abandoned was refused memory.
     Example {
@@ -35,6 +37,7 @@ const EXAMPLES: [Example; 11] = [
         script: b"native n0 0\ncollect\n",
         transcript: b"= #1\n- abandon\n= ok\n",
         verdict: Verdict::Unlawful,
+        parting: Parting::Line(3),
     },
     // An abandonment is the last event of a collection.
     Example {
@@ -45,6 +48,7 @@ const EXAMPLES: [Example; 11] = [
         script: b"native n0 1\nset n0 0 n0\ndrop n0\ncollect\n",
         transcript: b"= #1\n= ok\n= ok\n- abandon\n- unlink #1\n! nomem\n",
         verdict: Verdict::Unlawful,
+        parting: Parting::Line(5),
     },
     // An abandonment is the first event of gc.
     Example {
@@ -55,6 +59,7 @@ const EXAMPLES: [Example; 11] = [
         script: b"script s0 0\ndrop s0\ngc\n",
         transcript: b"= @1\n= ok\n- free @1\n- abandon\n= ok\n",
         verdict: Verdict::Unlawful,
+        parting: Parting::Line(4),
     },
     // A collection is abandoned once.
     Example {
@@ -65,6 +70,7 @@ const EXAMPLES: [Example; 11] = [
         script: b"collect\n",
         transcript: b"- abandon\n- abandon\n! nomem\n",
         verdict: Verdict::Unlawful,
+        parting: Parting::Line(2),
     },
     // No other command abandons a collection.
     Example {
@@ -75,6 +81,7 @@ const EXAMPLES: [Example; 11] = [
         script: b"native n0 0\n",
         transcript: b"- abandon\n= #1\n",
         verdict: Verdict::Unlawful,
+        parting: Parting::Line(1),
     },
     // A path has each step that it needs.
     Example {
@@ -85,6 +92,7 @@ const EXAMPLES: [Example; 11] = [
         script: b"version 2\nnative n0 1\nnative n1 0\nset n0 0 n1\ndrop n1\nwhy #2\n",
         transcript: b"= ok\n= #1\n= #2\n= ok\n= ok\n: #2 #1\n= ok\n",
         verdict: Verdict::Unlawful,
+        parting: Parting::Line(6),
     },
     // A path begins at the first register.
     Example {
@@ -95,6 +103,7 @@ const EXAMPLES: [Example; 11] = [
         script: b"version 2\nnative n0 0\ncopy n1 n0\nwhy #1\n",
         transcript: b"= ok\n= #1\n= #1\n: #1 n1\n= ok\n",
         verdict: Verdict::Unlawful,
+        parting: Parting::Line(4),
     },
     // That nothing leads there is wrong where something does.
     Example {
@@ -105,6 +114,7 @@ const EXAMPLES: [Example; 11] = [
         script: b"version 2\nnative n0 0\nwhy #1\n",
         transcript: b"= ok\n= #1\n= none\n",
         verdict: Verdict::Unlawful,
+        parting: Parting::Line(3),
     },
     // A word of version 2 is not in the grammar of version 1.
     Example {
@@ -115,6 +125,7 @@ const EXAMPLES: [Example; 11] = [
         script: b"native n0 0\nwhy #1\n",
         transcript: b"= #1\n: #1 n0\n= ok\n",
         verdict: Verdict::Unlawful,
+        parting: Parting::Line(2),
     },
 ];
 

@@ -15,6 +15,7 @@ invariant-lines g l =
       going : l.lines.stopped ≡ false;
       ready : IsReady l.trial;
       bytes : l.trial.bytes + 121 * weight l.lines.window ≤ l.fn.trial.bytes + 121 * weight l.fn.lines.window;
+      counted : l.trial.lines + weight l.lines.window ≤ l.fn.trial.lines + weight l.fn.lines.window;
       limit : l.lines.window.limit ≡ l.fn.lines.window.limit;
       reads : ReadsOn (reads l.fn.lines.source.now) (reads l.lines.source.now) l.fn.lines.window l.lines.window;
       same : l.lines.source.ghost_name ≡ l.fn.lines.source.ghost_name;

@@ -1,0 +1,47 @@
+-- WHETHER THE NEXT ANSWER CAN BE GIVEN, told by what is asked next and by the row.
+use Rattle.std.proofs.Common.{◌≡◌, true, false, List, [], ◌∷◌, refl}
+use Rattle.std.specs.Prelude.{◌↔◌}
+use Rattle.std.proofs.lemmas.Bool.{false≢true, true≢false}
+use Rattle.cc_names.specs.declared.name.Name.{Name}
+use Rattle.cc_model.specs.declared.command.Command.TheVariants.{Nothing, Why, Census}
+use Rattle.cc_model.specs.Asks.{Ask, long, bad, taken}
+use Rattle.cc_model.specs.Graph.{Graph}
+use Rattle.cc_model.specs.Quiet.{CensusIsQuiet}
+use Rattle.cc_verdict.specs.Following.{Place, place}
+use Rattle.cc_verdict.specs.GoingOn.{CanAnswer}
+use Rattle.cc_verdict.proofs.Turns.{bad-quiet, heard-quiet, long-quiet, why-quiet}
+use Rattle.cc_check.specs.declared.row.Row.{Row}
+use Rattle.cc_check.specs.declared.row.Row.TheVariants.{NothingYet, AfterGc, AfterCollect, AfterAll}
+use Rattle.cc_check.specs.Judging.{begins_with_census, from_next}
+use Rattle.cc_check.specs.Standing.{row_meant}
+
+-- what is no census can be answered
+pub no_census-can : (p : Place) (asks : List Ask) → begins_with_census (from_next asks) ≡ false → CanAnswer p asks
+no_census-can p [] e = tt
+no_census-can p (long ∷ asks) e = long-quiet p.row p.state
+no_census-can p (bad ∷ asks) e = bad-quiet p.row p.state
+no_census-can p (taken Nothing ∷ asks) e = no_census-can p asks e
+no_census-can p (taken Census ∷ asks) e = absurd (true≢false e)
+no_census-can p (taken (Why x) ∷ asks) e = why-quiet p.row p.state x
+no_census-can p (taken c ∷ asks) e = heard-quiet p.row p.state c refl
+
+-- a census can be where it is quiet
+pub census-can : (p : Place) (asks : List Ask) → begins_with_census (from_next asks) ≡ true → CanAnswer p asks ↔ CensusIsQuiet p.row p.state (taken Census)
+census-can p [] e = absurd (false≢true e)
+census-can p (long ∷ asks) e = absurd (false≢true e)
+census-can p (bad ∷ asks) e = absurd (false≢true e)
+census-can p (taken Nothing ∷ asks) e = census-can p asks e
+census-can p (taken Census ∷ asks) e = ((λ q. q), (λ q. q))
+census-can p (taken c ∷ asks) e = absurd (false≢true e)
+
+every-can : (p : Place) (asks : List Ask) → ((ask : Ask) → CensusIsQuiet p.row p.state ask) → CanAnswer p asks
+every-can p [] quiet = tt
+every-can p (taken Nothing ∷ asks) quiet = every-can p asks quiet
+every-can p (ask ∷ asks) quiet = quiet ask
+
+-- where the row is not over, all can be answered
+pub row-can : (g : Graph) (names : List Name) (row : Row) (asks : List Ask) → ¬ (row ≡ AfterAll) → CanAnswer (place g names (row_meant row)) asks
+row-can g names NothingYet asks n = every-can (place g names (row_meant NothingYet)) asks (λ ask. tt)
+row-can g names AfterGc asks n = every-can (place g names (row_meant AfterGc)) asks (λ ask. tt)
+row-can g names AfterCollect asks n = every-can (place g names (row_meant AfterCollect)) asks (λ ask. tt)
+row-can g names AfterAll asks n = absurd (n refl)
