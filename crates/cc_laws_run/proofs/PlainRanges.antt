@@ -157,7 +157,7 @@ ask_of-range : (v : Dialect) (line : List ℕ) → IsTrue (ask_in_range (ask_of 
 ask_of-range v line = grind (arith, command_of-range)
 
 -- what all lines ask is in range
-pub lines-in_range : (v : Dialect) (lines : List (List ℕ)) → IsTrue (list_all ask_in_range (asks_from v lines))
+lines-in_range : (v : Dialect) (lines : List (List ℕ)) → IsTrue (list_all ask_in_range (asks_from v lines))
 lines-in_range v [] = refl
 lines-in_range v (line ∷ lines) =
     let later = dialect_after v (ask_of v line) in
