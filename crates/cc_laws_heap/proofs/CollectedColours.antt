@@ -10,6 +10,7 @@ use Rattle.cc_model.specs.View.{view}
 use Rattle.cc_model.specs.Colours.{IsBlack, black_names, marked_names, marked, HasColours, HasColourInvariant}
 use Rattle.cc_model.specs.Sweep.{unmarked, sweep, collect_scripts}
 use Rattle.cc_laws_heap.specs.Sound.{IsSound}
+use Rattle.cc_laws_heap.specs.Marks.{IsBlackClosed}
 use Rattle.cc_laws_heap.specs.Rounds.{FreesNames}
 use Rattle.cc_laws_heap.proofs.Coloured.{IsColoured, HasColourInvariant-from}
 use Rattle.cc_laws_heap.proofs.FreedNames.{FreesNames-silently, FreesNames-then}
@@ -54,6 +55,13 @@ module _ (h : Heap) (c : HasColours h) where
   -- and what is black by the rules is black
   pub is-black : (o : HeapScript) → Among o h.scripts → IsBlack h o.name → o.colour ≡ Black
   is-black o m d = c o m ∙ ap (λ b. colour_of b (has same_name (marked_names h) o.name)) ((black-decided h o.name).1 d)
+
+-- BLACK OF MARKING IS CLOSED.
+pub IsBlackClosed-colours : (h : Heap) → HasColours h → IsBlackClosed h
+IsBlackClosed-colours h c = record {
+  registers = λ o m i. is-black h c o m (black-register h o.name i);
+  places = λ o p m n e i. is-black h c p n (black-place h o p.name m i (black-is h c o m e));
+}
 
 module _ (h : Heap) (c : HasColours h) (none : unmarked h ≡ []) where
   -- where nothing is unmarked no script object is white

@@ -62,6 +62,7 @@ pub mod TakenOut
 pub mod SweepBalance
 pub mod SweepEach
 pub mod MarkedKept
+pub mod MarksClosed
 pub mod MarkedWellFormed
 pub mod Swept
 pub mod MarkingKeeps
@@ -69,6 +70,7 @@ pub mod RoundsEnd
 pub mod CollectedColours
 pub mod ReachedMarked
 pub mod RoundParts
+pub mod SweepColours
 pub mod RoundsStand
 pub mod RepliesAlike
 pub mod Numbered
