@@ -3,7 +3,7 @@ pub use Rattle.cc_laws_heap.proofs.Buffer.{places-with_mark_other, places-with_m
 pub use Rattle.cc_laws_heap.proofs.CascadeTakesOut.{TakesOut-cascade, TakesOut-let_go, let_go-gone}
 pub use Rattle.cc_laws_heap.proofs.Cascades.{above-one_at_zero, cascade-frees, cascade-sound, one_above_zero-above, one_at_zero-above}
 pub use Rattle.cc_laws_heap.proofs.Changing.{Follows-left, Leaves, option_map-found}
-pub use Rattle.cc_laws_heap.proofs.CollectedColours.{IsBlackClosed-colours, collect_scripts-colours, collect_scripts-frees, collect_scripts-invariant, collect_scripts-sound, collect_scripts-unmarked, collecting-keeps}
+pub use Rattle.cc_laws_heap.proofs.CollectedColours.{collect_scripts-colours, collect_scripts-frees, collect_scripts-invariant, collect_scripts-sound, collect_scripts-unmarked, collecting-keeps}
 pub use Rattle.cc_laws_heap.proofs.ColourChanges.{AreColoured-push, AreColoured-slot, IsHeldBlack, exposed-black}
 pub use Rattle.cc_laws_heap.proofs.Coloured.{AreColoured-from_view, HasColourInvariant-from, IsColoured}
 pub use Rattle.cc_laws_heap.proofs.CommandsColours.{done_in-coloured, effects-coloured, taken_out-black, taken_out-coloured}
@@ -36,11 +36,11 @@ pub use Rattle.cc_laws_heap.proofs.LedReached.{reached-led}
 pub use Rattle.cc_laws_heap.proofs.MadeAlike.{Follows-made, IsMade}
 pub use Rattle.cc_laws_heap.proofs.MadeSound.{with_native-sound, with_script-sound}
 pub use Rattle.cc_laws_heap.proofs.Making.{IsRising-push, contents-empty, contents-empty_none, places-with_mark, with_mark-cases}
-pub use Rattle.cc_laws_heap.proofs.MarkedKept.{AreMarksClosed-colours}
+pub use Rattle.cc_laws_heap.proofs.MarkedKept.{AreMarksClosed-colours, IsBlackClosed-colours}
 pub use Rattle.cc_laws_heap.proofs.MarksClosed.{stays-delegate, stays-native_slot, stays-place, stays-value}
 pub use Rattle.cc_laws_heap.proofs.MarkedWellFormed.{is_spared, is_spared_entry}
 pub use Rattle.cc_laws_heap.proofs.Marking.{HasColours-marked, as_marked, colour_of}
-pub use Rattle.cc_laws_heap.proofs.MarkingKeeps.{AreMarksClosed-marked, IsSound-marked, round-frees, round-sound, script_names-marked}
+pub use Rattle.cc_laws_heap.proofs.MarkingKeeps.{IsSound-marked, round-frees, round-sound, script_names-marked}
 pub use Rattle.cc_laws_heap.proofs.MayBeDone.{MayBeDone, may_be_done}
 pub use Rattle.cc_laws_heap.proofs.Moving.{slot-there, taken_out-length, taken_out-names, taken_out-sound, taken_out-there, touched-natives, touched-registers}
 pub use Rattle.cc_laws_heap.proofs.NameLists.{is_not_among-apart, is_not_among-from, natives_in-natives, same_name-sym}

@@ -61,6 +61,7 @@ pub mod FreedNames
 pub mod TakenOut
 pub mod SweepBalance
 pub mod SweepEach
+pub mod Led
 pub mod MarkedKept
 pub mod MarksClosed
 pub mod MarkedWellFormed

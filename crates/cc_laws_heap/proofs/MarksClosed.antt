@@ -13,7 +13,7 @@ use Rattle.cc_model.specs.View.{slot_edges, native_edges}
 use Rattle.cc_model.proofs.Places.{preserved_edge, native_edges-split, slot-place, delegate-place, targets-native}
 use Rattle.cc_model.specs.Colours.{scripts_held_by}
 use Rattle.cc_laws_heap.specs.Marks.{Stays, AreMarksClosed}
-use Rattle.cc_laws_heap.proofs.MarkedKept.{place-edge}
+use Rattle.cc_laws_heap.proofs.Led.{place-edge}
 
 module _ (h : Heap) (c : AreMarksClosed h) where
   -- what a script object that stays has in a place over which marking goes

@@ -21,7 +21,7 @@ use Rattle.cc_laws_heap.specs.Marks.{Stays, AreMarksClosed}
 use Rattle.cc_laws_heap.proofs.ViewEdges.{native_edges-are, script_edges-are}
 use Rattle.cc_laws_heap.proofs.ScriptNames.{script-named}
 use Rattle.cc_laws_heap.proofs.ReachedAlike.{reached-in}
-use Rattle.cc_laws_heap.proofs.MarkedKept.{unmarked-white}
+use Rattle.cc_laws_heap.proofs.Led.{unmarked-white}
 use Rattle.cc_laws_heap.proofs.MarksClosed.{stays-place, stays-held}
 
 module _ (h : Heap) (w : IsWellFormed h) where

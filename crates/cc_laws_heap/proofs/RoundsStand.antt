@@ -10,7 +10,7 @@ use Rattle.cc_model.specs.Graph.{Graph}
 use Rattle.cc_model.specs.Reached.{Reached}
 use Rattle.cc_model.specs.WellMade.{IsWellMade}
 use Rattle.cc_model.specs.Heap.{Heap, HeapNative, HeapScript, Outcome}
-use Rattle.cc_model.specs.Colours.{marked}
+use Rattle.cc_model.specs.Colours.{black_names, marked_names, coloured_by, marked}
 use Rattle.cc_model.specs.Sweep.{unmarked, sweep, collect_scripts}
 use Rattle.cc_model.specs.WellFormed.{names_there}
 use Rattle.cc_model.specs.StandsFor.{shape_in, shape_of_held_script, StandsFor, shape_of_held_native}
@@ -24,10 +24,9 @@ use Rattle.cc_laws_heap.proofs.Standing.{follows-stands}
 use Rattle.cc_laws_heap.proofs.Changing.{unchanged, HeapChanges, AreObjects-changed, option_map-same, Leaves, Follows-left}
 use Rattle.cc_laws_heap.proofs.NameLists.{is_not_among-from}
 use Rattle.cc_laws_heap.proofs.FreedNames.{FreesNames-left}
-use Rattle.cc_laws_heap.proofs.Marking.{as_marked}
 use Rattle.cc_laws_heap.proofs.MarkedWellFormed.{is_spared_entry}
 use Rattle.cc_laws_heap.proofs.Swept.{taken-sweep, sweep-frees, entries-sweep, sweep-sound}
-use Rattle.cc_laws_heap.proofs.MarkingKeeps.{AreMarksClosed-marked, IsSound-marked}
+use Rattle.cc_laws_heap.proofs.MarkingKeeps.{AreMarksClosed-marked, IsSound-coloured, IsSound-marked, as_coloured}
 use Rattle.cc_laws_heap.proofs.RoundParts.{value_in-filter, ArePart-filter, sweep-natives, sweep-scripts}
 use Rattle.cc_laws_heap.proofs.ReachedMarked.{reached-not_unmarked}
 use Rattle.cc_laws_heap.proofs.CollectedColours.{collecting-keeps, collect_scripts-frees}
@@ -103,26 +102,35 @@ module _ {owned : List ℕ} (h : Heap) (g : Graph) (c : AreMarksClosed h) (s : I
   pub sweep-unreached : (x : Name) → Among (Freed x) (sweep h).events → ¬ (Reached g x)
   sweep-unreached x i d = freed-left h (sweep h) (taken-sweep h s).0 (sweep-frees h s) x i (reached-there (sweep h).heap g x sweep-stands d)
 
--- a marking changes colours alone
-Leaves-marked : (h : Heap) → Leaves h (marked h)
-unfolding marked
-Leaves-marked h = record {
+-- Other colours
+
+-- what has other colours has the shapes that it had
+Leaves-coloured : (blacks marks : List Name) (h : Heap) → Leaves h (coloured_by blacks marks h)
+Leaves-coloured blacks marks h = record {
   beside = record { native_registers = refl; script_registers = refl; entries = refl; natives_made = refl; scripts_made = refl; limits = refl };
   objects = record {
     natives = λ n i. (n, i, refl, refl);
     scripts = λ o i.
-        let p = Among-map_cases (as_marked h) h.scripts o i in
+        let p = Among-map_cases (as_coloured blacks marks) h.scripts o i in
         (p.0, p.1, ap (λ (q : HeapScript). q.name) p.2, sym (ap shape_of_held_script p.2));
   };
 }
+
+-- HEAPS WITH OTHER COLOURS STAND FOR THE SAME GRAPH.
+pub coloured-stands : {owned : List ℕ} (blacks marks : List Name) (h : Heap) (g : Graph) → IsSound owned h → IsWellMade g → StandsFor h g →
+    StandsFor (coloured_by blacks marks h) g
+coloured-stands blacks marks h g s m t =
+    let k : Heap = coloured_by blacks marks h in
+    follows-stands (Reached g) k g (IsSound-coloured blacks marks h s).well_formed m
+    (Follows-left (Reached g) h k g (Leaves-coloured blacks marks h) (stands-follows h g s.well_formed t))
 
 -- Rounds
 
 module _ {owned : List ℕ} (h : Heap) (g : Graph) (s : IsSound owned h) (m : IsWellMade g) (t : StandsFor h g) where
   -- Marked heaps stand for the same graph.
   pub marked-stands : StandsFor (marked h) g
-  marked-stands = follows-stands (Reached g) (marked h) g (IsSound-marked owned h s).well_formed m
-      (Follows-left (Reached g) h (marked h) g (Leaves-marked h) (stands-follows h g s.well_formed t))
+  unfolding marked
+  marked-stands = coloured-stands (black_names h) (marked_names h) h g s m t
 
   -- A round keeps standing for the graph.
   pub round-stands : StandsFor (sweep (marked h)).heap g

@@ -23,7 +23,7 @@ use Rattle.cc_laws_heap.specs.Stages.{stage}
 use Rattle.cc_laws_heap.specs.Stages.Done.{nothing}
 use Rattle.cc_laws_heap.proofs.ScriptsKept.{native-no_script}
 use Rattle.cc_laws_heap.proofs.SweepEach.{IsToSweep, DoneBy, scripts-sweep_each, TakesOut-sweep_each}
-use Rattle.cc_laws_heap.proofs.MarkedKept.{unmarked-white}
+use Rattle.cc_laws_heap.proofs.Led.{unmarked-white}
 use Rattle.cc_laws_heap.proofs.MarkedWellFormed.{is_spared, is_spared_entry, spared, IsWellFormed-spared}
 use Rattle.cc_laws_heap.proofs.FreedNames.{FreesNames-alike}
 

@@ -1,5 +1,4 @@
-use Rattle.cc_laws_heap.proofs.CollectedColours.{IsBlackClosed-colours}
-use Rattle.cc_laws_heap.proofs.MarkedKept.{AreMarksClosed-colours}
+use Rattle.cc_laws_heap.proofs.MarkedKept.{AreMarksClosed-colours, IsBlackClosed-colours}
 use Rattle.cc_laws_heap.proofs.RoundsStand.{sweep-stands, sweep-unreached}
 use Rattle.cc_laws_heap.proofs.SweepColours.{sweep-invariant}
 use Rattle.cc_laws_heap.proofs.Swept.{taken-sweep, sweep-frees, sweep-sound}
