@@ -32,13 +32,17 @@ module _ (blacks marks : List Name) (h : Heap) where
   changes-coloured : IsWellFormed h → ChangesScripts h (as_coloured blacks marks)
   changes-coloured w = search (w.kinds, w.script_contents)
 
+  -- Other colours keep the heaps well formed.
+  pub IsWellFormed-coloured : IsWellFormed h → IsWellFormed (coloured_by blacks marks h)
+  IsWellFormed-coloured w = IsWellFormed-scripts h (as_coloured blacks marks) w (changes-coloured w)
+
   -- other colours change no reference
   refs_to-coloured : (k : ℕ) → refs_to (coloured_by blacks marks h) k ≡ refs_to h k
   refs_to-coloured k = rw (count_by-kept_map (λ (o : HeapScript). same_name o.name (reflector k)) (as_coloured blacks marks) h.scripts (λ o. refl)) refl
 
   -- OTHER COLOURS KEEP THE HEAPS SOUND.
   pub IsSound-coloured : {owned : List ℕ} → IsSound owned h → IsSound owned (coloured_by blacks marks h)
-  IsSound-coloured s = search (IsWellFormed-scripts, changes-coloured, refs_to-coloured, s.well_formed, s.counts, s.none_zero, s.owned_there)
+  IsSound-coloured s = search (IsWellFormed-coloured, refs_to-coloured, s.well_formed, s.counts, s.none_zero, s.owned_there)
 
 -- Marking
 
