@@ -1,5 +1,5 @@
 -- A SWEEP LEAVES THE COLOUR INVARIANT, where black and the marks are closed.
-use Rattle.std.proofs.Common.{arith, ◌≡◌, ◌≢◌, ℕ, List, subst}
+use Rattle.std.proofs.Common.{arith, ◌≢◌, ℕ, List, subst}
 use Rattle.cc_lists.specs.Members.{Among}
 use Rattle.cc_lists.proofs.Members.{Among-map, Among-filter, Among-passes}
 use Rattle.cc_names.specs.declared.kind.Colour.TheVariants.{White}
