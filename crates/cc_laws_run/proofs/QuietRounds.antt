@@ -1,6 +1,6 @@
 -- A SWEEP OF CLOSED MARKS KEEPS WHAT IS REACHED, AND A SCRIPT COLLECTION DOES. Where each native that holds something is reached,
 -- a script collection leaves nothing else.
-use Rattle.std.proofs.Common.{◌≡◌, ℕ, true, List, [], ◌++◌, sym, ◌∙◌, ap, subst, ⊎_elim, Some}
+use Rattle.std.proofs.Common.{◌≡◌, ℕ, true, List, [], ◌++◌, sym, ◌∙◌, ap, subst, ⊎_elim}
 use Rattle.std.specs.List.{flat_map}
 use Rattle.cc_lists.specs.Members.{Among}
 use Rattle.cc_lists.proofs.Members.{Among-map_cases, Among-append, Among-filter, Among-flat_map_cases}
@@ -11,7 +11,7 @@ use Rattle.cc_model.specs.Slots.{contents}
 use Rattle.cc_model.specs.Entries.{joints, rules_of, Entry, Joint, joint}
 use Rattle.cc_model.specs.Heap.{Heap, HeapNative, HeapScript}
 use Rattle.cc_model.specs.View.{View, view, native_edges, script_edges, ReachedIn}
-use Rattle.cc_model.specs.WellFormed.{script_names, names_there}
+use Rattle.cc_model.specs.WellFormed.{names_there}
 use Rattle.cc_model.specs.Colours.{marked}
 use Rattle.cc_model.specs.Sweep.{unmarked, sweep, collect_scripts}
 use Rattle.cc_model.proofs.Joints.{derive-joint, joint-cases, Gives, gives-joint, its_key, its_value}
