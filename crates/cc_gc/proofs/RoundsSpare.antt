@@ -17,9 +17,9 @@ use Rattle.cc_model.specs.Sweep.{unmarked, sweep, collect_scripts}
 use Rattle.cc_model.specs.StandsFor.{shape_at, shape_of_held_script}
 use Rattle.cc_laws_heap.specs.Sound.{IsSound}
 use Rattle.cc_laws_heap.specs.Rounds.{is_not_among, FreesNames}
-use Rattle.cc_laws_heap.proofs.Face.{FreesNames-left, collect_scripts-frees, collect_scripts-sound, collecting-keeps, entry-named, is_entry_of-parts, is_not_among-from, is_spared_entry, round-entries, round-frees, round-natives, round-scripts, round-sound, spared-from, value_in-filter}
+use Rattle.cc_laws_heap.proofs.Face.{FreesNames-left, collect_scripts-frees, collect_scripts-sound, collecting-keeps, entry-named, is_entry_of-parts, is_not_among-from, is_spared_entry, left-stays, round-entries, round-frees, round-natives, round-scripts, round-sound, spared-from, value_in-filter}
 use Rattle.cc_laws_snapshot.proofs.Face.{native-edge, native_edges-alike, reached-kept, reached-there, script-edge, script-place}
-use Rattle.cc_laws_run.proofs.Face.{left-not_dead, round-keeps}
+use Rattle.cc_laws_run.proofs.Face.{round-keeps}
 use Rattle.cc_gc.specs.Sparing.{KeepsWhatIsReached, SparesWhatIsReached}
 use Rattle.cc_gc.proofs.Sparing.{HoldsNoMore, no_more-reached, native-shape, script-shape, keeps-same, keeps-then, unreached-after}
 
@@ -63,7 +63,7 @@ module _ {owned : List ℕ} (h : Heap) (s : IsSound owned h) where
 
   -- a script object that is reached was marked
   reached-marked : (x : Name) → is_script x ≡ true → ReachedIn (view h) x → ¬ (Among x (unmarked (marked h)))
-  reached-marked x script r = left-not_dead h s x (script-place next x script (round-there x r))
+  reached-marked x script r = left-stays (marked h) x (script-place next x script (round-there x r))
 
   -- a native that is left has its shape
   left-native : (x : Name) → Among x (native_names next) → shape_at next x ≡ shape_at h x

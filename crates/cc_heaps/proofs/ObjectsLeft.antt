@@ -1,5 +1,5 @@
--- WHAT A SWEEP LEAVES OF THE SCRIPT OBJECTS, where the colours are those of marking: nothing that stays holds what goes,
--- so what stays keeps its names.
+-- WHAT A SWEEP LEAVES OF THE SCRIPT OBJECTS, where the marks are closed: nothing that stays holds what goes, so what stays keeps
+-- its names.
 use Rattle.std.proofs.Common.{◌≡◌, ℕ, ◌==◌, Bool, true, false, not, List, map, Option, Some, None, refl, sym, ◌∙◌, ap, subst, arith}
 use Rattle.std.specs.List.{filter}
 use Rattle.std.specs.Option.{option_and_then}
@@ -17,9 +17,9 @@ use Rattle.cc_names.specs.Names.{object, same_name}
 use Rattle.cc_names.proofs.NameTests.{same_name-refl, same_name-exact}
 use Rattle.cc_model.specs.Slots.{contents}
 use Rattle.cc_model.specs.Heap.{HeapNative, HeapScript}
-use Rattle.cc_model.specs.Colours.{IsMarked, HasColours}
 use Rattle.cc_model.specs.Sweep.{unmarked}
-use Rattle.cc_laws_heap.proofs.Face.{black-register, is_spared, marked-black, marked-native_slot, marked-not_unmarked, marked-other, marked-place}
+use Rattle.cc_laws_heap.specs.Marks.{Stays, AreMarksClosed}
+use Rattle.cc_laws_heap.proofs.Face.{is_spared, stays-native_slot, stays-place}
 use Rattle.cc_model.specs.Places.{script_places_of}
 use Rattle.cc_script.specs.Objects.{Object, name_at, places_of}
 use Rattle.cc_script.proofs.PlacesOf.{slot-place, delegate-place}
@@ -52,7 +52,7 @@ named-slot p n k x i e =
     (subst (λ y. Among y (named_native p.scripts n).slots) e
     (Among-map (λ (y : Option Name). option_and_then (own_name p.scripts) y) (Some (object k)) n.slots (held-among n.slots (object k) i)))
 
-module _ {owned : List ℕ} (p : Inside) (l : IsLinked p) (o : IsInOrder owned (keyed_of p)) (c : HasColours (heap_of p)) where
+module _ {owned : List ℕ} (p : Inside) (l : IsLinked p) (o : IsInOrder owned (keyed_of p)) (c : AreMarksClosed (heap_of p)) where
   -- White or marked
 
   white-there : (q : Object) → Among q p.scripts → is_white q ≡ true → Among q.name (unmarked (heap_of p))
@@ -66,54 +66,51 @@ module _ {owned : List ℕ} (p : Inside) (l : IsLinked p) (o : IsInOrder owned (
       m (same_name-refl q.name) in
       ap is_white (sym same) ∙ Among-passes is_white f.0 p.scripts f.1
 
-  -- what is marked stays
-  marked-stays : (q : Object) → Among q p.scripts → IsMarked (heap_of p) q.name → stays q ≡ true
-  marked-stays q m d = go (is_white q) refl
+  -- an object whose name stays is not white
+  not_white-stays : (q : Object) → Among q p.scripts → Stays (heap_of p) q.name → stays q ≡ true
+  not_white-stays q m d = go (is_white q) refl
     where
       go : (b : Bool) → is_white q ≡ b → not b ≡ true
-      go true w = absurd (marked-not_unmarked (heap_of p) c q.name d (white-there q m w))
+      go true w = absurd (d (white-there q m w))
       go false w = refl
 
-  -- and what stays is marked
-  pub stays-marked : (q : Object) → Among q p.scripts → stays q ≡ true → IsMarked (heap_of p) q.name
-  stays-marked q m s = marked-other (heap_of p) c q.name
-      (Among-map (λ (r : HeapScript). r.name) (named_object p.scripts q) (heap_of p).scripts (Among-map (named_object p.scripts) q p.scripts m))
-      (λ i. true≢false (sym s ∙ ap not (there-white q m i)))
+  -- the name of an object that is not white stays
+  pub stays-not_white : (q : Object) → Among q p.scripts → stays q ≡ true → Stays (heap_of p) q.name
+  stays-not_white q m s i = true≢false (sym s ∙ ap not (there-white q m i))
 
   -- Names that are kept
 
   pub one_key-left : HasOneKey (left_objects p)
   one_key-left key = omega (arith, l.one_key key, count_by-filter-le (λ (q : Object). q.key == key) stays p.scripts)
 
-  -- a key whose object is marked has its name still
-  pub name-left : (k : ℕ) (x : Name) → name_at p.scripts k ≡ Some x → IsMarked (heap_of p) x → name_at (left_objects p) k ≡ name_at p.scripts k
+  -- a key whose object stays has its name still
+  pub name-left : (k : ℕ) (x : Name) → name_at p.scripts k ≡ Some x → Stays (heap_of p) x → name_at (left_objects p) k ≡ name_at p.scripts k
   name-left k x e d =
       let f = name_at-found p.scripts k x e in
-      let left : Among f.0 (left_objects p) = Among-filter stays f.0 p.scripts f.1 (marked-stays f.0 f.1 (subst (IsMarked (heap_of p)) (sym f.3) d)) in
+      let left : Among f.0 (left_objects p) = Among-filter stays f.0 p.scripts f.1 (not_white-stays f.0 f.1 (subst (Stays (heap_of p)) (sym f.3) d)) in
       subst (λ j. name_at (left_objects p) j ≡ Some f.0.name) f.2 (name_at-own (left_objects p) one_key-left f.0 left) ∙ (ap (λ y. Some y) f.3 ∙ sym e)
 
   -- so has each key that registers hold,
   pub register-left : (key : SKey) → Among (Some key) p.script_registers.items → name_at (left_objects p) key.0 ≡ name_at p.scripts key.0
   register-left key m =
       let f = there-named p.scripts key.0 (l.script_registers (Some key) m) in
-      name-left key.0 f.0 f.1 (marked-black (heap_of p) f.0 (black-register (heap_of p) f.0
-      ((register-names p l).named key.0 f.0 (key-register p.script_registers.items key m) f.1)))
+      name-left key.0 f.0 f.1 (c.registers f.0 ((register-names p l).named key.0 f.0 (key-register p.script_registers.items key m) f.1))
 
   -- each that natives hold,
   pub native-left : (n : HeapNative) (key : ℕ) → Among n p.counted.natives → Among (object key) (contents n.slots) → name_at (left_objects p) key ≡ name_at p.scripts key
   native-left n key m i =
       let f = there-named p.scripts key (l.held n (object key) m i) in
-      name-left key f.0 f.1 (marked-native_slot (heap_of p) (named_native p.scripts n) f.0 (Among-map (named_native p.scripts) n p.counted.natives m)
+      name-left key f.0 f.1 (stays-native_slot (heap_of p) c (named_native p.scripts n) f.0 (Among-map (named_native p.scripts) n p.counted.natives m)
       (named-slot p n key f.0 i f.1) (script-named p l key f.0 f.1))
 
   -- and each that is in a place of an object that stays
   place-left : (q : Object) (k : ℕ) → Among q p.scripts → stays q ≡ true → Among (Some k) (places_of q) → name_at (left_objects p) k ≡ name_at p.scripts k
   place-left q k m s i =
       let f = there-named p.scripts k (o.whole q k m i) in
-      name-left k f.0 f.1 (marked-place (heap_of p) (named_object p.scripts q) f.0 (Among-map (named_object p.scripts) q p.scripts m)
+      name-left k f.0 f.1 (stays-place (heap_of p) c (named_object p.scripts q) f.0 (Among-map (named_object p.scripts) q p.scripts m)
       (among-held (script_places_of (named_object p.scripts q)) f.0 (subst (Among (Some f.0)) (sym (named-places p.scripts q))
       (subst (λ y. Among y (map (name_held p.scripts) (places_of q))) f.1 (Among-map (name_held p.scripts) (Some k) (places_of q) i))))
-      (stays-marked q m s))
+      (stays-not_white q m s))
 
   pub objects-left : AreObjects (left_objects p)
   objects-left = record {

@@ -1,4 +1,4 @@
--- A SWEEP BY KEYS is the sweep of the definitions, where the colours are those of marking: what is left keeps its names.
+-- A SWEEP BY KEYS is the sweep of the definitions, where the marks are closed: what is left keeps its names.
 use Rattle.cc_lists.proofs.Held.{of-one}
 use Rattle.std.proofs.Common.{◌≡◌, ℕ, ◌+◌, Bool, true, false, not, List, [], ◌∷◌, ◌++◌, map, Option, Some, None, refl, sym, ◌∙◌, ap, subst, arith, inl, inr}
 use Rattle.std.specs.List.{flat_map}
@@ -14,12 +14,12 @@ use Rattle.cc_names.specs.declared.name.Name.{Name}
 use Rattle.cc_names.specs.Names.{native, object, same_name, behind}
 use Rattle.cc_model.specs.Slots.{contents}
 use Rattle.cc_model.specs.Heap.{Heap, HeapNative, Outcome}
-use Rattle.cc_model.specs.Colours.{HasColours}
 use Rattle.cc_model.specs.Counts.{times}
 use Rattle.cc_model.specs.Sweep.{unmarked, without_dead_entries, sweep}
 use Rattle.cc_model.specs.Sweep as model
 use Rattle.cc_model.specs.WellFormed.{native_names}
 use Rattle.cc_laws_heap.specs.Sound.{IsSound}
+use Rattle.cc_laws_heap.specs.Marks.{AreMarksClosed}
 use Rattle.cc_laws_heap.proofs.Face.{named-member, scripts-sweep, sweep-sound, times-append}
 use Rattle.cc_counted.specs.Counts.{number_at, number_or_none, the_number, key_left}
 use Rattle.cc_counted.specs.Counts as counts
@@ -112,7 +112,7 @@ module _ {besides : List ℕ} (p : Inside) (l : IsLinked p) (o : IsInOrder besid
       stay : List ℕ
       stay = flat_map behind (map (λ q. q.name) (not_white p.scripts))
 
-module _ {owned : List ℕ} (p : Inside) (l : IsLinked p) (o : IsInOrder owned (keyed_of p)) (c : HasColours (heap_of p)) where
+module _ {owned : List ℕ} (p : Inside) (l : IsLinked p) (o : IsInOrder owned (keyed_of p)) (c : AreMarksClosed (heap_of p)) where
   -- Natives that are left
 
   abbrev final : Left

@@ -1,20 +1,19 @@
 -- A SCRIPT COLLECTION KEEPS THE HEAPS SOUND, tells what it takes out, and leaves the colours of marking, none of them white.
 use Rattle.std.proofs.Common.{arith, ◌≡◌, ◌≢◌, ℕ, suc, List, [], ◌++◌, length, sym, ◌∙◌, ap, subst}
-use Rattle.cc_lists.specs.Members.{Among, has}
+use Rattle.cc_lists.specs.Members.{Among}
 use Rattle.cc_lists.proofs.Members.{Among-map, Among-filter}
 use Rattle.cc_names.specs.declared.name.Name.{Name}
-use Rattle.cc_names.specs.declared.kind.Colour.TheVariants.{White, Black}
-use Rattle.cc_names.specs.Names.{same_name}
+use Rattle.cc_names.specs.declared.kind.Colour.TheVariants.{White}
 use Rattle.cc_model.specs.Heap.{Heap, HeapScript, Outcome, silently}
 use Rattle.cc_model.specs.View.{view}
-use Rattle.cc_model.specs.Colours.{IsBlack, black_names, marked_names, marked, HasColours, HasColourInvariant}
+use Rattle.cc_model.specs.Colours.{marked, HasColours, HasColourInvariant}
 use Rattle.cc_model.specs.Sweep.{unmarked, sweep, collect_scripts}
 use Rattle.cc_laws_heap.specs.Sound.{IsSound}
 use Rattle.cc_laws_heap.specs.Rounds.{FreesNames}
 use Rattle.cc_laws_heap.proofs.Coloured.{IsColoured, HasColourInvariant-from}
 use Rattle.cc_laws_heap.proofs.FreedNames.{FreesNames-silently, FreesNames-then}
-use Rattle.cc_laws_heap.proofs.Marking.{colour_of, colour_of-black, black-decided, HasColours-marked}
-use Rattle.cc_laws_heap.proofs.MarkedKept.{black-register, black-place}
+use Rattle.cc_laws_heap.proofs.Marking.{HasColours-marked}
+use Rattle.cc_laws_heap.proofs.MarkedKept.{IsBlackClosed-colours}
 use Rattle.cc_laws_heap.proofs.MarkingKeeps.{round-sound, round-frees}
 use Rattle.cc_laws_heap.proofs.RoundsEnd.{next_round, rounds-keep, collect_scripts-marked}
 
@@ -46,15 +45,6 @@ collect_scripts-colours h = let g = collect_scripts-marked h in subst HasColours
 pub collect_scripts-unmarked : (h : Heap) → unmarked (collect_scripts h).heap ≡ []
 collect_scripts-unmarked h = let g = collect_scripts-marked h in ap unmarked g.1 ∙ g.2
 
-module _ (h : Heap) (c : HasColours h) where
-  -- a black script object is black by the rules
-  pub black-is : (o : HeapScript) → Among o h.scripts → o.colour ≡ Black → IsBlack h o.name
-  black-is o m e = (black-decided h o.name).0 (colour_of-black (has same_name (black_names h) o.name) (has same_name (marked_names h) o.name) (sym (c o m) ∙ e))
-
-  -- and what is black by the rules is black
-  pub is-black : (o : HeapScript) → Among o h.scripts → IsBlack h o.name → o.colour ≡ Black
-  is-black o m d = c o m ∙ ap (λ b. colour_of b (has same_name (marked_names h) o.name)) ((black-decided h o.name).1 d)
-
 module _ (h : Heap) (c : HasColours h) (none : unmarked h ≡ []) where
   -- where nothing is unmarked no script object is white
   none-white : (o : HeapScript) → Among o h.scripts → o.colour ≢ White
@@ -62,7 +52,7 @@ module _ (h : Heap) (c : HasColours h) (none : unmarked h ≡ []) where
 
   -- Colours of marking, none of them white, keep the colour invariant.
   IsColoured-colours : IsColoured h
-  IsColoured-colours = search (is-black, black-place, black-is, black-register, none-white)
+  IsColoured-colours = let b = IsBlackClosed-colours h c in record { black_to_black = b.places; held_black = b.registers; none_white = none-white }
 
 -- A SCRIPT COLLECTION LEAVES THE COLOUR INVARIANT.
 pub collect_scripts-invariant : {owned : List ℕ} (h : Heap) → IsSound owned h → HasColourInvariant (view (collect_scripts h).heap)

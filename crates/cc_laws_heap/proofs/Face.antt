@@ -3,7 +3,7 @@ pub use Rattle.cc_laws_heap.proofs.Buffer.{places-with_mark_other, places-with_m
 pub use Rattle.cc_laws_heap.proofs.CascadeTakesOut.{TakesOut-cascade, TakesOut-let_go, let_go-gone}
 pub use Rattle.cc_laws_heap.proofs.Cascades.{above-one_at_zero, cascade-frees, cascade-sound, one_above_zero-above, one_at_zero-above}
 pub use Rattle.cc_laws_heap.proofs.Changing.{Follows-left, Leaves, option_map-found}
-pub use Rattle.cc_laws_heap.proofs.CollectedColours.{black-is, collect_scripts-colours, collect_scripts-frees, collect_scripts-invariant, collect_scripts-sound, collect_scripts-unmarked, collecting-keeps, is-black}
+pub use Rattle.cc_laws_heap.proofs.CollectedColours.{collect_scripts-colours, collect_scripts-frees, collect_scripts-invariant, collect_scripts-sound, collect_scripts-unmarked, collecting-keeps}
 pub use Rattle.cc_laws_heap.proofs.ColourChanges.{AreColoured-push, AreColoured-slot, IsHeldBlack, exposed-black}
 pub use Rattle.cc_laws_heap.proofs.Coloured.{AreColoured-from_view, HasColourInvariant-from, IsColoured}
 pub use Rattle.cc_laws_heap.proofs.CommandsColours.{done_in-coloured, effects-coloured, taken_out-black, taken_out-coloured}
@@ -36,7 +36,8 @@ pub use Rattle.cc_laws_heap.proofs.LedReached.{reached-led}
 pub use Rattle.cc_laws_heap.proofs.MadeAlike.{Follows-made, IsMade}
 pub use Rattle.cc_laws_heap.proofs.MadeSound.{with_native-sound, with_script-sound}
 pub use Rattle.cc_laws_heap.proofs.Making.{IsRising-push, contents-empty, contents-empty_none, places-with_mark, with_mark-cases}
-pub use Rattle.cc_laws_heap.proofs.MarkedKept.{black-place, black-register, marked-black, marked-delegate, marked-native_slot, marked-not_unmarked, marked-other, marked-place, marked-value}
+pub use Rattle.cc_laws_heap.proofs.MarkedKept.{AreMarksClosed-colours, IsBlackClosed-colours}
+pub use Rattle.cc_laws_heap.proofs.MarksClosed.{stays-delegate, stays-native_slot, stays-place, stays-value}
 pub use Rattle.cc_laws_heap.proofs.MarkedWellFormed.{is_spared, is_spared_entry}
 pub use Rattle.cc_laws_heap.proofs.Marking.{HasColours-marked, as_marked, colour_of}
 pub use Rattle.cc_laws_heap.proofs.MarkingKeeps.{IsSound-marked, round-frees, round-sound, script_names-marked}
@@ -53,8 +54,8 @@ pub use Rattle.cc_laws_heap.proofs.ReachedReads.{native_of-reached, script-behin
 pub use Rattle.cc_laws_heap.proofs.References.{native-there, refs_to-removed, refs_to-slot, refs_to-there, times-among, times-append, times-cons, times-cons_other, times-cons_same, times-natives_in, times-some}
 pub use Rattle.cc_laws_heap.proofs.RepliesAlike.{delegate-stands, objects-stand, refusal_of-alike, reply_if_taken-alike}
 pub use Rattle.cc_laws_heap.proofs.Rising.{IsRising-filter, IsRising-once}
-pub use Rattle.cc_laws_heap.proofs.RoundParts.{round-entries, round-natives, round-scripts, value_in-filter}
-pub use Rattle.cc_laws_heap.proofs.RoundsStand.{collect_scripts-stands, round-stands, spared-from}
+pub use Rattle.cc_laws_heap.proofs.RoundParts.{left-stays, round-entries, round-natives, round-scripts, value_in-filter}
+pub use Rattle.cc_laws_heap.proofs.RoundsStand.{collect_scripts-stands, marked-stands, spared-from, sweep-stands}
 pub use Rattle.cc_laws_heap.proofs.ScriptCommands.{IsDelegate, IsNewScript-object, make_proxy-sound, no_delegate, with_reflector-sound}
 pub use Rattle.cc_laws_heap.proofs.ScriptNames.{delegate_at-found, entry-named, script-named, script_names-named, scripts-once}
 pub use Rattle.cc_laws_heap.proofs.ScriptsKept.{exposed-sound, hold_script-sound, is_one_of, native-no_script, script_names-exposed, script_slot-sound}
@@ -63,7 +64,8 @@ pub use Rattle.cc_laws_heap.proofs.SlotsWritten.{Follows-preserved, Follows-slot
 pub use Rattle.cc_laws_heap.proofs.Standing.{follows-stands}
 pub use Rattle.cc_laws_heap.proofs.StandingOn.{add_ref-stands, cascade-stands, unlink-stands}
 pub use Rattle.cc_laws_heap.proofs.StepsAlike.{Follows-hold, Follows-hold_script, Follows-set_entry}
-pub use Rattle.cc_laws_heap.proofs.Swept.{beside-sweep, scripts-sweep, sweep-sound}
+pub use Rattle.cc_laws_heap.proofs.SweepColours.{sweep-colours, sweep-invariant}
+pub use Rattle.cc_laws_heap.proofs.Swept.{scripts-sweep, sweep-sound}
 pub use Rattle.cc_laws_heap.proofs.Taken.{IsTaken, IsTaken-from}
 pub use Rattle.cc_laws_heap.proofs.TakingAway.{IsSound-permuted, IsTaking, others-kept, take_away-leaves, take_away-sound, take_away-takes, taken-emptied, unroot_each-taking}
 pub use Rattle.cc_laws_heap.proofs.Unlinking.{Unlinks, unlink-keeps}

@@ -61,7 +61,9 @@ pub mod FreedNames
 pub mod TakenOut
 pub mod SweepBalance
 pub mod SweepEach
+pub mod Led
 pub mod MarkedKept
+pub mod MarksClosed
 pub mod MarkedWellFormed
 pub mod Swept
 pub mod MarkingKeeps
@@ -69,6 +71,7 @@ pub mod RoundsEnd
 pub mod CollectedColours
 pub mod ReachedMarked
 pub mod RoundParts
+pub mod SweepColours
 pub mod RoundsStand
 pub mod RepliesAlike
 pub mod Numbered

@@ -1,5 +1,5 @@
--- A SWEEP LEAVES SOUND HEAPS, where the colours are those of marking: the unmarked script objects are gone, and the
--- natives that lost their last reference.
+-- A SWEEP takes out the unmarked script objects, and the natives that lost their last reference. It leaves sound heaps, where the
+-- marks are closed.
 use Rattle.std.proofs.Common.{◌≡◌, ℕ, Bool, List, [], refl, subst, arith}
 use Rattle.std.specs.List.{filter}
 use Rattle.cc_lists.specs.Members.{Among}
@@ -9,11 +9,11 @@ use Rattle.cc_lists.proofs.Filtering.{count_by-filter-le}
 use Rattle.cc_names.specs.declared.name.Name.{Name}
 use Rattle.cc_names.specs.Names.{native, same_name}
 use Rattle.cc_model.specs.Heap.{Heap, HeapScript, silently, is_white_colour}
-use Rattle.cc_model.specs.Colours.{HasColours}
 use Rattle.cc_model.specs.Sweep.{unmarked, without_dead_entries, sweep}
 use Rattle.cc_model.specs.WellFormed.{script_names}
 use Rattle.cc_laws_heap.specs.Sound.{IsSound}
 use Rattle.cc_laws_heap.specs.Freeing.{SameBeside}
+use Rattle.cc_laws_heap.specs.Marks.{AreMarksClosed}
 use Rattle.cc_laws_heap.specs.Rounds.{FreesNames, is_not_among}
 use Rattle.cc_laws_heap.proofs.Cascades.{IsBalanced-at_rest, IsSound-steady}
 use Rattle.cc_laws_heap.proofs.ScriptNames.{script-named, scripts-once, place-there}
@@ -23,7 +23,7 @@ use Rattle.cc_laws_heap.specs.Stages.{stage}
 use Rattle.cc_laws_heap.specs.Stages.Done.{nothing}
 use Rattle.cc_laws_heap.proofs.ScriptsKept.{native-no_script}
 use Rattle.cc_laws_heap.proofs.SweepEach.{IsToSweep, DoneBy, scripts-sweep_each, TakesOut-sweep_each}
-use Rattle.cc_laws_heap.proofs.MarkedKept.{unmarked-white}
+use Rattle.cc_laws_heap.proofs.Led.{unmarked-white}
 use Rattle.cc_laws_heap.proofs.MarkedWellFormed.{is_spared, is_spared_entry, spared, IsWellFormed-spared}
 use Rattle.cc_laws_heap.proofs.FreedNames.{FreesNames-alike}
 
@@ -32,7 +32,7 @@ pub scripts-sweep : (h : Heap) → (sweep h).heap.scripts ≡ filter (is_spared 
 unfolding sweep
 scripts-sweep h = scripts-sweep_each (unmarked h) (silently (without_dead_entries (unmarked h) h))
 
-module _ {owned : List ℕ} (h : Heap) (c : HasColours h) (s : IsSound owned h) where
+module _ {owned : List ℕ} (h : Heap) (s : IsSound owned h) where
   -- the unmarked are to be swept
   to_sweep : IsToSweep owned (unmarked h) (without_dead_entries (unmarked h) h)
   to_sweep =
@@ -69,7 +69,7 @@ module _ {owned : List ℕ} (h : Heap) (c : HasColours h) (s : IsSound owned h) 
   pub sweep-frees : FreesNames h taken-sweep.0 (sweep h)
   sweep-frees = FreesNames-alike h h.scripts (without_dead_entries (unmarked h) h).entries taken-sweep.0 (sweep h) refl taken-sweep.1.names
 
-  -- The entries that are left are those whose map and key are marked.
+  -- The entries that are left are those whose map and key are not unmarked.
   pub entries-sweep : (sweep h).heap.entries ≡ filter (is_spared_entry (unmarked h)) h.entries
   entries-sweep = taken-sweep.1.entries
 
@@ -77,7 +77,9 @@ module _ {owned : List ℕ} (h : Heap) (c : HasColours h) (s : IsSound owned h) 
   pub beside-sweep : SameBeside (spared (unmarked h) h) (sweep h).heap
   beside-sweep = grind (arith, taken-sweep, scripts-sweep, entries-sweep)
 
-  -- A SWEEP LEAVES SOUND HEAPS.
-  pub sweep-sound : IsSound owned (sweep h).heap
-  sweep-sound = IsSound-steady owned (spared (unmarked h) h) (sweep h).heap (λ j. is_not_among taken-sweep.0 (native j)) (IsWellFormed-spared h c s.well_formed)
-      taken-sweep.1.natives beside-sweep taken-sweep.2
+-- A SWEEP LEAVES SOUND HEAPS, where the marks are closed.
+pub sweep-sound : {owned : List ℕ} (h : Heap) → AreMarksClosed h → IsSound owned h → IsSound owned (sweep h).heap
+sweep-sound {owned} h c s =
+    let t = taken-sweep h s in
+    IsSound-steady owned (spared (unmarked h) h) (sweep h).heap (λ j. is_not_among t.0 (native j)) (IsWellFormed-spared h c s.well_formed)
+    t.1.natives (beside-sweep h s) t.2

@@ -10,11 +10,12 @@ ghost use Rattle.cc_model.specs.WellMade.{IsWellMade};
 ghost use Rattle.cc_model.specs.Reached.{Reached};
 ghost use Rattle.cc_model.specs.Heap.{Heap, HeapScript};
 ghost use Rattle.cc_model.specs.View.{view};
-ghost use Rattle.cc_model.specs.WellFormed.{names_there};
+ghost use Rattle.cc_model.specs.WellFormed.{IsWellFormed};
 ghost use Rattle.cc_model.specs.Colours.{HasColours, HasColourInvariant, IsBlack, IsGray, marked};
-ghost use Rattle.cc_model.specs.Sweep.{collect_scripts, unmarked};
+ghost use Rattle.cc_model.specs.Sweep.{collect_scripts, sweep, unmarked};
 ghost use Rattle.cc_model.specs.StandsFor.{StandsFor};
 ghost use Rattle.cc_laws_heap.specs.Sound.{IsSound};
+ghost use Rattle.cc_laws_heap.specs.Marks.{AreMarksClosed, IsBlackClosed};
 ghost use Rattle.cc_laws_heap.specs.Rounds.{FreesNames};
 
 /// Marking gives each script object the colour of its least set.
@@ -33,6 +34,20 @@ pub fn rounds_keep_counts()
     ensures last { (h : Heap) → (g : Heap) × ((collect_scripts h).heap ≡ marked g) × (unmarked (marked g) ≡ []) }
     ensures invariant { (h : Heap) → IsSound [] h → HasColourInvariant (view (collect_scripts h).heap) }
     ensures frees { (h : Heap) → IsSound [] h → (xs : List Name) × FreesNames h xs (collect_scripts h) }
+{}
+
+/// A sweep needs no more of the colours than that the marks are closed, as those of marking are. Then it leaves the heaps
+/// sound and standing for the same graph, and frees nothing that a register reaches. If black is closed too, as it is by
+/// marking, no script object is white afterwards and the colour invariant holds. What a sweep tells is what it takes out,
+/// whatever the colours.
+pub fn sweeps_stand()
+    ensures closed { (h : Heap) → HasColours h → IsWellFormed h → AreMarksClosed h × IsBlackClosed h }
+    ensures sound { (owned : List ℕ) (h : Heap) → AreMarksClosed h → IsSound owned h → IsSound owned (sweep h).heap }
+    ensures invariant { (h : Heap) → AreMarksClosed h → IsBlackClosed h → IsSound [] h → HasColourInvariant (view (sweep h).heap) }
+    ensures frees { (h : Heap) → IsSound [] h → (xs : List Name) × FreesNames h xs (sweep h) }
+    ensures stands { (h : Heap) (g : Graph) → AreMarksClosed h → IsSound [] h → IsWellMade g → StandsFor h g → StandsFor (sweep h).heap g }
+    ensures freed { (h : Heap) (g : Graph) (x : Name) → AreMarksClosed h → IsSound [] h → IsWellMade g → StandsFor h g →
+        Among (Freed x) (sweep h).events → ¬ (Reached g x) }
 {}
 
 /// The heaps go on standing for the same graph, and nothing that a register reaches is freed.

@@ -10,7 +10,7 @@ pub use Rattle.cc_laws_run.proofs.Listing.{filter-first, filter-second}
 pub use Rattle.cc_laws_run.proofs.MissesLost.{lost-doomed, lost-keeps}
 pub use Rattle.cc_laws_run.proofs.PlainLawful.{run-lawful}
 pub use Rattle.cc_laws_run.proofs.PlainQuiet.{run-quiet}
-pub use Rattle.cc_laws_run.proofs.QuietRounds.{collected-reached, left-not_dead, round-keeps}
+pub use Rattle.cc_laws_run.proofs.QuietRounds.{collected-reached, round-keeps}
 pub use Rattle.cc_laws_run.proofs.QuietTaken.{emptied-none, take_away-keeps}
 pub use Rattle.cc_laws_run.proofs.QuietUnits.{collect-none, collect-tidy, gc-collects, gc-none, with_empty_buffer-sound}
 pub use Rattle.cc_laws_run.proofs.ScriptsLawful.{gc-lawful}

@@ -25,5 +25,5 @@ pub use Rattle.cc_laws_snapshot.proofs.ReachedStays.{IsTidy, native-edge, native
 pub use Rattle.cc_laws_snapshot.proofs.ScriptParts.{not_gray-held, script_slot-gentle, set_entry-gentle}
 pub use Rattle.cc_laws_snapshot.proofs.SoundView.{living-native, named-there, native-name_of, script-place}
 pub use Rattle.cc_laws_snapshot.proofs.States.{gone-not_traversed}
-pub use Rattle.cc_laws_snapshot.proofs.SweepLoses.{collect_scripts-suspected}
+pub use Rattle.cc_laws_snapshot.proofs.SweepLoses.{collect_scripts-suspected, sweep-suspected}
 pub use Rattle.cc_laws_snapshot.proofs.WhiteNatives.{taking_white-colours, taking_white-sound, white_natives-there, white_natives-unreached}

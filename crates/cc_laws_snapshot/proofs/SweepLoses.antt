@@ -1,4 +1,4 @@
--- A SCRIPT COLLECTION LOSES: each native that a swept reflector gave up is purple or gone.
+-- A SWEEP LOSES, AND A SCRIPT COLLECTION DOES: each native that a swept reflector gave up is purple or gone.
 use Rattle.std.proofs.Common.{arith, ◌≡◌, ℕ, not, List, [], ◌∷◌, ◌++◌, refl, sym, ◌∙◌, ap, inl, inr, ◌⊎◌, ⊎_elim}
 use Rattle.std.specs.List.{flat_map}
 use Rattle.std.proofs.lemmas.Bool.{cases_Bool}
@@ -15,21 +15,22 @@ use Rattle.cc_model.specs.Colours.{marked}
 use Rattle.cc_model.specs.Sweep.{unmarked, without_dead_entries, without_script, sweep, collect_scripts}
 use Rattle.cc_model.specs.Suspected.{IsSuspected}
 use Rattle.cc_laws_heap.specs.Sound.{IsSound}
+use Rattle.cc_laws_heap.specs.Marks.{AreMarksClosed}
 use Rattle.cc_laws_heap.specs.Stages.{Stage, stage, HoldNoNatives, Sweeping}
 use Rattle.cc_laws_heap.specs.Stages.Sweeping.{swept_object, swept_reflector}
 use Rattle.cc_lists.proofs.ListWrites.{flat_map-kept}
-use Rattle.cc_laws_heap.proofs.Marking.{as_marked, HasColours-marked}
+use Rattle.cc_laws_heap.proofs.Marking.{as_marked}
 use Rattle.cc_laws_heap.proofs.MarkingKeeps.{IsSound-marked}
 use Rattle.cc_laws_heap.proofs.Folding.{done-keeps}
-use Rattle.cc_laws_heap.proofs.Swept.{taken-sweep}
+use Rattle.cc_laws_heap.proofs.Swept.{taken-sweep, sweep-sound}
 use Rattle.cc_laws_heap.proofs.CollectedColours.{collecting-keeps, collect_scripts-sound}
 use Rattle.cc_laws_heap.proofs.ViewEdges.{script_edges-are}
 use Rattle.cc_laws_snapshot.proofs.LoyalSuspected.{loyal-suspected, loses-loyal}
 use Rattle.cc_laws_snapshot.proofs.LosesTo.{IsLost, LosesTo, LosesTo-refl, LosesTo-trans, LosesTo-loses}
 use Rattle.cc_laws_snapshot.proofs.CascadeLoses.{LosesIn, losing-kept}
 
--- marking changes no edge
-edges-marked : (h : Heap) → (view (marked h)).edges ≡ (view h).edges
+-- Marking changes no edge.
+pub edges-marked : (h : Heap) → (view (marked h)).edges ≡ (view h).edges
 unfolding marked
 edges-marked h = ap (λ es. flat_map native_edges h.natives ++ es) (flat_map-kept script_edges (as_marked h) h.scripts (λ o. refl))
 
@@ -74,17 +75,27 @@ sweeping-loses : (s : Stage) (es : List Event) (t : Stage) → Sweeping s es t �
 sweeping-loses _ _ _ (swept_object h k bare) = swept-loses [] h (object k) bare (λ i e. absurd (cc))
 sweeping-loses _ _ _ (swept_reflector h k bare) = swept-loses (k ∷ []) h (reflector k) bare (λ i e. inl (ap number_of e))
 
+-- A sweep loses.
+sweep-loses : {owned : List ℕ} (h : Heap) → IsSound owned h → LosesTo (stage [] [] h) (stage [] [] (sweep h).heap)
+sweep-loses h s =
+    let g : Heap = without_dead_entries (unmarked h) h in
+    let end : Stage = stage [] [] (sweep h).heap in
+    LosesTo-trans (stage [] [] h) (stage [] [] g) end (entries-lose h g.entries)
+    (done-keeps LosesIn Sweeping losing-kept sweeping-loses (stage [] [] g) (sweep h).events end (taken-sweep h s).3)
+
+-- A SWEEP OF CLOSED MARKS KEEPS EVERY UNREACHED NATIVE SUSPECTED, where no collection runs.
+pub sweep-suspected : {owned : List ℕ} (h : Heap) → AreMarksClosed h → IsSound owned h → IsSuspected (view h) [] → IsSuspected (view (sweep h).heap) []
+sweep-suspected h c s suspected =
+    let end : Heap = (sweep h).heap in
+    let later = (sweep-sound h c s).well_formed in
+    loyal-suspected h end [] s.well_formed later (loses-loyal (view h) (view end) (LosesTo-loses [] h end later (sweep-loses h s))) suspected
+
 -- Rounds
 
 -- A round loses.
 round-loses : {owned : List ℕ} (h : Heap) → IsSound owned h → LosesTo (stage [] [] h) (stage [] [] (sweep (marked h)).heap)
-round-loses {owned} h s =
-    let m : Heap = marked h in
-    let g : Heap = without_dead_entries (unmarked m) m in
-    let end : Stage = stage [] [] (sweep m).heap in
-    LosesTo-trans (stage [] [] h) (stage [] [] m) end (marked-loses h)
-    (LosesTo-trans (stage [] [] m) (stage [] [] g) end (entries-lose m g.entries)
-    (done-keeps LosesIn Sweeping losing-kept sweeping-loses (stage [] [] g) (sweep m).events end (taken-sweep m (HasColours-marked h) (IsSound-marked owned h s)).3))
+round-loses {owned} h s = LosesTo-trans (stage [] [] h) (stage [] [] (marked h)) (stage [] [] (sweep (marked h)).heap) (marked-loses h)
+    (sweep-loses (marked h) (IsSound-marked owned h s))
 
 -- A script collection loses.
 collect_scripts-loses : {owned : List ℕ} (h : Heap) → IsSound owned h → LosesTo (stage [] [] h) (stage [] [] (collect_scripts h).heap)
@@ -92,7 +103,7 @@ collect_scripts-loses h s = collecting-keeps (λ o. LosesTo (stage [] [] h) (sta
     (λ o c l. LosesTo-trans (stage [] [] h) (stage [] [] o.heap) (stage [] [] (sweep (marked o.heap)).heap) l (round-loses o.heap c))
     h s (LosesTo-refl (stage [] [] h))
 
--- SO IT KEEPS EVERY UNREACHED NATIVE SUSPECTED.
+-- A SCRIPT COLLECTION KEEPS EVERY UNREACHED NATIVE SUSPECTED.
 pub collect_scripts-suspected : {owned : List ℕ} (h : Heap) → IsSound owned h → IsSuspected (view h) [] → IsSuspected (view (collect_scripts h).heap) []
 collect_scripts-suspected h s suspected =
     let end : Heap = (collect_scripts h).heap in

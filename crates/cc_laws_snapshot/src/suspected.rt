@@ -8,7 +8,7 @@ ghost use Rattle.cc_model.specs.Heap.{Heap, empty_heap, objects_of};
 ghost use Rattle.cc_model.specs.View.{view};
 ghost use Rattle.cc_model.specs.Effects.{effects};
 ghost use Rattle.cc_model.specs.Colours.{HasColourInvariant};
-ghost use Rattle.cc_model.specs.Sweep.{collect_scripts};
+ghost use Rattle.cc_model.specs.Sweep.{collect_scripts, sweep};
 ghost use Rattle.cc_model.specs.Snapshot.{Snapshot, white_natives};
 ghost use Rattle.cc_model.specs.Units.{candidates_of, with_empty_buffer};
 ghost use Rattle.cc_model.specs.End.{give_back, take_away};
@@ -16,6 +16,7 @@ ghost use Rattle.cc_model.specs.Fresh.{IsFresh, IsTraversed};
 ghost use Rattle.cc_model.specs.Suspected.{IsSuspected};
 ghost use Rattle.cc_model.specs.WellFormed.{IsWellFormed};
 ghost use Rattle.cc_laws_heap.specs.Sound.{IsSound};
+ghost use Rattle.cc_laws_heap.specs.Marks.{AreMarksClosed};
 ghost use Rattle.cc_laws_snapshot.specs.Losing.{IsLoyal};
 
 /// Each command that is not refused keeps every unreached native suspected, for each list of candidates.
@@ -26,13 +27,15 @@ pub fn commands_keep_suspected()
 {}
 
 /// A collection forgets no unreached native: its begin hands the suspects on to the candidates, its end and its
-/// abandonment leave every unreached native suspected with no candidates, and so does a script collection.
+/// abandonment leave every unreached native suspected with no candidates. So does a sweep of closed marks, while no collection
+/// runs, and a script collection.
 pub fn collections_keep_suspected()
     ensures begin { (h : Heap) → IsSound [] h → IsSuspected (view h) [] → IsSuspected (view (with_empty_buffer h)) (candidates_of h) }
     ensures abandonment { (h : Heap) (candidates : List ℕ) → IsSound [] h → IsSuspected (view h) candidates →
         IsSuspected (view (give_back candidates h)) [] }
     ensures end { (h : Heap) (s : Snapshot) → IsSound [] h → IsFresh h.natives_made (view h) s → IsTraversed s →
         IsSuspected (view h) s.candidates → IsSuspected (view (take_away (white_natives h s) h).heap) [] }
+    ensures sweep { (h : Heap) → AreMarksClosed h → IsSound [] h → IsSuspected (view h) [] → IsSuspected (view (sweep h).heap) [] }
     ensures rounds { (h : Heap) → IsSound [] h → IsSuspected (view h) [] → IsSuspected (view (collect_scripts h).heap) [] }
 {}
 

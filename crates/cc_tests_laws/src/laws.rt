@@ -4,7 +4,7 @@ use cc_laws_heap::{
     cascade_keeps_counts, commands_keep_colours, commands_keep_counts, commands_stand,
     ends_keep_counts, ends_stand, graphs_are_well_made, marking_is_least, paths_agree,
     paths_are_right, reached_alike, replies_agree, rounds_keep_counts, rounds_stand,
-    unlinking_keeps_counts,
+    sweeps_stand, unlinking_keeps_counts,
 };
 use cc_laws_run::{
     asks_keep_suspected, collections_after_gc_miss_nothing, collections_are_lawful,
@@ -66,6 +66,7 @@ fn laws_of_the_heap_can_be_called() {
     marking_is_least();
     rounds_keep_counts();
     rounds_stand();
+    sweeps_stand();
     unlinking_keeps_counts();
     ends_keep_counts();
     ends_stand();

@@ -1,9 +1,10 @@
 //! White script objects swept.
 ghost use Rattle.std.specs.Prelude.{◌≡◌, ◌≤◌, ◌==◌, ℕ, List, [], count_by, map, Some, option_map, option_to_list, IsTrue, if◌then◌else◌, ◌<◌};
 ghost use Rattle.cc_model.specs.Telling.{TellsEvents};
-ghost use Rattle.cc_model.specs.Colours.{HasColours, HasColourInvariant};
+ghost use Rattle.cc_model.specs.Colours.{HasColourInvariant};
 ghost use Rattle.cc_model.specs.Sweep.{sweep, sweeps};
 ghost use Rattle.cc_model.specs.View.{view};
+ghost use Rattle.cc_laws_heap.specs.Marks.{AreMarksClosed, IsBlackClosed};
 ghost use Rattle.cc_script.specs.Objects.{Object, is_there, object_at, without_object};
 ghost use Rattle.cc_counted.specs.Counts.{key_left, the_number};
 ghost use Rattle.cc_counted.specs.Owning.{Transfers};
@@ -118,17 +119,18 @@ impl Heaps {
     /// told and removed. A reflector's native forgets it, and the reference that it owned is given up, with all that it
     /// deletes, before the next object is swept. Whether something was swept.
     ///
-    /// Called where the colours are those of marking. Takes no memory.
+    /// Called where the marks are closed, as those of `mark_scripts` are: what is not white leads to nothing white. Takes no
+    /// memory.
     pub fn sweep<N: Notices>(&mut self, out: &mut N) -> bool
         requires order { (owned : List ℕ) × IsInOrder owned self.old }
-        requires colours { HasColours self.old.heap }
+        requires closed { AreMarksClosed self.old.heap }
         ensures swept { result ≡ sweeps self.old.heap }
         ensures heap { self.new.heap ≡ (sweep self.old.heap).heap }
         ensures told { TellsEvents (N.telling out.old) (N.telling out.new) (sweep self.old.heap).events }
         ensures natives { self.new.keys ≡ map (key_left self.new.heap) self.old.keys }
         ensures kept { KeepsHeaps [] [] self.old self.new }
         ensures stands { StillStands self.old.heap self.new.heap }
-        ensures invariant { HasColourInvariant (view self.new.heap) }
+        ensures invariant { IsBlackClosed self.old.heap → HasColourInvariant (view self.new.heap) }
     {
         sweep_all(&mut self.weak, &mut self.counted, &mut self.scripts, out)
     }

@@ -1,5 +1,5 @@
 use Rattle.cc_laws_snapshot.proofs.GivingBack.{begin-suspected, give_back-suspected}
-use Rattle.cc_laws_snapshot.proofs.SweepLoses.{collect_scripts-suspected}
+use Rattle.cc_laws_snapshot.proofs.SweepLoses.{collect_scripts-suspected, sweep-suspected}
 use Rattle.cc_laws_snapshot.proofs.EndSuspected.{end-suspected}
 use Rattle.cc_laws_snapshot.proofs.suspected.collections_keep_suspected.Goals as goal
 
@@ -11,6 +11,9 @@ returns-clause-abandonment c = λ h candidates sound s. give_back-suspected h ca
 
 pub returns-clause-end : goal.returns-clause-end
 returns-clause-end c = λ h s sound fresh all suspected. end-suspected h s sound fresh all suspected
+
+pub returns-clause-sweep : goal.returns-clause-sweep
+returns-clause-sweep c = λ h closed sound s. sweep-suspected h closed sound s
 
 pub returns-clause-rounds : goal.returns-clause-rounds
 returns-clause-rounds c = λ h sound s. collect_scripts-suspected h sound s

@@ -11,9 +11,8 @@ use Rattle.cc_heaps.proofs.EntryNames.{delegates-order}
 use Rattle.cc_heaps.proofs.ReferenceNames.{few_slots-counted}
 use Rattle.cc_heaps.proofs.RootNames.{register-there, native-there}
 use Rattle.cc_heaps.proofs.MarkedObjects.{marked_objects, heap-marked, keys-marked, order-marked, linked-marked}
-use Rattle.cc_laws_heap.proofs.Face.{HasColours-marked}
+use Rattle.cc_laws_heap.proofs.Face.{HasColours-marked, marked-stands}
 use Rattle.cc_heaps.proofs.FewCounts.{few-owned}
-use Rattle.cc_heaps.proofs.StandingStill.{marked-still}
 use Rattle.cc_heaps.proofs.heaps.Heaps.mark_scripts.Goals as goal
 
 pub new-held-requires : goal.new-held-requires
@@ -60,7 +59,7 @@ invariant_of-self c =
     subst (λ os. IsLinked (with_objects p os)) (objects c) (linked-marked p c.self.invariant (rw (← c.self.view_is) at c.requires.order).1)
 
 pub returns-clause-stands : goal.returns-clause-stands
-returns-clause-stands c = rw (returns-clause-heap c) ((marked-still c.args.self.now.heap c.requires.order.1.sound))
+returns-clause-stands c = rw (returns-clause-heap c) (λ g m t. marked-stands c.args.self.now.heap g c.requires.order.1.sound m t)
 
 pub returns-clause-kept : goal.returns-clause-kept
 returns-clause-kept c = record {
