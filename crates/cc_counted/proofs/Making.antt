@@ -152,11 +152,13 @@ module _ (l : Lists) (p : IsPlaced l) (key : ℕ) (d : Placed) (cells : List (Op
   pub vacant-before : number_at (counts_of l) key ≡ None
   vacant-before = number_at-cells l.cells key ∙ ap cell_number vacant
 
-  pub Makes-made : size ≤ most_slots → d.preserved ≡ false → d.reflector ≡ None → d.count ≡ 1 → Makes (counts_of l) (counts_of (made l cells key)) key d.number size
-  Makes-made few off bare one = record {
+  pub Makes-made : size ≤ most_slots → d.preserved ≡ false → d.unlinked ≡ false → d.reflector ≡ None → d.count ≡ 1 →
+      Makes (counts_of l) (counts_of (made l cells key)) key d.number size
+  Makes-made few off linked bare one = record {
     natives = natives-made
         ∙ (ap (λ on. (counts_of l).natives ++ record (shown_with (empty_slots size) d) { preserved = on } ∷ []) off
-        ∙ ap (λ n. (counts_of l).natives ++ record (new_native d.number size) { count = n } ∷ []) one);
+        ∙ (ap (λ on. (counts_of l).natives ++ record (shown_with (empty_slots size) d) { preserved = false; unlinked = on } ∷ []) linked
+        ∙ ap (λ n. (counts_of l).natives ++ record (new_native d.number size) { count = n } ∷ []) one));
     buffer = buffer-made few;
     there = key-made;
     others = others-made;

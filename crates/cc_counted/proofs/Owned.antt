@@ -14,7 +14,7 @@ use Rattle.cc_names.specs.declared.number.NKey.{NKey}
 use Rattle.cc_names.specs.Names.{native, same_name, number_of}
 use Rattle.cc_names.proofs.NameTests.{same_name-true}
 use Rattle.cc_model.specs.Slots.{contents}
-use Rattle.cc_model.specs.Heap.{Heap, HeapNative, Buffered, native_at, set_preserved, with_mark, buffered_as, new_native}
+use Rattle.cc_model.specs.Heap.{Heap, HeapNative, Buffered, native_at, change_native, with_mark, buffered_as, new_native}
 use Rattle.cc_model.specs.Cascade.{add_ref, at_rest}
 use Rattle.cc_model.specs.WellFormed.{native_names}
 use Rattle.cc_model.specs.Counts.{slots_of_natives, times}
@@ -27,7 +27,7 @@ use Rattle.cc_counted.specs.Lists.{Placed, Lists, cell_at, with_slot, keyed, sho
 use Rattle.cc_counted.proofs.Places.{the_number-cell, native_at-cell, natives-distinct}
 use Rattle.cc_counted.proofs.Balanced.{balanced-owned, owned-balanced, IsBalanced-owned, owned-lists}
 use Rattle.cc_counted.proofs.SlotBalance.{IsBalanced-written}
-use Rattle.cc_counted.proofs.Reflecting.{flagged}
+use Rattle.cc_counted.proofs.Reflecting.{ChangesFlags}
 
 -- The steps on a balance in which no native waits
 
@@ -105,9 +105,10 @@ pub owned-written : (l : Lists) (p : IsPlaced l) → l.queue ≡ [] → (key : �
     Transfers (numbers_held (counts_of l) x) (numbers_held (counts_of l) (get_or c.slots i None)) (counts_of l) (counts_of (record l { cells = cells }))
 owned-written l p none key c at i within x live cells e others o = search (owned-lists, IsBalanced-written, IsBalanced-owned)
 
--- Whether a reflector is preserved says nothing of what is owned.
-pub owned-flagged : (c : Counts) (k : ℕ) (on : Bool) → Transfers [] [] c (with_heap c (set_preserved (heap_of c) k on))
-owned-flagged c k on others o = record {
+-- The flags of a native say nothing of what is owned.
+pub owned-flagged : (change : Placed → Placed) (after : HeapNative → HeapNative) → ChangesFlags change after → (c : Counts) (k : ℕ) →
+    Transfers [] [] c (with_heap c (change_native (heap_of c) k after))
+owned-flagged change after flags c k others o = record {
   counts = λ n i.
       let f = was n i in
       f.3
@@ -121,27 +122,27 @@ owned-flagged c k on others o = record {
   buffered_once = o.buffered_once;
 }
   where
-    kept : {Y : Type 0} (h : HeapNative → Y) → ((n : HeapNative) → h (flagged on n) ≡ h n) → (n : HeapNative) → h (changed_at k (flagged on) n) ≡ h n
+    kept : {Y : Type 0} (h : HeapNative → Y) → ((n : HeapNative) → h (after n) ≡ h n) → (n : HeapNative) → h (changed_at k after n) ≡ h n
     kept {Y} h same n = go (n.number == k)
       where
-        go : (b : Bool) → h (if b then flagged on n else n) ≡ h n
+        go : (b : Bool) → h (if b then after n else n) ≡ h n
         go true = same n
         go false = refl
 
-    was : (n : HeapNative) → Among n (set_preserved (heap_of c) k on).natives → (m : HeapNative) × Among m c.natives × (n.number ≡ m.number) × (n.count ≡ m.count)
+    was : (n : HeapNative) → Among n (change_native (heap_of c) k after).natives → (m : HeapNative) × Among m c.natives × (n.number ≡ m.number) × (n.count ≡ m.count)
     was n i =
-        let f = Among-map_cases (changed_at k (flagged on)) c.natives n i in (
+        let f = Among-map_cases (changed_at k after) c.natives n i in (
           f.0,
           f.1,
-          sym (ap (λ (m : HeapNative). m.number) f.2) ∙ kept (λ m. m.number) (λ m. refl) f.0,
-          sym (ap (λ (m : HeapNative). m.count) f.2) ∙ kept (λ m. m.count) (λ m. refl) f.0,
+          sym (ap (λ (m : HeapNative). m.number) f.2) ∙ kept (λ m. m.number) flags.same_number f.0,
+          sym (ap (λ (m : HeapNative). m.count) f.2) ∙ kept (λ m. m.count) flags.same_count f.0,
         )
 
-    slots : slots_of_natives (set_preserved (heap_of c) k on) ≡ slots_of_natives (heap_of c)
-    slots = flat_map-kept (λ (n : HeapNative). contents n.slots) (changed_at k (flagged on)) c.natives (kept (λ n. contents n.slots) (λ n. refl))
+    slots : slots_of_natives (change_native (heap_of c) k after) ≡ slots_of_natives (heap_of c)
+    slots = flat_map-kept (λ (n : HeapNative). contents n.slots) (changed_at k after) c.natives (kept (λ n. contents n.slots) (λ n. ap contents (flags.same_slots n)))
 
-    stays : (j : ℕ) → Among (native j) (native_names (heap_of c)) → Among (native j) (native_names (set_preserved (heap_of c) k on))
-    stays j i = subst (λ xs. Among (native j) xs) (sym (native_names-change (heap_of c) k (flagged on) (λ n. refl))) i
+    stays : (j : ℕ) → Among (native j) (native_names (heap_of c)) → Among (native j) (native_names (change_native (heap_of c) k after))
+    stays j i = subst (λ xs. Among (native j) xs) (sym (native_names-change (heap_of c) k after flags.same_number)) i
 
 -- Nor does where it stands.
 pub owned-reflected : (c : Counts) (key : ℕ) (to : Option ℕ) → Transfers [] [] c (with_reflector c key to)

@@ -9,20 +9,20 @@ use Rattle.cc_names.specs.Names.{native}
 use Rattle.cc_model.specs.declared.item.Event.{Event}
 use Rattle.cc_model.specs.declared.item.Event.TheVariants.{Unlinked}
 use Rattle.cc_model.specs.Telling.{Telling, TellsEvents}
-use Rattle.cc_model.specs.Heap.{Heap, Outcome, silently, after as told_before, set_preserved, outcome_of}
+use Rattle.cc_model.specs.Heap.{Heap, Outcome, silently, after as told_before, as_unlinked, set_unlinked, outcome_of}
 use Rattle.cc_model.specs.End.{empty_slot, empty_each, unlink}
 use Rattle.cc_model.proofs.Tellings.{TellsEvents-trans}
 use Rattle.cc_laws_heap.specs.Balance.{IsBalanced}
 use Rattle.cc_counted.specs.declared.held.Held.{Held}
 use Rattle.cc_counted.specs.Counts.{Counts, the_number, name_of, is_live, heap_of, with_heap, left_with}
-use Rattle.cc_counted.specs.Lists.{Placed, Lists, cell_at, keyed, names_in, counts_of, draining_of, IsPlaced, LeavesKeys}
+use Rattle.cc_counted.specs.Lists.{Placed, Lists, cell_at, placed_unlinked, keyed, names_in, counts_of, draining_of, IsPlaced, LeavesKeys}
 use Rattle.cc_counted.specs.Steps.{EmptiesSlot, EmptiesEach}
 use Rattle.cc_counted.proofs.Places.{the_number-cell, native_at-cell}
 use Rattle.cc_counted.proofs.Holding.{held-same}
 use Rattle.cc_counted.proofs.Each.{live-cell}
 use Rattle.cc_counted.proofs.Places.{number_at-cell}
 use Rattle.cc_counted.proofs.Leaving.{LeavesKeys-then, counts-left}
-use Rattle.cc_counted.proofs.Reflecting.{left-flagged}
+use Rattle.cc_counted.proofs.Reflecting.{flags-unlinked, left-flagged}
 
 -- slots from the i-th on are left to empty
 pub record EmptiesSoFar (start now : Lists) (key i : ℕ) (before after : Telling) : Type 0 where
@@ -120,24 +120,24 @@ module _ (start now next : Lists) (key i : ℕ) (before middle after : Telling) 
     told = TellsEvents-trans before middle after s.events f.events s.told f.told;
   }
 
--- THE NATIVE IS UNLINKED once its slots are empty and its reflector is preserved no longer.
+-- THE NATIVE IS UNLINKED once its slots are empty, its reflector is preserved no longer, and it is known as unlinked.
 unlinked : (old mid : Lists) (key : ℕ) (before after : Telling) → IsPlaced old → (e : EmptiesEach old mid key before after) →
-    unlink (heap_of (counts_of old)) e.was.number ≡ outcome_of (set_preserved (heap_of (counts_of mid)) e.was.number false) (Unlinked (native e.was.number) ∷ e.events)
+    unlink (heap_of (counts_of old)) e.was.number ≡ outcome_of (set_unlinked (heap_of (counts_of mid)) e.was.number) (Unlinked (native e.was.number) ∷ e.events)
 unfolding unlink
 unlinked old mid key before after p e = grind (arith, native_at-cell)
 
 module _ (old mid : Lists) (key : ℕ) (before after : Telling) (p : IsPlaced old) (e : EmptiesEach old mid key before after) where
   -- so it is by the number at its key
   pub unlinked-key : unlink (heap_of (counts_of old)) (the_number (counts_of old) key) ≡
-      outcome_of (set_preserved (heap_of (counts_of mid)) e.was.number false) (Unlinked (native e.was.number) ∷ e.events)
+      outcome_of (set_unlinked (heap_of (counts_of mid)) e.was.number) (Unlinked (native e.was.number) ∷ e.events)
   unlinked-key = ap (unlink (heap_of (counts_of old))) (the_number-cell old.cells key e.was e.was_there) ∙ unlinked old mid key before after p e
 
-  -- WHAT IS LEFT once the preservation ended
-  pub counts-unlinked : with_heap (counts_of mid) (set_preserved (heap_of (counts_of mid)) (the_number (counts_of mid) key) false) ≡
+  -- WHAT IS LEFT then
+  pub counts-unlinked : with_heap (counts_of mid) (set_unlinked (heap_of (counts_of mid)) (the_number (counts_of mid) key)) ≡
       left_with (counts_of old) (unlink (heap_of (counts_of old)) (the_number (counts_of old) key)).heap
   counts-unlinked =
       let h : Heap = heap_of (counts_of mid) in
-      ap (λ k. with_heap (counts_of mid) (set_preserved h k false)) (the_number-cell mid.cells key e.cell e.there ∙ e.number)
-      ∙ (ap (λ (c : Counts). with_heap c (set_preserved h e.was.number false)) (counts-left old mid p e.placed e.leaves)
-      ∙ (left-flagged (counts_of old) h e.was.number false
+      ap (λ k. with_heap (counts_of mid) (set_unlinked h k)) (the_number-cell mid.cells key e.cell e.there ∙ e.number)
+      ∙ (ap (λ (c : Counts). with_heap c (set_unlinked h e.was.number)) (counts-left old mid p e.placed e.leaves)
+      ∙ (left-flagged placed_unlinked as_unlinked flags-unlinked (counts_of old) h e.was.number
       ∙ ap (λ (o : Outcome). left_with (counts_of old) o.heap) (sym unlinked-key)))

@@ -129,6 +129,14 @@ preserved_at (Some n) = n.preserved
 abbrev pub preserved_of : Counts → ℕ → Bool
 preserved_of c key = preserved_at (native_at (heap_of c) (the_number c key))
 
+abbrev pub unlinked_at : Option HeapNative → Bool
+unlinked_at None = false
+unlinked_at (Some n) = n.unlinked
+
+-- whether the native at a key was unlinked
+abbrev pub unlinked_of : Counts → ℕ → Bool
+unlinked_of c key = unlinked_at (native_at (heap_of c) (the_number c key))
+
 -- a reflector where it is preserved; as in slots, its key stands in the place of a number
 abbrev pub preserved_reflector : Bool → Option ℕ → Option Name
 preserved_reflector preserved reflector = where_set preserved (option_map object reflector)

@@ -16,12 +16,13 @@ pub record Placed : Type 0 where
   pub number : ℕ
   pub slots : List (Option Held)
   pub preserved : Bool
+  pub unlinked : Bool
   pub reflector : Option ℕ
   pub count : ℕ
 
 -- a native as it is made, with n empty slots
 abbrev pub new_placed : ℕ → ℕ → Placed
-new_placed number n = record { number = number; slots = replicate n None; preserved = false; reflector = None; count = 1 }
+new_placed number n = record { number = number; slots = replicate n None; preserved = false; unlinked = false; reflector = None; count = 1 }
 
 -- the natives by key, their keys by rising number, the keys that wait to be deleted, and the marked keys of the buffer
 pub record Lists : Type 0 where
@@ -49,6 +50,10 @@ with_slot i x c = record c { slots = slice_set c.slots i x }
 -- preserved or not
 abbrev pub with_flag : Bool → Placed → Placed
 with_flag on c = record c { preserved = on }
+
+-- unlinked for good, and not preserved
+abbrev pub placed_unlinked : Placed → Placed
+placed_unlinked c = record c { preserved = false; unlinked = true }
 
 -- with a reflector, or without
 abbrev pub reflected_by : Option ℕ → Placed → Placed
@@ -82,7 +87,7 @@ numbers_in c slots = flat_map (numbers_held c) slots
 
 -- a native, whose slots hold these names
 abbrev pub shown_with : Slots → Placed → HeapNative
-shown_with slots p = record { number = p.number; slots = slots; preserved = p.preserved; count = p.count }
+shown_with slots p = record { number = p.number; slots = slots; preserved = p.preserved; unlinked = p.unlinked; count = p.count }
 
 -- a native by names
 abbrev pub shown : Counts → Option Placed → HeapNative

@@ -20,6 +20,8 @@ pub(crate) struct Cell {
     pub(crate) reflector: Option<SKey>,
     /// Whether its reflector is preserved.
     pub(crate) preserved: bool,
+    /// Whether it was unlinked. No native is unlinked no longer.
+    pub(crate) unlinked: bool,
 }
 
 impl Model for Cell {
@@ -28,7 +30,7 @@ impl Model for Cell {
 
     ghost Value = { Placed };
 
-    ghost view = { λ c. record { number = c.number.0; slots = c.slots.items; preserved = c.preserved; reflector = option_map (λ k. k.0) c.reflector; count = c.count } };
+    ghost view = { λ c. record { number = c.number.0; slots = c.slots.items; preserved = c.preserved; unlinked = c.unlinked; reflector = option_map (λ k. k.0) c.reflector; count = c.count } };
 
     ghost use Rattle.std.specs.Prelude.{◌≡◌, vec_len, vec_capacity};
 

@@ -7,7 +7,7 @@ ghost use Rattle.cc_model.specs.Slots.{empty_slots};
 ghost use Rattle.cc_model.specs.Heap.{HeapNative, set_preserved, set_slot, suspect, touch, with_mark, buffered_as, new_native};
 ghost use Rattle.cc_model.specs.Cascade.{add_ref};
 ghost use Rattle.cc_model.specs.End.{unlink};
-ghost use Rattle.cc_counted.specs.Counts.{no_counts, number_at, reflector_at, the_number, name_of, is_live, numbers_held, heap_of, with_heap, with_reflector, left_with, released, slots_of, count_of, preserved_of, references_of, first_number, number_after};
+ghost use Rattle.cc_counted.specs.Counts.{no_counts, number_at, reflector_at, the_number, name_of, is_live, numbers_held, heap_of, with_heap, with_reflector, left_with, released, slots_of, count_of, preserved_of, unlinked_of, references_of, first_number, number_after};
 ghost use Rattle.cc_counted.specs.Owning.{CallersOwn, AreOwned, Transfers, HasKeys};
 ghost use Rattle.cc_counted.specs.Scripts.{HasNoHolder, IsNextHolder};
 ghost use Rattle.cc_counted.specs.Suspects.{is_in_buffer, is_purple_in, front_number, number_behind};
@@ -173,6 +173,14 @@ impl Counted {
         self.natives.preserve(key, on);
     }
 
+    /// Whether a native was unlinked: `unlink` says so, and it stays so as long as the native is there.
+    pub fn unlinked(&self, key: NKey) -> bool
+        requires live { IsSome (number_at self.now key.0) }
+        ensures { result ≡ unlinked_of self.now key.0 }
+    {
+        self.natives.at(key).unlinked
+    }
+
     /// Where a native's reflector stands in the script heap; none where it has none.
     pub fn reflector(&self, key: NKey) -> Option<SKey>
         requires live { IsSome (number_at self.now key.0) }
@@ -297,8 +305,8 @@ impl Counted {
 
     /// Tells that a native that the caller owns is unlinked, and empties its slots in rising order.
     ///
-    /// What a slot held is given up with its cascade before the next slot is emptied. The native itself stays, and its
-    /// reflector is preserved no longer.
+    /// What a slot held is given up with its cascade before the next slot is emptied. The native itself stays: it is unlinked
+    /// for good, and its reflector is preserved no longer.
     pub fn unlink<N: Notices>(&mut self, key: NKey, out: &mut N)
         requires live { IsSome (number_at self.old key.0) }
         requires owned { CallersOwn (the_number self.old key.0 ∷ []) self.old }
@@ -311,7 +319,7 @@ impl Counted {
         let slots = cell.slots.len() as SlotNo;
         out.tell(Item::Event(Event::Unlinked(Name::Native(number))));
         self.natives.empty_each(key, slots, out);
-        self.natives.preserve(key, false);
+        self.natives.set_unlinked(key);
     }
 
     /// Takes out the front of the buffer with its mark; none exactly where the buffer is empty.

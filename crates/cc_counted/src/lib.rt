@@ -10,8 +10,8 @@
 //! A slot may hold a script object beside a native. It is not counted: to give up a slot that holds one gives up nothing.
 //!
 //! A native may have a reflector, a script object of which it keeps the key, and may preserve it: then it refers to it as
-//! to what its slots hold, until it is unlinked. This heap does not count reflectors, and a freed native takes its
-//! reflector's key along.
+//! to what its slots hold, until it is unlinked. That it was is known as long as it is there. This heap does not count
+//! reflectors, and a freed native takes its reflector's key along.
 //!
 //! The natives by rising number, the queue and the buffer are chains through the natives themselves: what joins or leaves
 //! one looks at its neighbours alone. `create` takes the native's own memory, and no other call takes any.

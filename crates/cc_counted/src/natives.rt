@@ -7,7 +7,7 @@ ghost use Rattle.cc_chain.specs.Chains.{behind};
 ghost use Rattle.cc_holders.specs.Entries.{count_of};
 ghost use Rattle.cc_holders.specs.Known.{entry_at};
 ghost use Rattle.cc_purple.specs.Marks.{Marked, marked_as, first_key, holds_key, is_purple, key_after, with_mark, without_key};
-ghost use Rattle.cc_counted.specs.Lists.{Placed, new_placed, cell_at, count_placed, slots_placed, with_one_less, with_one_more, with_slot, with_flag, reflected_by};
+ghost use Rattle.cc_counted.specs.Lists.{Placed, new_placed, cell_at, count_placed, slots_placed, with_one_less, with_one_more, with_slot, with_flag, placed_unlinked, reflected_by};
 ghost use Rattle.cc_counted.specs.Stored.{Inserts, with_cell, with_queue, with_marks, without_cell};
 ghost use Rattle.cc_counted.specs.Scripts.{IsNextPlaced, HasNonePlaced, is_script, recounted, refers_by_reflector};
 
@@ -146,6 +146,18 @@ impl Natives {
         recount(cell, &mut self.holders, before, after);
     }
 
+    /// The native at a key is unlinked for good, and its reflector is preserved no longer.
+    pub(crate) fn set_unlinked(&mut self, key: NKey)
+        requires { IsSome (cell_at self.old.lists.cells key.0) }
+        ensures { self.new ≡ with_cell key.0 placed_unlinked self.old }
+    {
+        let cell = &mut self.nodes.slab[key.0 as usize].cell;
+        let before = refers_by_reflector(cell);
+        cell.preserved = false;
+        cell.unlinked = true;
+        recount(cell, &mut self.holders, before, false);
+    }
+
     /// Writes where the reflector of the native at a key stands.
     pub(crate) fn reflect(&mut self, key: NKey, to: Option<SKey>)
         requires { IsSome (cell_at self.old.lists.cells key.0) }
@@ -198,6 +210,7 @@ impl Natives {
                 count: 1,
                 reflector: None,
                 preserved: false,
+                unlinked: false,
             },
             order: Neighbours::of(None),
             queue: Neighbours::of(None),

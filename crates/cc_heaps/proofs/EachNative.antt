@@ -1,13 +1,13 @@
 -- WHAT HOLDS OF EACH NATIVE, its count aside, still holds of each after references are taken and given up, slots are
 -- written and natives are unlinked.
-use Rattle.std.proofs.Common.{ℕ, suc, ◌==◌, false, List, [], ◌∷◌, map, set, Option, None, Some, subst}
+use Rattle.std.proofs.Common.{ℕ, suc, ◌==◌, List, [], ◌∷◌, map, set, Option, None, Some, subst}
 use Rattle.cc_lists.specs.Members.{Among}
 use Rattle.cc_lists.proofs.Members.{Among-map, Among-map_cases, Among-filtered}
 use Rattle.cc_lists.proofs.ListWrites.{changed_where, changed_where-either, each-map}
 use Rattle.cc_names.specs.declared.name.Name.{Name}
 use Rattle.cc_names.specs.Names.{native}
 use Rattle.cc_model.specs.Slots.{Slots}
-use Rattle.cc_model.specs.Heap.{Heap, HeapNative, Outcome, native_at, silently, after, change_native, with_native_slot, set_slot}
+use Rattle.cc_model.specs.Heap.{Heap, HeapNative, Outcome, native_at, silently, after, change_native, with_native_slot, as_unlinked, set_slot}
 use Rattle.cc_model.specs.Cascade.{add_ref, cascade, let_go}
 use Rattle.cc_model.specs.End.{empty_slot, empty_each, slots_now, unlink}
 use Rattle.cc_laws_heap.specs.Freeing.{uncounted, is_none_of}
@@ -42,7 +42,7 @@ module _ (Q : HeapNative → Type 0) where
   each-changed h k f keeps all = each-map (λ n. Q (uncounted n)) (changed_where (λ n. n.number == k) f) h.natives
       (λ n m. changed_where-either (λ o. Q (uncounted o)) (λ n. n.number == k) f n (λ e. keeps n (all n m)) (all n m))
 
-  -- What holds after a slot is emptied, and after a preservation ends
+  -- What holds after a slot is emptied, and after a native is unlinked
   module _ (emptied : (u : HeapNative) (i : ℕ) → Q u → Q (record u { slots = set u.slots i None })) where
     each-empty_each : (k i : ℕ) (xs : Slots) (o : Outcome) → IsOfEach o.heap.natives → IsOfEach (empty_each k i xs o).heap.natives
     each-empty_each k i [] o all = all
@@ -50,7 +50,7 @@ module _ (Q : HeapNative → Type 0) where
         (each-let_go (set_slot o.heap (Some (native k)) i None) x
         (each-changed o.heap k (with_native_slot i None) (λ n. emptied (uncounted n) i) all))
 
-    pub each-unlink : ((u : HeapNative) → Q u → Q (record u { preserved = false })) → (h : Heap) (k : ℕ) → IsOfEach h.natives → IsOfEach (unlink h k).heap.natives
+    pub each-unlink : ((u : HeapNative) → Q u → Q (as_unlinked u)) → (h : Heap) (k : ℕ) → IsOfEach h.natives → IsOfEach (unlink h k).heap.natives
     unfolding unlink
-    each-unlink ended h k all = each-changed (empty_each k 0 (slots_now (native_at h k)) (silently h)).heap k (λ n. record n { preserved = false })
+    each-unlink ended h k all = each-changed (empty_each k 0 (slots_now (native_at h k)) (silently h)).heap k as_unlinked
         (λ n. ended (uncounted n)) (each-empty_each k 0 (slots_now (native_at h k)) (silently h) all)

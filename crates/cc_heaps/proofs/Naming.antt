@@ -14,10 +14,10 @@ use Rattle.cc_names.specs.declared.name.Name.TheVariants as name
 use Rattle.cc_names.specs.Names.{native, same_name, is_native, natives_in}
 use Rattle.cc_model.specs.declared.item.Event.TheVariants.{Unlinked}
 use Rattle.cc_model.specs.Slots.{Slots, contents}
-use Rattle.cc_model.specs.Heap.{Heap, HeapNative, Outcome, native_at, silently, after, change_native, set_slot, set_preserved, outcome_of}
+use Rattle.cc_model.specs.Heap.{Heap, HeapNative, Outcome, native_at, silently, after, change_native, set_slot, set_preserved, as_unlinked, set_unlinked, outcome_of}
 use Rattle.cc_model.specs.Cascade.{Draining, add_ref, lower, give_up, give_up_each, removed, natives_of_slots, told_free, without_native, free_front, drain, at_rest, drained, cascade, let_go}
 use Rattle.cc_model.specs.Counts.{slots_of_natives, times}
-use Rattle.cc_model.specs.End.{empty_slot, empty_each, slots_now, without_preservation, unlink}
+use Rattle.cc_model.specs.End.{empty_slot, empty_each, slots_now, marked_unlinked, unlink}
 use Rattle.cc_model.specs.WellFormed.{native_names}
 use Rattle.cc_laws_heap.proofs.Face.{changed_at, times-natives_in}
 use Rattle.cc_script.specs.Objects.{Object, object_at, name_at}
@@ -83,6 +83,10 @@ module _ (objects : List Object) where
   -- A preservation that began or ended
   pub set_preserved-shown : (h g : Heap) (k : ℕ) (on : Bool) → set_preserved (shown h objects g) k on ≡ shown h objects (set_preserved g k on)
   set_preserved-shown h g k on = change-named h g k (λ n. record n { preserved = on }) (λ n. record n { preserved = on }) (λ n. refl)
+
+  -- A native that is unlinked for good
+  set_unlinked-shown : (h g : Heap) (k : ℕ) → set_unlinked (shown h objects g) k ≡ shown h objects (set_unlinked g k)
+  set_unlinked-shown h g k = change-named h g k as_unlinked as_unlinked (λ n. refl)
 
   -- A reference given up, by counts and numbers alone
 
@@ -216,11 +220,11 @@ module _ (objects : List Object) where
     pub unlink-shown : (h g : Heap) (k : ℕ) → unlink (shown h objects g) k ≡ outcome_shown h objects (unlink g k)
     unfolding unlink
     unlink-shown h g k =
-        ap (λ ss. after (Unlinked (native k) ∷ []) (without_preservation k (empty_each k 0 ss (silently (shown h objects g)))))
+        ap (λ ss. after (Unlinked (native k) ∷ []) (marked_unlinked k (empty_each k 0 ss (silently (shown h objects g)))))
         (ap slots_now (native_at-shown h g k) ∙ slots_now-named (native_at g k))
-        ∙ (ap (λ o. after (Unlinked (native k) ∷ []) (without_preservation k o)) (empty_each-shown h k 0 (slots_now (native_at g k)) (silently g))
+        ∙ (ap (λ o. after (Unlinked (native k) ∷ []) (marked_unlinked k o)) (empty_each-shown h k 0 (slots_now (native_at g k)) (silently g))
         ∙ whole (empty_each k 0 (slots_now (native_at g k)) (silently g)))
       where
-        whole : (o : Outcome) → after (Unlinked (native k) ∷ []) (without_preservation k (outcome_shown h objects o)) ≡
-            outcome_shown h objects (after (Unlinked (native k) ∷ []) (without_preservation k o))
-        whole o = ap (λ (f : Heap). outcome_of f (Unlinked (native k) ∷ o.events)) (set_preserved-shown h o.heap k false)
+        whole : (o : Outcome) → after (Unlinked (native k) ∷ []) (marked_unlinked k (outcome_shown h objects o)) ≡
+            outcome_shown h objects (after (Unlinked (native k) ∷ []) (marked_unlinked k o))
+        whole o = ap (λ (f : Heap). outcome_of f (Unlinked (native k) ∷ o.events)) (set_unlinked-shown h o.heap k)

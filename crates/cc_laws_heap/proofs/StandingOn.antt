@@ -110,7 +110,7 @@ unlink-stands owned h g k s own m t d =
     stands-on h (unlink h k).heap g s.well_formed u.1.well_formed m u.2.leaves.beside (λ n i. ⊎_elim
     (λ e. inr (record {
       there = subst (λ j. Among (native j) (native_names h)) (sym e.1) (s.owned_there k own);
-      emptied = u.2.emptied n i e.1;
+      emptied = (u.2.taken n i e.1).emptied;
       unreached = λ r. d (subst (λ j. Reached g (native j)) e.1 r);
     }))
     (λ e. inl (u.2.others n i e.1))

@@ -15,7 +15,7 @@ use Rattle.cc_model.specs.WellFormed.{native_names}
 use Rattle.cc_model.specs.Counts.{refs_to, times}
 use Rattle.cc_model.specs.StandsFor.{IsEmptied}
 use Rattle.cc_laws_heap.specs.Sound.{IsSound}
-use Rattle.cc_laws_heap.specs.Ending.{freed_numbers, TakesAway}
+use Rattle.cc_laws_heap.specs.Ending.{freed_numbers, IsLeft, IsUnlinked, TakesAway}
 use Rattle.cc_laws_heap.specs.Stages.{Stage, stage, Done, Ending}
 use Rattle.cc_laws_heap.specs.Stages.Done.{nothing, followed, besides}
 use Rattle.cc_laws_heap.specs.Stages.Ending.{reordered, raised}
@@ -70,25 +70,25 @@ root_each-done all s (k ∷ ks) hand h there so =
 -- Unlinking and unrooting
 
 -- WHAT AN END DID SINCE A STAGE, where all of them may be unlinked: the heaps are sound with these in hand, and those that
--- are unlinked so far were told and are empty
+-- are unlinked so far were told and are so
 pub record IsTaking (all : List ℕ) (start : Stage) (hand unlinked : List ℕ) (o : Outcome) : Type 0 where
   pub sound : IsSound hand o.heap
   pub done : Done (Ending all) start o.events (stage hand [] o.heap)
   pub told : unlinked_numbers o.events ≡ unlinked
-  pub emptied : (n : HeapNative) → Among n o.heap.natives → Among n.number unlinked → IsEmptied n
+  pub taken : (n : HeapNative) → Among n o.heap.natives → Among n.number unlinked → IsUnlinked n
 
 -- something more is done
 IsTaking-then : (all : List ℕ) (start : Stage) (early late unlinked more : List ℕ) (o p : Outcome) → IsTaking all start early unlinked o → IsSound late p.heap →
     Done (Ending all) (stage early [] o.heap) p.events (stage late [] p.heap) → unlinked_numbers p.events ≡ more →
-    ((n : HeapNative) → Among n p.heap.natives → Among n.number more → IsEmptied n) → IsTaking all start late (unlinked ++ more) (after o.events p)
+    ((n : HeapNative) → Among n p.heap.natives → Among n.number more → IsUnlinked n) → IsTaking all start late (unlinked ++ more) (after o.events p)
 IsTaking-then all start early late unlinked more o p t sound done told new = record {
   sound = sound;
   done = followed start (stage early [] o.heap) (stage late [] p.heap) o.events p.events t.done done;
   told = flat_map-append unlinked_in o.events p.events ∙ (ap (λ js. js ++ unlinked_numbers p.events) t.told ∙ ap (λ js. unlinked ++ js) told);
-  emptied = λ n m i. ⊎_elim
+  taken = λ n m i. ⊎_elim
       (λ l.
       let c = done-stays all (stage early [] o.heap) p.events (stage late [] p.heap) done n m in
-      c.empty (t.emptied c.was c.there (subst (λ j. Among j unlinked) (sym c.number) l)))
+      c.still (t.taken c.was c.there (subst (λ j. Among j unlinked) (sym c.number) l)))
       (new n m) (Among-append n.number unlinked more i);
 }
 
@@ -103,7 +103,7 @@ unlink_each-taking all start (k ∷ ks) hand unlinked o among own t =
     subst (λ us. IsTaking all start hand us (unlink_each ks (after o.events p))) (append_assoc unlinked (k ∷ []) ks)
     (unlink_each-taking all start ks hand (unlinked ++ k ∷ []) (after o.events p) (λ j m. among j (inr m)) (λ j m. own j (inr m))
     (IsTaking-then all start hand hand unlinked (k ∷ []) o p t u.1 (unlink-done hand o.heap k t.sound here all (among k (inl refl))) u.2.unlinked_told
-    (λ n m i. u.2.emptied n m (⊎_elim (λ e. sym e) (λ x. absurd x) i))))
+    (λ n m i. u.2.taken n m (⊎_elim (λ e. sym e) (λ x. absurd x) i))))
 
 -- and they are owned no more, one after another
 pub unroot_each-taking : (all : List ℕ) (start : Stage) (ks hand unlinked : List ℕ) (o : Outcome) → IsTaking all start (ks ++ hand) unlinked o →
@@ -140,7 +140,7 @@ module _ (h : Heap) (ks : List ℕ) (s : IsSound [] h) (there : (k : ℕ) → Am
   -- with all of them unlinked
   taking-unlinked : IsTaking ks rooted (ks ++ []) ks (unlink_each ks (silently (root_each ks h)))
   taking-unlinked = unlink_each-taking ks rooted ks (ks ++ []) [] (silently (root_each ks h)) (λ k m. m) (λ k m. Among-left k ks [] m)
-      (record { sound = root_each-sound ks [] h there s; done = nothing rooted; told = refl; emptied = λ n m i. absurd i })
+      (record { sound = root_each-sound ks [] h there s; done = nothing rooted; told = refl; taken = λ n m i. absurd i })
 
   -- with all of them owned no more
   pub taking-end : IsTaking ks rooted [] ks (take_away ks h)
@@ -161,14 +161,17 @@ module _ (h : Heap) (ks : List ℕ) (s : IsSound [] h) (there : (k : ℕ) → Am
 
   -- in which those that were taken away are empty where they are left,
   pub taken-emptied : (n : HeapNative) → Among n (take_away ks h).heap.natives → Among n.number ks → IsEmptied n
-  taken-emptied = taking-end.emptied
+  taken-emptied n m i = (taking-end.taken n m i).emptied
 
-  -- and the others are as they were,
-  pub others-kept : (n : HeapNative) → Among n (take_away ks h).heap.natives → ¬ (Among n.number ks) → IsOf h n
-  others-kept n m d =
+  -- and unlinked for good, and the others are as they were,
+  pub taken-left : (n : HeapNative) → Among n (take_away ks h).heap.natives → IsLeft h ks n
+  taken-left n m =
       let end : Outcome = take_away ks h in
       let c = done-stays ks (stage [] [] h) end.events (stage [] [] end.heap) (since-start [] end taking-end) n m in
-      (c.was, c.there, c.same d)
+      record { was = c.was; there = c.there; number = c.number; taken = taking-end.taken n m; other = c.same }
+
+  pub others-kept : (n : HeapNative) → Among n (take_away ks h).heap.natives → ¬ (Among n.number ks) → IsOf h n
+  others-kept n m d = let c = taken-left n m in (c.was, c.there, c.other d)
 
   -- WHICH THOSE TOLD AS FREED HAVE LEFT,
   pub take_away-leaves : Leave h (freed_numbers (take_away ks h).events) (take_away ks h).heap
@@ -192,6 +195,7 @@ module _ (h : Heap) (ks : List ℕ) (s : IsSound [] h) (there : (k : ℕ) → Am
       none_of_them = λ k i. Leave-none h (freed_numbers o.events) o.heap (taking-leaves (ks ++ []) o taking-unlinked) k
           (taking-unlinked.sound.owned_there k (Among-left k ks [] i));
       natives = l.numbers;
+      left = taken-left;
       scripts = l.beside.scripts;
       entries = l.beside.entries;
       native_registers = l.beside.native_registers;

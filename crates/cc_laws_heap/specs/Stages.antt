@@ -7,7 +7,7 @@ use Rattle.cc_names.specs.Names.{native, object, reflector}
 use Rattle.cc_model.specs.declared.item.Event.{Event}
 use Rattle.cc_model.specs.declared.item.Event.TheVariants.{Freed, Unlinked}
 use Rattle.cc_model.specs.Slots.{contents}
-use Rattle.cc_model.specs.Heap.{Heap, HeapNative, HeapScript, native_at, set_slot, set_preserved, suspect, forget}
+use Rattle.cc_model.specs.Heap.{Heap, HeapNative, HeapScript, native_at, set_slot, set_unlinked, suspect, forget}
 use Rattle.cc_model.specs.Places.{script_places_of}
 use Rattle.cc_model.specs.Cascade.{add_ref, lower, removed, natives_of_slots}
 use Rattle.cc_model.specs.Sweep.{without_script}
@@ -48,12 +48,12 @@ pub data Ending (ks : List ℕ) : Stage → List Event → Stage → Type 0 wher
   reordered : (early late : List ℕ) (h : Heap) → ((k : ℕ) → times k late ≡ times k early) → Ending ks (stage early [] h) [] (stage late [] h)
   -- a reference is taken in hand
   raised : (hand : List ℕ) (h : Heap) (k : ℕ) → Among (native k) (native_names h) → Ending ks (stage hand [] h) [] (stage (k ∷ hand) [] (add_ref h k))
-  -- one of them is told as unlinked, a slot of it is emptied, its preservation ends
-  unlinked : (hand : List ℕ) (h : Heap) (k : ℕ) → Among k ks → Ending ks (stage hand [] h) (Unlinked (native k) ∷ []) (stage hand [] h)
+  -- one of them is told as unlinked, a slot of it is emptied, and it is unlinked for good, with its preservation ended
+  told : (hand : List ℕ) (h : Heap) (k : ℕ) → Among k ks → Ending ks (stage hand [] h) (Unlinked (native k) ∷ []) (stage hand [] h)
   emptied : (hand : List ℕ) (h : Heap) (k i : ℕ) (n : HeapNative) (x : Option Name) → Among k ks → HasDistinctNumbers h → native_at h k ≡ Some n →
       i < length n.slots → slice_index_or n.slots i None ≡ x →
       Ending ks (stage hand [] h) [] (stage (numbers_of x ++ hand) [] (set_slot h (Some (native k)) i None))
-  unpreserved : (hand : List ℕ) (h : Heap) (k : ℕ) → Among k ks → Ending ks (stage hand [] h) [] (stage hand [] (set_preserved h k false))
+  unlinked : (hand : List ℕ) (h : Heap) (k : ℕ) → Among k ks → Ending ks (stage hand [] h) [] (stage hand [] (set_unlinked h k))
 
 -- no script object has a native in a slot or as its delegate
 abbrev pub HoldNoNatives : Heap → Type 0

@@ -7,7 +7,7 @@ ghost use Rattle.cc_model.specs.declared.item.Event.TheVariants.{Freed, Unlinked
 ghost use Rattle.cc_model.specs.Graph.{Graph};
 ghost use Rattle.cc_model.specs.WellMade.{IsWellMade};
 ghost use Rattle.cc_model.specs.Reached.{Reached};
-ghost use Rattle.cc_model.specs.Heap.{Heap};
+ghost use Rattle.cc_model.specs.Heap.{Heap, HeapNative};
 ghost use Rattle.cc_model.specs.View.{view};
 ghost use Rattle.cc_model.specs.WellFormed.{native_names, IsRising};
 ghost use Rattle.cc_model.specs.Counts.{times};
@@ -15,19 +15,22 @@ ghost use Rattle.cc_model.specs.Colours.{HasColourInvariant};
 ghost use Rattle.cc_model.specs.End.{take_away, unlink};
 ghost use Rattle.cc_model.specs.StandsFor.{StandsFor};
 ghost use Rattle.cc_laws_heap.specs.Sound.{IsSound};
-ghost use Rattle.cc_laws_heap.specs.Ending.{TakesAway, AreThere};
+ghost use Rattle.cc_laws_heap.specs.Ending.{TakesAway, AreThere, IsLeft};
 
-/// Unlinking a native that is rooted leaves the heaps sound; where no register reaches it they go on standing
-/// for the graph.
+/// Unlinking a native that is rooted leaves the heaps sound; if the native is left, it is empty and unlinked for good, and
+/// the others change in their counts alone. Where no register reaches it the heaps go on standing for the graph.
 pub fn unlinking_keeps_counts()
     ensures sound { (owned : List ℕ) (h : Heap) (k : ℕ) → IsSound owned h → Among k owned → IsSound owned (unlink h k).heap }
+    ensures left { (owned : List ℕ) (h : Heap) (k : ℕ) (n : HeapNative) → IsSound owned h → Among k owned → Among n (unlink h k).heap.natives →
+        IsLeft h (k ∷ []) n }
     ensures stands { (owned : List ℕ) (h : Heap) (g : Graph) (k : ℕ) → IsSound owned h → Among k owned → IsWellMade g → StandsFor h g →
         ¬ (Reached g (native k)) → StandsFor (unlink h k).heap g }
 {}
 
 /// The end of a collection over natives that are there, by rising number: it leaves the heaps sound; each of them is
 /// told unlinked once, in that order, before any of them is freed; the free lines name distinct natives that were
-/// there, and take out these and no others.
+/// there, and take out these and no others. Of them what is left is empty and unlinked for good; other natives change in
+/// their counts alone.
 pub fn ends_keep_counts()
     ensures sound { (h : Heap) (ks : List ℕ) → IsSound [] h → AreThere ks h → IsSound [] (take_away ks h).heap }
     ensures colours { (h : Heap) (ks : List ℕ) → IsSound [] h → AreThere ks h → HasColourInvariant (view h) →

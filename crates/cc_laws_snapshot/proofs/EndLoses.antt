@@ -8,14 +8,14 @@ use Rattle.cc_lists.proofs.Members.{Among-map, Among-left, Among-right, Among-ap
 use Rattle.cc_names.specs.declared.name.Name.{Name}
 use Rattle.cc_names.specs.Names.{native, is_script, number_of}
 use Rattle.cc_model.specs.declared.item.Event.{Event}
-use Rattle.cc_model.specs.Heap.{Heap, HeapNative, native_at, change_native, with_native_slot, set_slot, set_preserved}
+use Rattle.cc_model.specs.Heap.{Heap, HeapNative, native_at, change_native, with_native_slot, set_slot, as_unlinked, set_unlinked}
 use Rattle.cc_model.specs.View.{view, native_edges, script_edges}
 use Rattle.cc_model.specs.Cascade.{add_ref}
 use Rattle.cc_model.specs.Counts.{times}
 use Rattle.cc_model.specs.Fresh.{IsLiving}
 use Rattle.cc_laws_heap.specs.Sound.{numbers_of}
 use Rattle.cc_laws_heap.specs.Stages.{Stage, stage, Done, Ending}
-use Rattle.cc_laws_heap.specs.Stages.Ending.{reordered, raised, unlinked, emptied, unpreserved}
+use Rattle.cc_laws_heap.specs.Stages.Ending.{reordered, raised, told, emptied, unlinked}
 use Rattle.cc_laws_heap.proofs.Folding.{done-keeps}
 use Rattle.cc_laws_heap.proofs.References.{times-among, times-some}
 use Rattle.cc_laws_heap.proofs.HoldsTheSame.{HoldsTheSame-add_ref, native_names-alike}
@@ -89,15 +89,15 @@ slot-loses hand h k i n d found = change_native-loses (numbers_of (get_or n.slot
         (contents-written_kept m.slots i None (native j) c))
         (λ q. inl (native_edges-has (with_native_slot i None m) x (native j) p.0 (inr q))) p.1
 
--- the end of a preservation loses no native
-preservation-loses : (hand : List ℕ) (h : Heap) (k : ℕ) → LosesTo (stage hand [] h) (stage hand [] (set_preserved h k false))
-preservation-loses hand h k = change_native-loses [] hand h k (λ n. record n { preserved = false }) (λ n. refl) drops
+-- to be unlinked for good, with no preservation, loses no native
+set_unlinked-loses : (hand : List ℕ) (h : Heap) (k : ℕ) → LosesTo (stage hand [] h) (stage hand [] (set_unlinked h k))
+set_unlinked-loses hand h k = change_native-loses [] hand h k as_unlinked (λ n. refl) drops
   where
-    drops : DropsOnly [] h k (λ n. record n { preserved = false })
+    drops : DropsOnly [] h k as_unlinked
     drops n m number x i e =
         let p = native_edges-are n x (native i) e in
         ⊎_elim
-        (λ c. inl (native_edges-has (record n { preserved = false }) x (native i) p.0 (inl c)))
+        (λ c. inl (native_edges-has (as_unlinked n) x (native i) p.0 (inl c)))
         (λ q. absurd (native-no_script (native i) refl (subst (λ y. is_script y ≡ true) q.1 refl))) p.1
 
 -- References taken in hand
@@ -133,10 +133,10 @@ raised-loses hand h k = record {
 ending-loses : (ks : List ℕ) (s : Stage) (es : List Event) (t : Stage) → Ending ks s es t → LosesTo s t
 ending-loses ks _ _ _ (reordered early late h same) = reordered-loses early late h same
 ending-loses ks _ _ _ (raised hand h k m) = raised-loses hand h k
-ending-loses ks _ _ _ (unlinked hand h k m) = LosesTo-refl (stage hand [] h)
+ending-loses ks _ _ _ (told hand h k m) = LosesTo-refl (stage hand [] h)
 ending-loses ks _ _ _ (emptied hand h k i n x m d e room content) =
     subst (λ y. LosesTo (stage hand [] h) (stage (numbers_of y ++ hand) [] (set_slot h (Some (native k)) i None))) content (slot-loses hand h k i n d e)
-ending-loses ks _ _ _ (unpreserved hand h k m) = preservation-loses hand h k
+ending-loses ks _ _ _ (unlinked hand h k m) = set_unlinked-loses hand h k
 
 -- ALL THAT IS DONE at the end of a collection only loses.
 pub done-loses : (ks : List ℕ) (s : Stage) (es : List Event) (t : Stage) → Done (Ending ks) s es t → LosesTo s t

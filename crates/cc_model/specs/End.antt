@@ -5,7 +5,7 @@ use Rattle.cc_names.specs.Names.{native}
 use Rattle.cc_model.specs.declared.item.Event.{Event}
 use Rattle.cc_model.specs.declared.item.Event.TheVariants.{Unlinked, Abandoned}
 use Rattle.cc_model.specs.Slots.{Slots}
-use Rattle.cc_model.specs.Heap.{Heap, HeapNative, Outcome, silently, after, native_at, set_slot, set_preserved, suspect}
+use Rattle.cc_model.specs.Heap.{Heap, HeapNative, Outcome, silently, after, native_at, set_slot, set_unlinked, suspect}
 use Rattle.cc_model.specs.Cascade.{add_ref, cascade, let_go}
 use Rattle.cc_model.specs.Snapshot.{Snapshot, white_natives}
 use Rattle.cc_model.specs.Units.{first_names, begun, with_empty_buffer, first_untraversed, to_note, after_node}
@@ -29,12 +29,12 @@ abbrev pub slots_now : Option HeapNative → Slots
 slots_now None = []
 slots_now (Some n) = n.slots
 
-abbrev pub without_preservation : ℕ → Outcome → Outcome
-without_preservation k o = record o { heap = set_preserved o.heap k false }
+abbrev pub marked_unlinked : ℕ → Outcome → Outcome
+marked_unlinked k o = record o { heap = set_unlinked o.heap k }
 
--- A NATIVE UNLINKED: told, its slots emptied, its preservation ended
+-- A NATIVE UNLINKED: told, its slots emptied, its preservation ended; it is unlinked for good
 unfoldable pub unlink : Heap → ℕ → Outcome
-unlink h k = after (Unlinked (native k) ∷ []) (without_preservation k (empty_each k 0 (slots_now (native_at h k)) (silently h)))
+unlink h k = after (Unlinked (native k) ∷ []) (marked_unlinked k (empty_each k 0 (slots_now (native_at h k)) (silently h)))
 
 abbrev pub unlink_each : List ℕ → Outcome → Outcome
 unlink_each [] o = o

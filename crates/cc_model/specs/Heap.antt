@@ -20,6 +20,8 @@ pub record HeapNative : Type 0 where
   pub number : ℕ
   pub slots : Slots
   pub preserved : Bool
+  -- whether it was told as unlinked: once it was, that stays so for good
+  pub unlinked : Bool
   pub count : ℕ
 
 pub record HeapScript : Type 0 where
@@ -37,7 +39,7 @@ pub record Buffered : Type 0 where
 
 -- a native as it is made, with n empty slots: its maker holds the one reference to it
 abbrev pub new_native : ℕ → ℕ → HeapNative
-new_native number n = record { number = number; slots = empty_slots n; preserved = false; count = 1 }
+new_native number n = record { number = number; slots = empty_slots n; preserved = false; unlinked = false; count = 1 }
 
 -- a script object as it is made: black, with n empty slots
 abbrev pub new_script : Name → Kind → ℕ → Option Name → HeapScript
@@ -196,6 +198,13 @@ set_slot h (Some (name.Reflector k)) i y = change_script h (reflector k.0) (with
 
 abbrev pub set_preserved : Heap → ℕ → Bool → Heap
 set_preserved h k on = change_native h k (λ n. record n { preserved = on })
+
+-- a native that was unlinked: it preserves its reflector no longer
+abbrev pub as_unlinked : HeapNative → HeapNative
+as_unlinked n = record n { preserved = false; unlinked = true }
+
+abbrev pub set_unlinked : Heap → ℕ → Heap
+set_unlinked h k = change_native h k as_unlinked
 
 -- a reflector preserved; nothing where it is no reflector
 abbrev pub preserve : Heap → Option Name → Heap

@@ -1,8 +1,10 @@
-//! Tests of the small stores and of names: each call once, and over the borders of their pages and blocks.
+//! Tests of the small stores, of names and of a native: each call once, and over the borders of their pages and blocks.
 //!
 //! A crate with tests is proved twice, so they stand here, once for all of these crates.
 #![tactic(auto)]
 
+#[cfg(test)]
+mod counted;
 #[cfg(test)]
 mod holders;
 #[cfg(test)]

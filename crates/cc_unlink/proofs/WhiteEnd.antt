@@ -38,7 +38,7 @@ unrooted-before ks h s k m =
     let start : Stage = stage (ks ++ []) [] h in
     let o : Outcome = unroot_each ks (silently h) in
     let way : IsTaking [] start [] [] o = unroot_each-taking [] start ks [] [] (silently h)
-    (record { sound = subst (λ owned. IsSound owned h) (sym (append-nil ks)) s; done = nothing start; told = refl; emptied = λ n i e. absurd e }) in
+    (record { sound = subst (λ owned. IsSound owned h) (sym (append-nil ks)) s; done = nothing start; told = refl; taken = λ n i e. absurd e }) in
     Leave-before h (freed_numbers o.events) o.heap (done-leaves [] start o.events (stage [] [] o.heap) way.done) k m
 
 -- the heaps before, and after each pass

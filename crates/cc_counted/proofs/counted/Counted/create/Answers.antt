@@ -30,7 +30,7 @@ made c =
     let l = c.self.inside.natives.lists in
     let i = c.in_ok-key.ensures.inserts in
     subst (λ (n : Lists). Makes (counts_of l) (counts_of n) c.in_ok-key.key.0 c.args.no.0 c.args.slots) (is-made c)
-    (Makes-made l c.self.invariant.placed c.in_ok-key.key.0 _ c.insert.new.self.lists.cells i.vacant i.there i.others (above c) c.args.slots refl c.requires.slots refl refl refl)
+    (Makes-made l c.self.invariant.placed c.in_ok-key.key.0 _ c.insert.new.self.lists.cells i.vacant i.there i.others (above c) c.args.slots refl c.requires.slots refl refl refl refl)
 
 pub returns-clause-natives : goal.returns-clause-natives
 returns-clause-natives c = rw (← c.self.view_is) (made c).natives

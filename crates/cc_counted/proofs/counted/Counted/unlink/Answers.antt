@@ -1,19 +1,19 @@
 use Rattle.cc_counted.specs.Owning.{AreOwned, CallersOwn}
-use Rattle.std.proofs.Common.{◌≡◌, ◌≤◌, [], ◌∷◌, length, Some, is_some, false, refl, ap, arith, sym, subst, ◌∙◌}
+use Rattle.std.proofs.Common.{◌≡◌, ◌≤◌, [], ◌∷◌, length, Some, is_some, refl, ap, arith, sym, subst, ◌∙◌}
 use Rattle.cc_names.specs.Names.{native}
 use Rattle.cc_names.specs.Sizes.{most_slots}
 use Rattle.cc_model.specs.declared.item.Event.TheVariants.{Unlinked}
 use Rattle.cc_model.specs.declared.item.Item.TheVariants.{Event as of_event}
 use Rattle.cc_model.specs.Telling.{Tells, TellsEvents}
-use Rattle.cc_model.specs.Heap.{Outcome}
+use Rattle.cc_model.specs.Heap.{Outcome, as_unlinked}
 use Rattle.cc_model.proofs.Tellings.{TellsEvents-trans}
 use Rattle.cc_laws_heap.specs.Balance.{IsBalanced}
 use Rattle.cc_counted.specs.Counts.{Counts, the_number}
 use Rattle.cc_counted.specs.Stored.{Stored}
 use Rattle.cc_counted.specs.Resting.{IsAtRest}
-use Rattle.cc_counted.proofs.Reflecting.{counts-flagged, placed-flagged}
+use Rattle.cc_counted.proofs.Reflecting.{flags-unlinked, counts-flagged, placed-flagged}
 use Rattle.cc_counted.proofs.Owned.{owned-flagged}
-use Rattle.cc_counted.specs.Lists.{Placed, counts_of, draining_of}
+use Rattle.cc_counted.specs.Lists.{Placed, placed_unlinked, counts_of, draining_of}
 use Rattle.cc_counted.proofs.Places.{the_number-cell}
 use Rattle.cc_counted.proofs.Balanced.{IsBalanced-owned}
 use Rattle.cc_counted.proofs.Unlinking.{unlinked-key, counts-unlinked}
@@ -36,24 +36,24 @@ empty_each-requires-clause-owned g c =
           (IsBalanced-owned l c.self.invariant.placed c.self.invariant.emptied _ own.1),
     )
 
-pub preserve-requires : goal.preserve-requires
-preserve-requires g c = ap is_some c.empty_each.ensures.empties.there
+pub set_unlinked-requires : goal.set_unlinked-requires
+set_unlinked-requires g c = ap is_some c.empty_each.ensures.empties.there
 
 pub returns-clause-heap : goal.returns-clause-heap
 returns-clause-heap g c =
     let mid = c.empty_each.new.self.lists in
     let e = c.empty_each.ensures.empties in
-    rw (← c.self.view_is) (ap (λ (s : Stored). counts_of s.lists) c.preserve.ensures
-    ∙ (counts-flagged mid c.empty_each.ensures.at_rest.placed c.args.key.0 e.cell e.there false _ refl
+    rw (← c.self.view_is) (ap (λ (s : Stored). counts_of s.lists) c.set_unlinked.ensures
+    ∙ (counts-flagged mid c.empty_each.ensures.at_rest.placed c.args.key.0 e.cell e.there placed_unlinked as_unlinked flags-unlinked _ refl
     ∙ counts-unlinked c.self.inside.natives.lists mid c.args.key.0 (g.N.Notices.telling c.tell.new.self) (g.N.Notices.telling c.empty_each.new.out)
     c.self.invariant.placed e))
 
 pub invariant_of-self : goal.invariant_of-self
 invariant_of-self g c =
     let e = c.empty_each.ensures.empties in
-    subst IsAtRest (sym c.preserve.ensures)
+    subst IsAtRest (sym c.set_unlinked.ensures)
     (record {
-      placed = placed-flagged c.empty_each.new.self.lists c.empty_each.ensures.at_rest.placed c.args.key.0 e.cell e.there false _ refl;
+      placed = placed-flagged c.empty_each.new.self.lists c.empty_each.ensures.at_rest.placed c.args.key.0 e.cell e.there placed_unlinked as_unlinked flags-unlinked _ refl;
       emptied = c.empty_each.ensures.at_rest.emptied;
     })
 
@@ -78,10 +78,10 @@ returns-clause-owned g c others o =
     let e = c.empty_each.ensures.empties in
     let number = the_number-cell l.cells c.args.key.0 e.was e.was_there in
     let was = subst (λ (v : Counts). AreOwned (the_number v c.args.key.0 ∷ others) v) (sym c.self.view_is) o in
-    subst (λ (v : Counts). AreOwned (the_number v c.args.key.0 ∷ others) (counts_of c.preserve.new.self.lists)) c.self.view_is
+    subst (λ (v : Counts). AreOwned (the_number v c.args.key.0 ∷ others) (counts_of c.set_unlinked.new.self.lists)) c.self.view_is
     (subst (AreOwned (the_number (counts_of l) c.args.key.0 ∷ others))
-    (sym (ap (λ (s : Stored). counts_of s.lists) c.preserve.ensures ∙ counts-flagged mid c.empty_each.ensures.at_rest.placed c.args.key.0 e.cell e.there false _ refl))
-    (owned-flagged (counts_of mid) (the_number (counts_of mid) c.args.key.0) false (the_number (counts_of l) c.args.key.0 ∷ others)
+    (sym (ap (λ (s : Stored). counts_of s.lists) c.set_unlinked.ensures ∙ counts-flagged mid c.empty_each.ensures.at_rest.placed c.args.key.0 e.cell e.there placed_unlinked as_unlinked flags-unlinked _ refl))
+    (owned-flagged placed_unlinked as_unlinked flags-unlinked (counts_of mid) (the_number (counts_of mid) c.args.key.0) (the_number (counts_of l) c.args.key.0 ∷ others)
     (subst (λ k. AreOwned (k ∷ others) (counts_of mid)) (sym number)
     (owned-lists mid c.empty_each.ensures.at_rest.emptied (e.was.number ∷ others)
     (e.balanced others
