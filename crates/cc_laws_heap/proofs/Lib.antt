@@ -87,6 +87,7 @@ pub mod Unseen
 pub mod Wrapping
 pub mod StepsAlike
 pub mod CommandsStand
+pub mod Lengthening
 pub mod GraphLeads
 pub mod WalksAlike
 pub mod LedReached
