@@ -26,7 +26,7 @@ use std::alloc::Global;
 pub extern "C" fn cc_new_native(
     alloc: Global,
     c: &mut Collector,
-    r: RegNo,
+    r: u16,
     slots: SlotNo,
     made: &mut CObject,
 ) -> u32
@@ -44,7 +44,7 @@ pub extern "C" fn cc_new_native(
     let Some(mut session) = c.take(alloc) else {
         return CLOSED;
     };
-    let answer = session.new_native(r, slots);
+    let answer = session.new_native(r as RegNo, slots);
     *c = Collector::of(session);
     match answer {
         Ok(x) => {
@@ -61,7 +61,7 @@ pub extern "C" fn cc_new_native(
 pub extern "C" fn cc_new_plain(
     alloc: Global,
     c: &mut Collector,
-    r: RegNo,
+    r: u16,
     slots: SlotNo,
     made: &mut CObject,
 ) -> u32
@@ -78,7 +78,7 @@ pub extern "C" fn cc_new_plain(
     let Some(mut session) = c.take(alloc) else {
         return CLOSED;
     };
-    let answer = session.new_plain(r, slots);
+    let answer = session.new_plain(r as RegNo, slots);
     *c = Collector::of(session);
     match answer {
         Ok(x) => {
@@ -92,7 +92,7 @@ pub extern "C" fn cc_new_plain(
 /// Makes a weak map without entries, which numbered script root `r` holds from then on.
 #[unsafe(no_mangle)]
 #[tactic(auto, using(crate::proofs::Statuses::by_stop_or_want))]
-pub extern "C" fn cc_new_map(alloc: Global, c: &mut Collector, r: RegNo, made: &mut CObject) -> u32
+pub extern "C" fn cc_new_map(alloc: Global, c: &mut Collector, r: u16, made: &mut CObject) -> u32
     ensures stays { Stays c.old.handle.session c.new.handle.session result }
     ensures stops { Open c.old.handle.session c.new.handle.session (λ s t. IsStatusOrWants (stop_script_made r 0 (are_scripts_made s.host)) result) }
     ensures does { result ≡ 0 → Open c.old.handle.session c.new.handle.session (λ s t. Does Always (λ g. graph.step g (command.WeakMap r)) s.host t.host) }
@@ -106,7 +106,7 @@ pub extern "C" fn cc_new_map(alloc: Global, c: &mut Collector, r: RegNo, made: &
     let Some(mut session) = c.take(alloc) else {
         return CLOSED;
     };
-    let answer = session.new_map(r);
+    let answer = session.new_map(r as RegNo);
     *c = Collector::of(session);
     match answer {
         Ok(x) => {
@@ -123,7 +123,7 @@ pub extern "C" fn cc_new_map(alloc: Global, c: &mut Collector, r: RegNo, made: &
 pub extern "C" fn cc_new_proxy(
     alloc: Global,
     c: &mut Collector,
-    r: RegNo,
+    r: u16,
     delegate: &CObject,
     made: &mut CObject,
 ) -> u32
@@ -140,7 +140,7 @@ pub extern "C" fn cc_new_proxy(
     let Some(mut session) = c.take(alloc) else {
         return CLOSED;
     };
-    let answer = session.new_proxy(r, object(delegate));
+    let answer = session.new_proxy(r as RegNo, object(delegate));
     *c = Collector::of(session);
     match answer {
         Ok(x) => {

@@ -24,7 +24,7 @@ use std::alloc::Global;
 /// Numbered native root `r` holds a native from then on, or nothing.
 #[unsafe(no_mangle)]
 #[tactic(auto, using(crate::proofs::Statuses::by_stop))]
-pub extern "C" fn cc_set_native_root(alloc: Global, c: &mut Collector, r: RegNo, x: &CObject) -> u32
+pub extern "C" fn cc_set_native_root(alloc: Global, c: &mut Collector, r: u16, x: &CObject) -> u32
     ensures stays { Stays c.old.handle.session c.new.handle.session result }
     ensures stops { Open c.old.handle.session c.new.handle.session (λ s t. IsStatus (stop_numbered stop_native s.host r (to_content x.now)) result) }
     ensures does { result ≡ 0 → Open c.old.handle.session c.new.handle.session (λ s t. Does (IsRootedIfAny s.host (to_content x.now)) (λ g. graph.set_register g (n_register r) (named (to_content x.now))) s.host t.host) }
@@ -35,7 +35,7 @@ pub extern "C" fn cc_set_native_root(alloc: Global, c: &mut Collector, r: RegNo,
     let Some(mut session) = c.take(alloc) else {
         return CLOSED;
     };
-    let answer = session.set_native_root(r, content(x));
+    let answer = session.set_native_root(r as RegNo, content(x));
     *c = Collector::of(session);
     match answer {
         Ok(()) => OK,
@@ -46,7 +46,7 @@ pub extern "C" fn cc_set_native_root(alloc: Global, c: &mut Collector, r: RegNo,
 /// Numbered script root `r` holds a script object from then on, or nothing.
 #[unsafe(no_mangle)]
 #[tactic(auto, using(crate::proofs::Statuses::by_stop))]
-pub extern "C" fn cc_set_script_root(alloc: Global, c: &mut Collector, r: RegNo, x: &CObject) -> u32
+pub extern "C" fn cc_set_script_root(alloc: Global, c: &mut Collector, r: u16, x: &CObject) -> u32
     ensures stays { Stays c.old.handle.session c.new.handle.session result }
     ensures stops { Open c.old.handle.session c.new.handle.session (λ s t. IsStatus (stop_numbered stop_script s.host r (to_content x.now)) result) }
     ensures does { result ≡ 0 → Open c.old.handle.session c.new.handle.session (λ s t. Does (IsReachedOrReflects s.host.heaps.heap (named (to_content x.now))) (λ g. graph.set_register g (s_register r) (named (to_content x.now))) s.host t.host) }
@@ -56,7 +56,7 @@ pub extern "C" fn cc_set_script_root(alloc: Global, c: &mut Collector, r: RegNo,
     let Some(mut session) = c.take(alloc) else {
         return CLOSED;
     };
-    let answer = session.set_script_root(r, content(x));
+    let answer = session.set_script_root(r as RegNo, content(x));
     *c = Collector::of(session);
     match answer {
         Ok(()) => OK,
@@ -70,7 +70,7 @@ pub extern "C" fn cc_set_script_root(alloc: Global, c: &mut Collector, r: RegNo,
 pub extern "C" fn cc_native_root(
     alloc: Global,
     c: &mut Collector,
-    r: RegNo,
+    r: u16,
     held: &mut CObject,
 ) -> u32
     ensures closed { c.old.handle.session ≡ None → result ≡ 1 }
@@ -83,7 +83,7 @@ pub extern "C" fn cc_native_root(
     let Some(session) = c.take(alloc) else {
         return CLOSED;
     };
-    let answer = session.native_root(r);
+    let answer = session.native_root(r as RegNo);
     *c = Collector::of(session);
     if r >= NUMBERED_ROOTS {
         return INDEX;
@@ -98,7 +98,7 @@ pub extern "C" fn cc_native_root(
 pub extern "C" fn cc_script_root(
     alloc: Global,
     c: &mut Collector,
-    r: RegNo,
+    r: u16,
     held: &mut CObject,
 ) -> u32
     ensures closed { c.old.handle.session ≡ None → result ≡ 1 }
@@ -111,7 +111,7 @@ pub extern "C" fn cc_script_root(
     let Some(session) = c.take(alloc) else {
         return CLOSED;
     };
-    let answer = session.script_root(r);
+    let answer = session.script_root(r as RegNo);
     *c = Collector::of(session);
     if r >= NUMBERED_ROOTS {
         return INDEX;

@@ -93,8 +93,8 @@ fn step_for(x: Name, reason: Reason) -> CStep
     ensures { result ≡ step_for x reason }
 {
     match reason {
-        Reason::Root(Reg::N(r)) => step_by(x, 1, 1, u32::from(r)),
-        Reason::Root(Reg::S(r)) => step_by(x, 1, 2, u32::from(r)),
+        Reason::Root(Reg::N(r)) => step_by(x, 1, 1, r),
+        Reason::Root(Reg::S(r)) => step_by(x, 1, 2, r),
         Reason::Edge(y) => {
             let (by_kind, by_number) = kind_of(y);
             step_by(x, 2, by_kind, by_number)

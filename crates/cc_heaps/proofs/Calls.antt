@@ -1,12 +1,12 @@
 -- WHAT THE CALLS OF THE COUNTED HEAP COME TO, with the rest of the parts beside it.
 use Rattle.cc_laws_heap.proofs.Face.{count-bound, is_some-found, with_buffer, native_at-number, native_at-there}
-use Rattle.std.proofs.Common.{◌≡◌, ℕ, ◌+◌, ◌≤◌, Bool, true, List, ◌∷◌, map, Option, Some, None, option_map, refl, sym, ◌∙◌, ap, subst, arith}
+use Rattle.std.proofs.Common.{◌≡◌, ℕ, ◌+◌, ◌≤◌, Bool, true, List, ◌∷◌, length, map, Option, Some, None, option_map, refl, sym, ◌∙◌, ap, subst, arith}
 use Rattle.std.specs.Option.{is_some}
 use Rattle.std.proofs.lemmas.Simd.{map-map}
 use Rattle.cc_lists.specs.Members.{Among}
 use Rattle.cc_names.specs.declared.name.Name.{Name}
 use Rattle.cc_names.specs.Names.{native}
-use Rattle.cc_names.specs.Sizes.{most_references}
+use Rattle.cc_names.specs.Sizes.{most_references, most_roots}
 use Rattle.cc_model.specs.Telling.{Telling, TellsEvents}
 use Rattle.cc_model.specs.Slots.{contents}
 use Rattle.cc_model.specs.Heap.{Heap, HeapNative, Outcome, native_at, set_preserved, with_mark}
@@ -37,14 +37,17 @@ number-there owned v key o live =
     subst (λ x. Among (native (number_or_none x)) (native_names v.heap)) (sym f.1) (number-named v owned key f.0 o f.1)
 
 -- counts fit their type
-pub count-fits : (owned : List ℕ) (p : Inside) (k : ℕ) → IsInOrder owned (keyed_of p) → count_at (native_at (counts.heap_of p.counted) k) ≤ most_references + times k owned
+pub count-fits : (owned : List ℕ) (p : Inside) (k : ℕ) → IsInOrder owned (keyed_of p) → count_at (native_at (counts.heap_of p.counted) k) ≤ most_references most_roots + times k owned
 count-fits owned p k o = go (native_at (counts.heap_of p.counted) k) refl
   where
-    go : (x : Option HeapNative) → native_at (counts.heap_of p.counted) k ≡ x → count_at x ≤ most_references + times k owned
+    go : (x : Option HeapNative) → native_at (counts.heap_of p.counted) k ≡ x → count_at x ≤ most_references most_roots + times k owned
     go None e = omega arith
-    go (Some n) e = subst (λ j. n.count ≤ most_references + times j owned) (native_at-number (counts.heap_of p.counted) k n e)
-        (count-bound owned (heap_of p) (named_native p.scripts n) o.sound o.limits.0
-        (native_at-there (heap_of p) k (named_native p.scripts n) (native_at-shown p.scripts (heap_of p) (counts.heap_of p.counted) k ∙ ap (option_map (named_native p.scripts)) e)))
+    go (Some n) e =
+        let bound : n.count ≤ most_references (length (heap_of p).native_registers) + times n.number owned =
+        count-bound owned (heap_of p) (named_native p.scripts n) o.sound o.limits.0
+        (native_at-there (heap_of p) k (named_native p.scripts n) (native_at-shown p.scripts (heap_of p) (counts.heap_of p.counted) k ∙ ap (option_map (named_native p.scripts)) e)) in
+        subst (λ j. n.count ≤ most_references most_roots + times j owned) (native_at-number (counts.heap_of p.counted) k n e)
+        (omega (arith, bound, o.sound.well_formed.registers.0.allowed))
 
 -- keys are left by numbers
 pub key_left-shown : (objects : List Object) (h g : Heap) (o : Option ℕ) → key_left g o ≡ key_left (shown h objects g) o

@@ -16,7 +16,7 @@ use Rattle.cc_names.specs.Names.{native, object, reflector}
 use Rattle.cc_names.specs.declared.kind.Colour.TheVariants.{Black}
 use Rattle.cc_names.specs.declared.number.SKey.{SKey}
 use Rattle.cc_names.specs.declared.register.Reg.TheVariants.{S}
-use Rattle.cc_names.specs.Sizes.{bank_length, most_slots}
+use Rattle.cc_names.specs.Sizes.{most_slots}
 use Rattle.cc_model.specs.Slots.{Slots}
 use Rattle.cc_model.specs.Deeds.{Deed, native_made, plain_made, map_made, proxy_made, native_held, script_held, object_exposed}
 use Rattle.cc_model.specs.Heap.{Heap, HeapNative, HeapScript, native_at, preserve, set_register, set_slot, change_script, change_native, with_native_slot, with_script_slot, suspect}
@@ -118,12 +118,12 @@ script_slot-keeps {owned} h (name.Reflector k) i y at there black s = script_slo
 -- Natives
 
 -- A native is made.
-pub make_native-keeps : {owned : List ℕ} (h : Heap) (d n : ℕ) → d < bank_length → n ≤ most_slots → h.natives_made < h.limits.natives → IsSound owned h → Keeps h (make_native h d n).heap
+pub make_native-keeps : {owned : List ℕ} (h : Heap) (d n : ℕ) → d < length h.native_registers → n ≤ most_slots → h.natives_made < h.limits.natives → IsSound owned h → Keeps h (make_native h d n).heap
 unfolding done_in
 make_native-keeps h d n room few allowed s = done_in-keeps h (native_made d n) s (record { register = room; few = few; room = allowed })
 
 -- A native register is written.
-pub hold_native-keeps : {owned : List ℕ} (h : Heap) (d : ℕ) (x : Option Name) → d < bank_length → IsIn (native_names h) x → IsSound owned h → Keeps h (hold_native h d x).heap
+pub hold_native-keeps : {owned : List ℕ} (h : Heap) (d : ℕ) (x : Option Name) → d < length h.native_registers → IsIn (native_names h) x → IsSound owned h → Keeps h (hold_native h d x).heap
 unfolding done_in
 hold_native-keeps h d x room there s = done_in-keeps h (native_held d x) s (room, there)
 

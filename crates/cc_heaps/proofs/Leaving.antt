@@ -9,7 +9,7 @@ use Rattle.cc_lists.proofs.Numbers.{number-exact}
 use Rattle.cc_names.specs.declared.name.Name.{Name}
 use Rattle.cc_names.specs.declared.register.Reg.TheVariants.{N}
 use Rattle.cc_names.specs.Names.{native}
-use Rattle.cc_names.specs.Sizes.{bank_length, most_slots}
+use Rattle.cc_names.specs.Sizes.{most_slots}
 use Rattle.cc_model.specs.declared.item.Event.TheVariants.{Freed}
 use Rattle.cc_model.specs.Telling.{Telling, TellsEvents}
 use Rattle.cc_model.specs.Counts.{times}
@@ -22,7 +22,7 @@ use Rattle.cc_model.specs.WellFormed.{IsWellFormed, native_names, script_names, 
 use Rattle.cc_model.proofs.Tellings.{Tells-nil, TellsEvents-trans}
 use Rattle.cc_laws_heap.specs.Sound.{IsSound, numbers_of}
 use Rattle.cc_laws_heap.specs.Freeing.{uncounted, is_none_of, Frees}
-use Rattle.cc_laws_heap.proofs.Face.{HoldsTheSame-take_up, IsIn, IsIn-made, IsIn-natives, IsIn-take_up, contents-at-of_writes as contents-at, let_go-frees, let_go-gone, names_there-alike, names_there-take_up, native-there, native_names-change, native_register-sound, native_slot-sound, take_up-sound, times-among, times-append, with_native-sound}
+use Rattle.cc_laws_heap.proofs.Face.{HoldsTheSame-take_up, IsIn, IsIn-made, IsIn-natives, IsIn-take_up, contents-at-of_writes as contents-at, let_go-frees, let_go-gone, names_there-alike, names_there-take_up, native-there, native_names-change, native_register-sound, native_slot-sound, room-take_up, take_up-sound, times-among, times-append, with_native-sound}
 use Rattle.cc_laws_snapshot.proofs.Face.{reached-there}
 use Rattle.cc_heaps.specs.Keyed.{Keyed, IsInOrder, left_with}
 use Rattle.cc_heaps.specs.Changes.{stored_in}
@@ -165,10 +165,10 @@ given_up-tells owned v w k before after s is well told =
     given-up owned v.heap v.heap w.heap (Some (native k)) before after s (ap (λ (u : Keyed). u.heap) is) well (λ x i. i) (λ j i out. i) told
 
 -- a native register written: what is there before the old content is given up
-module _ (owned : List ℕ) (v w : Keyed) (r : ℕ) (x : Option Name) (room : r < bank_length) (there : IsIn (native_names v.heap) x) (order : IsInOrder owned v) where
+module _ (owned : List ℕ) (v w : Keyed) (r : ℕ) (x : Option Name) (room : r < length v.heap.native_registers) (there : IsIn (native_names v.heap) x) (order : IsInOrder owned v) where
   -- the reference to the new content is owned
   pub register-sound : IsSound (numbers_of (register (take_up v.heap x) (N r)) ++ owned) (set_register (take_up v.heap x) (N r) x)
-  register-sound = native_register-sound owned (take_up v.heap x) r x room (IsIn-take_up v.heap x x there)
+  register-sound = native_register-sound owned (take_up v.heap x) r x (room-take_up v.heap x r room) (IsIn-take_up v.heap x x there)
       (take_up-sound owned v.heap x (IsIn-natives v.heap x there) order.sound)
 
   pub hold_native-tells : (before after : Telling) → w ≡ left_with v (hold_native v.heap r x).heap → IsInOrder owned w → TellsEvents before after (hold_native v.heap r x).events →
@@ -182,7 +182,7 @@ module _ (owned : List ℕ) (v w : Keyed) (r : ℕ) (x : Option Name) (room : r 
       told
 
 -- a native made
-module _ (owned : List ℕ) (h k : Heap) (r slots : ℕ) (room : r < bank_length) (few : slots ≤ most_slots) (allowed : h.natives_made < h.limits.natives) (sound : IsSound owned h) where
+module _ (owned : List ℕ) (h k : Heap) (r slots : ℕ) (room : r < length h.native_registers) (few : slots ≤ most_slots) (allowed : h.natives_made < h.limits.natives) (sound : IsSound owned h) where
   abbrev pub made : Option Name
   made = Some (native (h.natives_made + 1))
 
@@ -214,7 +214,7 @@ module _ (owned : List ℕ) (h k : Heap) (r slots : ℕ) (room : r < bank_length
           let b = (let_go-frees owned put (register (with_native h slots) (N r)) made-sound).1.beside in
           let m = (let_go put (register (with_native h slots) (N r))).heap in
           let held : get_or m.native_registers r None ≡ made =
-          ap (λ rs. get_or rs r None) b.native_registers ∙ get_or-set_same h.native_registers r made None (omega (arith, room, sound.well_formed.registers.0)) in
+          ap (λ rs. get_or rs r None) b.native_registers ∙ get_or-set_same h.native_registers r made None room in
           let well : IsWellFormed m = subst IsWellFormed is w in
           Among-left (native (h.natives_made + 1)) (native_names m) (script_names m)
           (well.native_registers (native (h.natives_made + 1))

@@ -6,7 +6,7 @@ use Rattle.cc_lists.proofs.Counting.{count_by-cons}
 use Rattle.cc_names.specs.declared.name.Name.{Name}
 use Rattle.cc_names.specs.declared.register.Reg.TheVariants.{N}
 use Rattle.cc_names.specs.Names.{native, reflector}
-use Rattle.cc_names.specs.Sizes.{bank_length, most_slots}
+use Rattle.cc_names.specs.Sizes.{most_slots}
 use Rattle.cc_model.specs.Heap.{Heap, HeapNative, Buffered, native_at, register, set_register, set_preserved, set_slot, change_native, with_native_slot, with_mark}
 use Rattle.cc_model.specs.Cascade.{add_ref, cascade}
 use Rattle.cc_model.specs.Effects.{with_native}
@@ -115,7 +115,7 @@ IsInOrder-tail owned v b bs e o =
     o
 
 -- a register written, whose new reference is owned: what it held is owned
-pub IsInOrder-register : (owned : List ℕ) (v : Keyed) (r : ℕ) (x : Option Name) → r < bank_length → IsIn (native_names v.heap) x → IsInOrder (numbers_of x ++ owned) v →
+pub IsInOrder-register : (owned : List ℕ) (v : Keyed) (r : ℕ) (x : Option Name) → r < length v.heap.native_registers → IsIn (native_names v.heap) x → IsInOrder (numbers_of x ++ owned) v →
     IsInOrder (numbers_of (register v.heap (N r)) ++ owned) (changed_to v (set_register v.heap (N r) x))
 IsInOrder-register owned v r x within there o = search (IsInOrder-changed, native_register-sound)
 

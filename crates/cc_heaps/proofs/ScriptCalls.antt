@@ -20,6 +20,7 @@ use Rattle.cc_names.specs.declared.kind.Kind.{Kind}
 use Rattle.cc_names.specs.declared.kind.Colour.TheVariants.{Black}
 use Rattle.cc_names.specs.Names.{object, reflector, same_name, is_native}
 use Rattle.cc_names.specs.Sizes.{most_slots}
+use Rattle.cc_model.specs.Banks.{IsBankLength}
 use Rattle.cc_model.specs.Slots.{empty_slots}
 use Rattle.cc_model.specs.Heap.{Heap, set_register, set_slot, new_script}
 use Rattle.cc_model.specs.Effects.{with_object}
@@ -157,7 +158,7 @@ module _ {owned : List ℕ} (p : Inside) (l : IsLinked p) (o : IsInOrder owned (
           (λ e. subst (λ y. IsScriptLive p.scripts y) e (live content there))
           (λ t. l.script_registers x t)
           (Among-set_cases p.script_registers.items r content x m);
-      registers = (l.registers.0, length-set p.script_registers.items r content ∙ l.registers.1);
+      registers = (l.registers.0, subst IsBankLength (sym (length-set p.script_registers.items r content)) l.registers.1);
       held = l.held;
       one_key = l.one_key;
       one_name = l.one_name;

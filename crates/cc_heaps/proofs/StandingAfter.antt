@@ -2,19 +2,19 @@
 -- graph is well made; the changed heaps follow it, and are well formed, so they stand for it.
 use Rattle.cc_heaps.proofs.ObjectsKept.{there-named}
 use Rattle.cc_heaps.proofs.Reflecting.{held-made, shape-made}
-use Rattle.std.proofs.Common.{arith, ◌≡◌, ℕ, ◌<◌, ◌≤◌, true, List, get_or, Option, Some, None, refl, sym, ap, subst, inl}
+use Rattle.std.proofs.Common.{arith, ◌≡◌, ℕ, ◌<◌, ◌≤◌, true, List, length, get_or, Option, Some, None, refl, sym, ap, subst, inl}
 use Rattle.std.specs.Prelude.{IsTrue}
-use Rattle.std.proofs.lemmas.Bool.{false≢true, le-leb, lt-leb, lt-ltb}
+use Rattle.std.proofs.lemmas.Bool.{false≢true, lt-leb}
 use Rattle.cc_names.specs.declared.name.Name.{Name}
 use Rattle.cc_names.specs.declared.name.Name.TheVariants as name
 use Rattle.cc_names.specs.declared.number.NKey.{NKey}
 use Rattle.cc_names.specs.declared.number.SKey.{SKey}
 use Rattle.cc_names.specs.declared.register.Reg.TheVariants.{N, S}
 use Rattle.cc_names.specs.Names.{native, is_native}
-use Rattle.cc_names.specs.Sizes.{bank_length, most_slots}
+use Rattle.cc_names.specs.Sizes.{most_slots}
 use Rattle.cc_model.specs.declared.command.Command.{Command}
 use Rattle.cc_model.specs.declared.command.Command.TheVariants.{Native, Script, WeakMap}
-use Rattle.cc_model.specs.Ranges.{in_range}
+use Rattle.cc_model.specs.Slots.{Slots}
 use Rattle.cc_model.specs.Checks.{refusal_of}
 use Rattle.cc_model.specs.Deeds.{deed_of}
 use Rattle.cc_model.specs.Graph as graph
@@ -28,7 +28,7 @@ use Rattle.cc_model.specs.Effects.{done_in, effects, hold_native, hold_script, m
 use Rattle.cc_model.specs.WellFormed.{IsWellFormed, native_names, script_names}
 use Rattle.cc_model.specs.StandsFor.{StandsFor}
 use Rattle.cc_laws_heap.specs.Sound.{IsSound}
-use Rattle.cc_laws_heap.proofs.Face.{Follows, Follows-hold, Follows-left, Follows-slot, IsIn, IsWellMade-change_native, IsWellMade-native_register, KeepsNative-slot, Leaves-let_go, Leaves-take_up, Made, MadeNative, MadeScript, OfSome, OfSome-then, command-stands, follows-stands, make_proxy-sound, proxy-follows, proxy-well, script-behind, stands-follows, step-well}
+use Rattle.cc_laws_heap.proofs.Face.{Follows, Follows-hold, Follows-left, Follows-slot, IsIn, IsWellMade-change_native, IsWellMade-native_register, KeepsNative-slot, Leaves-let_go, Leaves-take_up, Made, MadeNative, MadeScript, MayBeDone, MayBeDoneTo, OfSome, OfSome-then, done-stands, follows-stands, make_proxy-sound, proxy-follows, proxy-well, script-behind, stands-follows}
 use Rattle.cc_laws_snapshot.proofs.Face.{native-name_of}
 use Rattle.cc_counted.specs.declared.held.Held.{Held}
 use Rattle.cc_script.specs.Objects.{is_there, name_at}
@@ -87,17 +87,25 @@ module _ (h : Heap) (w : IsWellFormed h) where
       (Follows-slot (Reached g) (take_up h x) g (Some (native k)) i x (handed-reached h g (Some (native k)) w m s held) (handed-reached h g x w m s r)
       (λ j a e. absurd (cc)) (Follows-left (Reached g) h (take_up h x) g (Leaves-take_up h x) t)))
 
--- A command that is not refused.
-command-stands_after : {owned : List ℕ} (h : Heap) (c : Command) → IsSound owned h → IsTrue (in_range c) → refusal_of (objects_of h) c ≡ None →
-    StandsAfter h (effects h c).heap (λ g. step g c)
-command-stands_after h c s range taken g m t = (step-well g m c range, command-stands h g c s m t range taken)
+-- A command that is not refused, where what it comes to may be done.
+command-stands_after : {owned : List ℕ} (h : Heap) (c : Command) → IsSound owned h → refusal_of (objects_of h) c ≡ None → MayBeDone h (deed_of (objects_of h) c) →
+    ((g : Graph) → StandsFor h g → MayBeDoneTo g (deed_of (graph.objects_of g) c)) → StandsAfter h (effects h c).heap (λ g. step g c)
+command-stands_after h c s taken may to g m t = done-stands h g c s m t taken may (to g t)
+
+-- where the heaps may have one native more, and one script object more, the graph may
+natives-allowed : (h : Heap) (g : Graph) → StandsFor h g → h.natives_made < h.limits.natives → length g.natives < g.limits.natives
+natives-allowed h g t allowed = omega (arith, allowed, t.natives_made, ap (λ (a : Allowance). a.natives) t.limits)
+
+scripts-allowed : (h : Heap) (g : Graph) → StandsFor h g → h.scripts_made < h.limits.scripts → length g.scripts < g.limits.scripts
+scripts-allowed h g t allowed = omega (arith, allowed, t.scripts_made, ap (λ (a : Allowance). a.scripts) t.limits)
 
 -- A native is made.
-pub make_native-stands : {owned : List ℕ} (h : Heap) (d n : ℕ) → IsSound owned h → d < bank_length → n ≤ most_slots → h.natives_made < h.limits.natives →
+pub make_native-stands : {owned : List ℕ} (h : Heap) (d n : ℕ) → IsSound owned h → d < length h.native_registers → n ≤ most_slots → h.natives_made < h.limits.natives →
     StandsAfter h (make_native h d n).heap (λ g. step g (Native d n))
 unfolding effects done_in deed_of refusal_of
-make_native-stands h d n s room few allowed = command-stands_after h (Native d n) s (rw (lt-ltb d bank_length room, le-leb n most_slots few) refl)
-    (rw (lt-leb h.limits.natives h.natives_made allowed) refl)
+make_native-stands h d n s room few allowed = command-stands_after h (Native d n) s (rw (lt-leb h.limits.natives h.natives_made allowed) refl)
+    (record { register = room; few = few; room = allowed })
+    (λ g t. record { register = subst (λ (rs : Slots). d < length rs) t.native_registers room; few = few; room = natives-allowed h g t allowed })
 
 -- A proxy is made of what is there and reached.
 make_proxy-stands : {owned : List ℕ} (h : Heap) (d : ℕ) (x : Option Name) → IsSound owned h → h.scripts_made < h.limits.scripts → IsIn (script_names h) x → IsReached h x →
@@ -115,15 +123,9 @@ make_proxy-stands {owned} h d x s allowed there r g m t = (
     reached = handed-reached h g x s.well_formed m t r
 
     well : IsWellMade (graph.with_proxy g d x)
-    well = proxy-well g m d x made (omega (arith, allowed, t.scripts_made, ap (λ (a : Allowance). a.scripts) t.limits))
+    well = proxy-well g m d x made (scripts-allowed h g t allowed)
 
--- the commands that make a plain object or a weak map are in range, and are not refused
-plain-ranges : (d n : ℕ) → d < bank_length → n ≤ most_slots → IsTrue (in_range (Script d n))
-plain-ranges d n room few = grind (arith, lt-ltb, le-leb)
-
-map-ranges : (d : ℕ) → d < bank_length → IsTrue (in_range (WeakMap d))
-map-ranges d room = grind (arith, lt-ltb)
-
+-- the commands that make a plain object or a weak map are not refused
 plain-not_refused : (h : Heap) (d n : ℕ) → h.scripts_made < h.limits.scripts → refusal_of (objects_of h) (Script d n) ≡ None
 unfolding refusal_of
 plain-not_refused h d n allowed = grind (arith, lt-leb)
@@ -133,12 +135,13 @@ unfolding refusal_of
 map-not_refused h d allowed = grind (arith, lt-leb)
 
 -- A script object is made.
-pub make_object-stands : {owned : List ℕ} (v : Keyed) (o : IsInOrder owned v) (d : ℕ) (what : ToMake) → d < bank_length → MayBeMade v.scripts what →
+pub make_object-stands : {owned : List ℕ} (v : Keyed) (o : IsInOrder owned v) (d : ℕ) (what : ToMake) → MayBeMade v.scripts what →
     v.heap.scripts_made < v.heap.limits.scripts → IsReached v.heap (delegate_name v what) → StandsAfter v.heap (made_by v d what) (λ g. made_in g d what (delegate_name v what))
 unfolding effects done_in deed_of
-make_object-stands v o d (Plain n) room few allowed r = command-stands_after v.heap (Script d n) o.sound (plain-ranges d n room few) (plain-not_refused v.heap d n allowed)
-make_object-stands v o d Map room few allowed r = command-stands_after v.heap (WeakMap d) o.sound (map-ranges d room) (map-not_refused v.heap d allowed)
-make_object-stands {owned} v o d (Proxy k) room black allowed r = subst (λ l. StandsAfter v.heap l (λ g. graph.with_proxy g d (name_at v.scripts k.0))) (proxy-made v d k black)
+make_object-stands v o d (Plain n) few allowed r = command-stands_after v.heap (Script d n) o.sound (plain-not_refused v.heap d n allowed)
+    (few, allowed) (λ g t. (few, scripts-allowed v.heap g t allowed))
+make_object-stands v o d Map few allowed r = command-stands_after v.heap (WeakMap d) o.sound (map-not_refused v.heap d allowed) allowed (λ g t. scripts-allowed v.heap g t allowed)
+make_object-stands {owned} v o d (Proxy k) black allowed r = subst (λ l. StandsAfter v.heap l (λ g. graph.with_proxy g d (name_at v.scripts k.0))) (proxy-made v d k black)
     (make_proxy-stands v.heap d (name_at v.scripts k.0) o.sound allowed (name_at-there owned v o k.0) r)
 
 -- The heaps with their keys

@@ -5,7 +5,7 @@ use Rattle.cc_names.specs.declared.number.NKey.{NKey}
 use Rattle.cc_names.specs.declared.number.SKey.{SKey}
 use Rattle.cc_names.specs.declared.name.Name.{Name}
 use Rattle.cc_names.specs.Names.{same_name, is_native}
-use Rattle.cc_names.specs.Sizes.{bank_length}
+use Rattle.cc_model.specs.Banks.{IsBankLength}
 use Rattle.cc_model.specs.Slots.{contents}
 use Rattle.cc_model.specs.Heap.{Heap, HeapNative}
 use Rattle.cc_script.specs.Objects.{Object}
@@ -33,7 +33,7 @@ keyed_of p = record { heap = heap_of p; keys = p.counted.keys; scripts = p.scrip
 pub record IsLinked (p : Inside) : Type 0 where
   pub native_registers : (x : Option NKey) → Among x p.native_registers.items → IsLive p.counted.keys x
   pub script_registers : (x : Option SKey) → Among x p.script_registers.items → IsScriptLive p.scripts x
-  pub registers : (length p.native_registers.items ≡ bank_length) × (length p.script_registers.items ≡ bank_length)
+  pub registers : IsBankLength (length p.native_registers.items) × IsBankLength (length p.script_registers.items)
   pub held : (n : HeapNative) (x : Name) → Among n p.counted.natives → Among x (contents n.slots) → IsHeldThere p.scripts x
   pub one_key : (key : ℕ) → count_by (λ o. o.key == key) p.scripts ≤ 1
   pub one_name : (x : Name) → count_by (λ o. same_name o.name x) p.scripts ≤ 1

@@ -11,5 +11,6 @@ pub mod GrayHeld
 pub mod Roots
 pub mod Sweeping
 pub mod Standing
+pub mod Rooting
 pub mod Keeping
 pub mod Leaving

@@ -27,6 +27,7 @@ mod making;
 mod marking;
 mod places;
 mod reflectors;
+mod rooting;
 mod roots;
 mod scripts;
 mod sweeping;

@@ -29,6 +29,8 @@
 
 mod heaps;
 mod make_stop;
+mod rooted;
 
 pub use heaps::Heaps;
 pub use make_stop::MakeStop;
+pub use rooted::Rooted;

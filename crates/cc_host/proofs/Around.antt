@@ -61,7 +61,7 @@ module _ (v w : Keyed) (is : w ≡ left_with v (hold_native v.heap spare None).h
       kept = kept;
       spared = ap (λ (u : Keyed). get_or u.heap.native_registers spare None) is
           ∙ (ap (λ (rs : Slots). get_or rs spare None) (hold_native-registers v.heap spare None)
-          ∙ get_or-set_same v.heap.native_registers spare None None (omega (arith, order.sound.well_formed.registers.0)));
+          ∙ get_or-set_same v.heap.native_registers spare None None (omega (arith, order.sound.well_formed.registers.0.enough)));
       stands = λ p. stands;
       doomed = λ p. subst (KeepsDoomed v.heap) (sym (ap (λ (u : Keyed). u.heap) is)) (hold_native-doomed v.heap spare None tt);
     };

@@ -92,7 +92,7 @@ module _ (a b c d : Heap) (k i n : ℕ) (wa : IsWellFormed a) (wb : IsWellFormed
   registers-c = ap (λ (h : Heap). h.native_registers) stored ∙ (stored-registers b k i (Some (native m)) ∙ made-registers a b n wa wb spared is)
 
   holds : register c (N spare) ≡ Some (native m)
-  holds = ap (λ (rs : Slots). get_or rs spare None) registers-c ∙ get_or-set_same a.native_registers spare (Some (native m)) None (omega (arith, wa.registers.0))
+  holds = ap (λ (rs : Slots). get_or rs spare None) registers-c ∙ get_or-set_same a.native_registers spare (Some (native m)) None (omega (arith, wa.registers.0.enough))
 
   registers-e : e.native_registers ≡ a.native_registers
   registers-e =
@@ -100,7 +100,7 @@ module _ (a b c d : Heap) (k i n : ℕ) (wa : IsWellFormed a) (wb : IsWellFormed
       ∙ (set-set a.native_registers spare (Some (native m)) None ∙ (ap (set a.native_registers spare) (sym spared) ∙ set-get_or a.native_registers spare None))
 
   sound-e : IsSound (m ∷ []) e
-  sound-e = subst (λ o. IsSound (numbers_of o ++ []) e) holds (native_register-sound [] c spare None (omega arith) (λ y j. absurd j) sc)
+  sound-e = subst (λ o. IsSound (numbers_of o ++ []) e) holds (native_register-sound [] c spare None (omega (arith, sc.well_formed.registers.0.enough)) (λ y j. absurd j) sc)
 
   beside-c : SameBeside b (taken b k i (Some (native m)) wb empty-then)
   beside-c = (HoldsTheSame-take_up b (Some (native m))).beside

@@ -1,5 +1,5 @@
 -- WHAT IS MADE stands in its register, and the host's own register stays empty.
-use Rattle.std.proofs.Common.{◌≡◌, ◌≢◌, ◌⊎◌, ℕ, ◌+◌, ◌<◌, ◌≤◌, false, [], ◌∷◌, ◌++◌, get_or, Option, Some, None, refl, sym, ◌∙◌, ap, subst, inl, inr, ⊎_elim, arith}
+use Rattle.std.proofs.Common.{◌≡◌, ◌≢◌, ◌⊎◌, ℕ, ◌+◌, ◌<◌, ◌≤◌, false, [], ◌∷◌, ◌++◌, length, get_or, Option, Some, None, refl, sym, ◌∙◌, ap, subst, inl, inr, ⊎_elim, arith}
 use Rattle.std.proofs.lemmas.List.{get_or-set_same, get_or-set_other, map-append}
 use Rattle.cc_lists.specs.Members.{Among}
 use Rattle.std.specs.List.{flat_map}
@@ -30,13 +30,17 @@ module _ (h k : Heap) (r slots : ℕ) (room : r < bank_length) (few : slots ≤ 
   allowed : h.natives_made < h.limits.natives
   allowed = room-left h.limits.natives h.natives_made none
 
+  -- the register is there
+  place : r < length h.native_registers
+  place = omega (arith, room, sound.well_formed.registers.0.enough)
+
   -- the register holds it, and the others stay
-  registers : k.native_registers ≡ (put [] h k r slots room few allowed sound).native_registers
+  registers : k.native_registers ≡ (put [] h k r slots place few allowed sound).native_registers
   unfolding make_native
-  registers = ap (λ (l : Heap). l.native_registers) is ∙ (let_go-frees [] (put [] h k r slots room few allowed sound) (register (with_native h slots) (N r)) (made-sound [] h k r slots room few allowed sound)).1.beside.native_registers
+  registers = ap (λ (l : Heap). l.native_registers) is ∙ (let_go-frees [] (put [] h k r slots place few allowed sound) (register (with_native h slots) (N r)) (made-sound [] h k r slots place few allowed sound)).1.beside.native_registers
 
   pub native-held : register k (N r) ≡ Some (native (h.natives_made + 1))
-  native-held = ap (λ rs. get_or rs r None) registers ∙ get_or-set_same h.native_registers r (Some (native (h.natives_made + 1))) None (omega (arith, room, sound.well_formed.registers.0))
+  native-held = ap (λ rs. get_or rs r None) registers ∙ get_or-set_same h.native_registers r (Some (native (h.natives_made + 1))) None place
 
   pub native-beside : (s : ℕ) → s ≢ r → register k (N s) ≡ register h (N s)
   native-beside s apart = ap (λ rs. get_or rs s None) registers ∙ get_or-set_other h.native_registers r s (Some (native (h.natives_made + 1))) None apart
@@ -45,9 +49,9 @@ module _ (h k : Heap) (r slots : ℕ) (room : r < bank_length) (few : slots ≤ 
   pub native-came : (x : Name) → Among x (names_there k) → Among x (names_there h) ⊎ (x ≡ native (h.natives_made + 1))
   unfolding make_native
   native-came x m =
-      let put_in = put [] h k r slots room few allowed sound in
+      let put_in = put [] h k r slots place few allowed sound in
       let given_up = register (with_native h slots) (N r) in
-      let f = let_go-frees [] put_in given_up (made-sound [] h k r slots room few allowed sound) in
+      let f = let_go-frees [] put_in given_up (made-sound [] h k r slots place few allowed sound) in
       let named : native_names put_in ≡ native_names h ++ native (h.natives_made + 1) ∷ [] =
       map-append (λ (n : HeapNative). native n.number) h.natives (native_to_make h slots ∷ []) in
       ⊎_elim

@@ -124,7 +124,7 @@ module _ (v : Keyed) (key : NKey) (ready : IsReady v) where
       heap = is-written;
       held = ap (λ (u : Keyed). get_or u.heap.native_registers spare None) is
           ∙ (ap (λ (rs : Slots). get_or rs spare None) (hold_native-registers v.heap spare content)
-          ∙ get_or-set_same v.heap.native_registers spare content None (omega (arith, ready.order.sound.well_formed.registers.0)));
+          ∙ get_or-set_same v.heap.native_registers spare content None (omega (arith, ready.order.sound.well_formed.registers.0.enough)));
       stands = stands;
       doomed = λ p. subst (KeepsDoomed v.heap) (sym (ap (λ (u : Keyed). u.heap) is)) (hold_native-doomed v.heap spare content p);
       keys = ap (λ (u : Keyed). u.keys) is ∙ keys-there (hold_native v.heap spare content).heap v.keys (λ q k e. still-there k (number-named v [] q k ready.order e));

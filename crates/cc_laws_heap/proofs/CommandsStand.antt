@@ -31,13 +31,14 @@ use Rattle.cc_model.specs.StandsFor.{StandsFor}
 use Rattle.cc_laws_heap.specs.Sound.{IsSound}
 use Rattle.cc_laws_heap.proofs.Holds.{OfSome, OfSome-then, contents-get}
 use Rattle.cc_laws_heap.proofs.GraphReads.{MadeNative, MadeScript, MadeScript-made, native_register-made}
-use Rattle.cc_laws_heap.proofs.GraphCommands.{preserve-well, scripts-preserve, step-well}
+use Rattle.cc_laws_heap.proofs.GraphCommands.{done_to-well, preserve-well, scripts-preserve, step-well}
 use Rattle.cc_laws_heap.proofs.References.{native-there}
 use Rattle.cc_laws_heap.proofs.ReachedAlike.{reached-there}
 use Rattle.cc_laws_heap.proofs.CascadeTakesOut.{TellsWhatIsGone, let_go-gone}
 use Rattle.cc_laws_heap.proofs.Taken.{IsTaken, IsTaken-from}
 use Rattle.cc_laws_heap.proofs.MayBeDoneTo.{IsScriptNamed, MayBeDoneTo, may_be_done_to}
-use Rattle.cc_laws_heap.proofs.CommandsSound.{effects-sound}
+use Rattle.cc_laws_heap.proofs.MayBeDone.{MayBeDone}
+use Rattle.cc_laws_heap.proofs.CommandsSound.{done_in-sound, effects-sound}
 use Rattle.cc_laws_heap.proofs.Numbered.{numbered-nothing}
 use Rattle.cc_laws_heap.proofs.RepliesAlike.{AreAlike, slot_at-alike, refusal_of-alike, deed_of-alike, delegate-stands, objects-stand}
 use Rattle.cc_laws_heap.proofs.ReachedReads.{HasBehind, register-reached, slot_at-reached, script-behind}
@@ -158,6 +159,26 @@ pub command-stands : {owned : List ℕ} (h : Heap) (g : Graph) (c : Command) →
 command-stands h g c sound m s r t = effects-follow h g sound.well_formed m s c r (IsTaken-from (graph.objects_of g) c (refused-alike h g c s t)) (StandsFor (effects h c).heap (step g c))
     (λ P f. follows-stands P (effects h c).heap (step g c) (effects-sound h c sound r (IsTaken-from (heap.objects_of h) c t)).well_formed (step-well g m c r)
     (subst (Follows P (effects h c).heap) (sym (step-changed h g c s t)) f))
+
+-- WHERE A DEED MAY BE DONE THE HEAPS STAND, once it is done, for what it makes of the graph.
+deed-stands : {owned : List ℕ} (h : Heap) (g : Graph) (d : Deed) → IsSound owned h → IsWellMade g → StandsFor h g → MayBeDone h d → MayBeDoneTo g d →
+    IsWellMade (done_to g d) × StandsFor (done_in h d).heap (done_to g d)
+deed-stands h g d sound m s may to =
+    let well : IsWellMade (done_to g d) = done_to-well g m d to in (
+      well,
+      done_in-follows h g sound.well_formed m s d to (StandsFor (done_in h d).heap (done_to g d))
+          (λ P f. follows-stands P (done_in h d).heap (done_to g d) (done_in-sound h d sound may).well_formed well f),
+    )
+
+-- A COMMAND THAT IS NOT REFUSED LEAVES THEM STANDING wherever what it comes to may be done, also with a register that no command names.
+pub done-stands : {owned : List ℕ} (h : Heap) (g : Graph) (c : Command) → IsSound owned h → IsWellMade g → StandsFor h g → refusal_of (heap.objects_of h) c ≡ None →
+    MayBeDone h (deed_of (heap.objects_of h) c) → MayBeDoneTo g (deed_of (graph.objects_of g) c) → IsWellMade (step g c) × StandsFor (effects h c).heap (step g c)
+unfolding effects changed
+done-stands h g c sound m s t may to =
+    let same = deed_of-alike (heap.objects_of h) (graph.objects_of g) (objects-stand h g s) c in
+    subst (λ e. IsWellMade e × StandsFor (done_in h (deed_of (heap.objects_of h) c)).heap e) (sym (step-changed h g c s t))
+    (subst (λ d. IsWellMade (done_to g (deed_of (graph.objects_of g) c)) × StandsFor (done_in h d).heap (done_to g (deed_of (graph.objects_of g) c))) (sym same)
+    (deed-stands h g (deed_of (graph.objects_of g) c) sound m s (subst (MayBeDone h) same may) to))
 
 -- What is freed
 

@@ -5,7 +5,7 @@ use Rattle.std.proofs.lemmas.List.Sums.{count_by-le-length}
 use Rattle.cc_lists.specs.Members.{Among}
 use Rattle.cc_lists.proofs.Members.{Among-map_cases}
 use Rattle.cc_names.specs.Names.{native, reflector, same_name}
-use Rattle.cc_names.specs.Sizes.{bank_length, most_references, most_slots}
+use Rattle.cc_names.specs.Sizes.{most_references, most_slots}
 use Rattle.cc_model.specs.Slots.{Slots, contents}
 use Rattle.cc_model.specs.Heap.{Heap, HeapNative}
 use Rattle.cc_model.specs.WellFormed.{IsWellFormed, IsRising}
@@ -39,13 +39,13 @@ contents-length [] = omega arith
 contents-length (None ∷ slots) = omega (arith, contents-length slots)
 contents-length (Some x ∷ slots) = omega (arith, contents-length slots)
 
--- Of a million natives none has more than most_references in the heaps' lists; the others are owned.
+-- Of a million natives none has more than most_references in the heaps' lists, by how many native registers there are; the others are owned.
 pub count-bound : (owned : List ℕ) (h : Heap) (n : HeapNative) → IsSound owned h → h.limits.natives ≤ 1000000 → Among n h.natives →
-    n.count ≤ most_references + times n.number owned
+    n.count ≤ most_references (length h.native_registers) + times n.number owned
 count-bound owned h n s few m =
     let w : IsWellFormed h = s.well_formed in
-    let registers : count_by (same_name (native n.number)) (contents h.native_registers) ≤ bank_length =
-    omega (arith, count_by-le-length (same_name (native n.number)) (contents h.native_registers), contents-length h.native_registers, w.registers.0) in
+    let registers : count_by (same_name (native n.number)) (contents h.native_registers) ≤ length h.native_registers =
+    omega (arith, count_by-le-length (same_name (native n.number)) (contents h.native_registers), contents-length h.native_registers) in
     let slots : count_by (same_name (native n.number)) (slots_of_natives h) ≤ most_slots * length h.natives =
     omega (
       arith,

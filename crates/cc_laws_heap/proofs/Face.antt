@@ -8,7 +8,7 @@ pub use Rattle.cc_laws_heap.proofs.ColourChanges.{AreColoured-push, AreColoured-
 pub use Rattle.cc_laws_heap.proofs.Coloured.{AreColoured-from_view, HasColourInvariant-from, IsColoured}
 pub use Rattle.cc_laws_heap.proofs.CommandsColours.{done_in-coloured, effects-coloured, taken_out-black, taken_out-coloured}
 pub use Rattle.cc_laws_heap.proofs.CommandsSound.{done_in-sound, effects-sound}
-pub use Rattle.cc_laws_heap.proofs.CommandsStand.{command-stands, empty-stands, proxy-follows}
+pub use Rattle.cc_laws_heap.proofs.CommandsStand.{command-stands, done-stands, empty-stands, proxy-follows}
 pub use Rattle.cc_laws_heap.proofs.CountBound.{count-bound, natives-made}
 pub use Rattle.cc_laws_heap.proofs.Counted.{IsCounted-owned, IsCounted-referred, count_at-found}
 pub use Rattle.cc_laws_heap.proofs.Drain.{drained-balanced, free_front-fewer}
@@ -33,6 +33,7 @@ pub use Rattle.cc_laws_heap.proofs.HoldsTheSame.{HoldsTheSame-add_ref, HoldsTheS
 pub use Rattle.cc_laws_heap.proofs.Kept.{IsBuffer, IsWellFormed-buffer, with_buffer, with_entries}
 pub use Rattle.cc_laws_heap.proofs.Leaving.{IsOf, Leave, Leave-add_ref, Leave-before, Leave-frees, Leave-not_freed, done-leaves, is_left, numbers_there, numbers_there-named}
 pub use Rattle.cc_laws_heap.proofs.LedReached.{reached-led}
+pub use Rattle.cc_laws_heap.proofs.Lengthening.{IsBankLength-lengthened, contents-lengthened, length-lengthened, lengthen-sound, lengthen-stands, lengthen-well, view-lengthen}
 pub use Rattle.cc_laws_heap.proofs.MadeAlike.{Follows-made, IsMade}
 pub use Rattle.cc_laws_heap.proofs.MadeSound.{with_native-sound, with_script-sound}
 pub use Rattle.cc_laws_heap.proofs.Making.{IsRising-push, contents-empty, contents-empty_none, places-with_mark, with_mark-cases}
@@ -42,9 +43,10 @@ pub use Rattle.cc_laws_heap.proofs.MarkedWellFormed.{is_spared, is_spared_entry}
 pub use Rattle.cc_laws_heap.proofs.Marking.{HasColours-marked, as_marked, colour_of}
 pub use Rattle.cc_laws_heap.proofs.MarkingKeeps.{IsSound-marked, round-frees, round-sound, script_names-marked}
 pub use Rattle.cc_laws_heap.proofs.MayBeDone.{MayBeDone, may_be_done}
+pub use Rattle.cc_laws_heap.proofs.MayBeDoneTo.{MayBeDoneTo}
 pub use Rattle.cc_laws_heap.proofs.Moving.{slot-there, taken_out-length, taken_out-names, taken_out-sound, taken_out-there, touched-natives, touched-registers}
 pub use Rattle.cc_laws_heap.proofs.NameLists.{is_not_among-apart, is_not_among-from, natives_in-natives, same_name-sym}
-pub use Rattle.cc_laws_heap.proofs.NativeCommands.{IsIn-made, IsIn-take_up, names_there-take_up}
+pub use Rattle.cc_laws_heap.proofs.NativeCommands.{IsIn-made, IsIn-take_up, names_there-take_up, room-take_up}
 pub use Rattle.cc_laws_heap.proofs.Natives.{HasDistinctNumbers-change, IsRising-distinct, IsWellFormed-distinct, KeepsNumber, changed_at, changed_at-number, named-found, named-member, native_at-change_other, native_at-change_same, native_at-member, native_at-named, native_at-number, native_at-there, native_names-change}
 pub use Rattle.cc_laws_heap.proofs.NativesKeepScripts.{SameScripts, SameScripts-coloured, SameScripts-take_up, let_go-scripts}
 pub use Rattle.cc_laws_heap.proofs.Numbered.{change_numbered, numbered-change, numbered-change_other, numbered-next, numbered-push, numbered-push_old}

@@ -145,7 +145,7 @@ module _ (g : Graph) (w : IsWellMade g) where
   map-named x m e = grind arith
 
   -- WHAT IS DONE LEAVES THE GRAPH WELL MADE.
-  done_to-well : (d : Deed) → MayBeDoneTo g d → IsWellMade (done_to g d)
+  pub done_to-well : (d : Deed) → MayBeDoneTo g d → IsWellMade (done_to g d)
   unfolding done_to
   done_to-well nothing_done m = w
   done_to-well (native_made d n) m = IsWellMade-native_register (with_native g n) d (Some (native (length g.natives + 1)))

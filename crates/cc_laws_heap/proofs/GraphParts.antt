@@ -7,7 +7,8 @@ use Rattle.cc_lists.specs.Members.{Among}
 use Rattle.cc_names.specs.declared.name.Name.{Name}
 use Rattle.cc_names.specs.declared.name.Name.TheVariants as name
 use Rattle.cc_names.specs.Names.{native, object, reflector, is_native, is_script}
-use Rattle.cc_names.specs.Sizes.{bank_length, most_slots}
+use Rattle.cc_names.specs.Sizes.{most_slots}
+use Rattle.cc_model.specs.Banks.{IsBankLength}
 use Rattle.cc_model.specs.Slots.{Slots, contents, reflector_slots}
 use Rattle.cc_model.specs.Entries.{Entry, is_entry_of}
 use Rattle.cc_model.specs.Graph.{Graph, GraphNative, GraphScript, plain_object, weak_map, proxy, delegate_of_script, delegate_in, numbered, native_in, script_in}
@@ -105,16 +106,16 @@ module _ (g f : Graph) (more : Grows g f) where
 abbrev pub with_registers : Graph → Slots → Slots → Graph
 with_registers g ns ss = record g { native_registers = ns; script_registers = ss }
 
--- registers of the graph's number, that hold what was made, each of its kind
+-- banks of registers that hold what was made, each of its kind
 pub record AreRegisters (g : Graph) (ns ss : Slots) : Type 0 where
   pub natives : (x : Name) → Among x (contents ns) → IsTrue (is_made_native g x)
   pub scripts : (x : Name) → Among x (contents ss) → IsTrue (is_made_script g x)
-  pub enough : (length ns ≡ bank_length) × (length ss ≡ bank_length)
+  pub lengths : IsBankLength (length ns) × IsBankLength (length ss)
 
 -- WITH OTHER REGISTERS a graph is well made.
 pub IsWellMade-registers : (g : Graph) (ns ss : Slots) → IsWellMade g → AreRegisters g ns ss → IsWellMade (with_registers g ns ss)
 IsWellMade-registers g ns ss w r = record {
-  registers = r.enough;
+  registers = r.lengths;
   native_registers = r.natives;
   script_registers = r.scripts;
   native_slots = w.native_slots;

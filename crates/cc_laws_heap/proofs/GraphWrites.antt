@@ -9,6 +9,7 @@ use Rattle.cc_names.specs.declared.name.Name.{Name}
 use Rattle.cc_names.specs.declared.register.Reg.TheVariants.{N, S}
 use Rattle.cc_names.specs.Names.{reflector}
 use Rattle.cc_names.specs.Sizes.{most_slots}
+use Rattle.cc_model.specs.Banks.{IsBankLength}
 use Rattle.cc_model.specs.Slots.{Slots, contents, empty_slots}
 use Rattle.cc_model.specs.Graph.{Graph, GraphNative, GraphScript, plain_object, weak_map, proxy, delegate_of_script, numbered, native_in, script_in, set_register, set_native, set_script, with_slot, with_reflector_slot, as_preserved, as_wrapped, with_script_slot, with_native, with_script, new_graph_native}
 use Rattle.cc_model.specs.WellMade.{IsWellMade, was_made, is_made_native, is_made_script}
@@ -24,7 +25,7 @@ pub IsWellMade-native_register : (g : Graph) (d : ℕ) (x : Option Name) → IsW
 IsWellMade-native_register g d x w m = IsWellMade-registers g (set g.native_registers d x) g.script_registers w (record {
   natives = contents-set (λ y. IsTrue (is_made_native g y)) g.native_registers d x w.native_registers m;
   scripts = w.script_registers;
-  enough = (length-set g.native_registers d x ∙ w.registers.0, w.registers.1);
+  lengths = (subst IsBankLength (sym (length-set g.native_registers d x)) w.registers.0, w.registers.1);
 })
 
 -- the same of a script register
@@ -32,7 +33,7 @@ pub IsWellMade-script_register : (g : Graph) (d : ℕ) (x : Option Name) → IsW
 IsWellMade-script_register g d x w m = IsWellMade-registers g g.native_registers (set g.script_registers d x) w (record {
   natives = w.native_registers;
   scripts = contents-set (λ y. IsTrue (is_made_script g y)) g.script_registers d x w.script_registers m;
-  enough = (w.registers.0, length-set g.script_registers d x ∙ w.registers.1);
+  lengths = (w.registers.0, subst IsBankLength (sym (length-set g.script_registers d x)) w.registers.1);
 })
 
 -- One native changed

@@ -4,7 +4,8 @@ use Rattle.cc_lists.specs.Members.{Among}
 use Rattle.cc_lists.proofs.Members.{Among-map}
 use Rattle.cc_names.specs.declared.name.Name.{Name}
 use Rattle.cc_names.specs.Names.{native, object, reflector, same_name}
-use Rattle.cc_names.specs.Sizes.{bank_length, most_slots}
+use Rattle.cc_names.specs.Sizes.{most_slots}
+use Rattle.cc_model.specs.Banks.{IsBankLength}
 use Rattle.cc_model.specs.Slots.{Slots, contents}
 use Rattle.cc_model.specs.Entries.{Entry, is_entry_of}
 use Rattle.cc_model.specs.Heap.{Heap, HeapNative, HeapScript, Buffered}
@@ -23,11 +24,11 @@ with_registers h ns ss = record h { native_registers = ns; script_registers = ss
 pub record AreRegisters (h : Heap) (ns ss : Slots) : Type 0 where
   pub natives : (x : Name) → Among x (contents ns) → Among x (native_names h)
   pub scripts : (x : Name) → Among x (contents ss) → Among x (script_names h)
-  pub enough : (length ns ≡ bank_length) × (length ss ≡ bank_length)
+  pub lengths : IsBankLength (length ns) × IsBankLength (length ss)
 
 -- the registers of well formed heaps are such
 AreRegisters-own : (h : Heap) → IsWellFormed h → AreRegisters h h.native_registers h.script_registers
-AreRegisters-own h w = record { natives = w.native_registers; scripts = w.script_registers; enough = w.registers }
+AreRegisters-own h w = record { natives = w.native_registers; scripts = w.script_registers; lengths = w.registers }
 
 -- the heaps with other entries
 abbrev pub with_entries : Heap → List Entry → Heap
@@ -61,7 +62,7 @@ IsWellFormed-beside : (h : Heap) (ns ss : Slots) (es : List Entry) (bs : List Bu
 IsWellFormed-beside h ns ss es bs w r t b = record {
   native_registers = r.natives;
   script_registers = r.scripts;
-  registers = r.enough;
+  registers = r.lengths;
   rising = w.rising;
   native_numbers = w.native_numbers;
   native_slots = w.native_slots;

@@ -90,6 +90,7 @@ pub mod Unseen
 pub mod Wrapping
 pub mod StepsAlike
 pub mod CommandsStand
+pub mod Lengthening
 pub mod GraphLeads
 pub mod WalksAlike
 pub mod LedReached

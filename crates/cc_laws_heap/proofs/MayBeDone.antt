@@ -1,6 +1,6 @@
 -- WHAT A DEED MAY REST ON: what it names is there, in range, of its kind and black. For every command this follows once, from sound heaps, from its
 -- ranges and from its checks.
-use Rattle.std.proofs.Common.{ℕ, List, Option, Some, None, sym, subst}
+use Rattle.std.proofs.Common.{ℕ, ◌<◌, List, length, Option, Some, None, sym, subst, arith}
 use Rattle.std.specs.Prelude.{IsTrue}
 use Rattle.cc_lists.specs.Members.{Among}
 use Rattle.cc_lists.proofs.Members.{Among-map, Among-map_cases}
@@ -50,6 +50,7 @@ readings h = record {
   script = IsIn (script_names h);
   held_script = IsScriptRead h;
   held = IsRead h;
+  place = λ d. d < length h.native_registers;
 }
 
 -- WHAT A DEED RESTS ON
@@ -93,6 +94,7 @@ reads : (h : Heap) → IsWellFormed h → AreRead (readings h) (objects_of h)
 reads h w = record {
   no_native = λ y i. absurd i;
   no_script = nothing-read h;
+  place = λ d within. omega (arith, within, w.registers.0.enough);
   native_register = λ d. native_register-there h d w;
   held_native = λ d. native_register-read h d w;
   script_register = λ d. script_register-read h d w;

@@ -1,6 +1,6 @@
 -- WHAT A DEED MAY REST ON IN A GRAPH: what it names was made, is of its kind, and is reached. For every command this follows once, from a well made
 -- graph, from its ranges and from its checks.
-use Rattle.std.proofs.Common.{ℕ, Option}
+use Rattle.std.proofs.Common.{ℕ, ◌<◌, length, Option, arith}
 use Rattle.std.specs.Prelude.{IsTrue}
 use Rattle.cc_names.specs.declared.name.Name.{Name}
 use Rattle.cc_names.specs.declared.register.Reg.TheVariants.{N, S}
@@ -42,6 +42,7 @@ readings g = record {
   script = IsScriptNamed g;
   held_script = IsScriptNamed g;
   held = IsNamed g;
+  place = λ d. d < length g.native_registers;
 }
 
 -- WHAT A DEED RESTS ON
@@ -54,6 +55,7 @@ module _ (g : Graph) (w : IsWellMade g) where
   reads = record {
     no_native = record { made = tt; reached = tt };
     no_script = record { made = tt; reached = tt };
+    place = λ d within. omega (arith, within, w.registers.0.enough);
     native_register = native_register-named;
     held_native = native_register-named;
     script_register = λ d. record { made = script_register-made g w d; reached = register-reached g (S d) };

@@ -7,7 +7,7 @@ use Rattle.cc_names.specs.declared.name.Name.{Name}
 use Rattle.cc_names.specs.declared.name.Name.TheVariants as name
 use Rattle.cc_names.specs.declared.register.Reg.TheVariants.{N}
 use Rattle.cc_names.specs.Names.{native}
-use Rattle.cc_names.specs.Sizes.{bank_length, most_slots}
+use Rattle.cc_names.specs.Sizes.{most_slots}
 use Rattle.cc_model.specs.Slots.{Slots}
 use Rattle.cc_model.specs.Checks.{slots_or_none, slots_at}
 use Rattle.cc_model.specs.Heap.{Heap, HeapNative, Outcome, native_at, slots_in, register, set_register, change_native, with_native_slot, objects_of}
@@ -25,7 +25,7 @@ use Rattle.cc_laws_heap.proofs.Holding.{IsIn-natives, native_register-there}
 -- Native registers
 
 -- a native register written, whose new reference is owned
-pub put_in_register-sound : (owned : List ℕ) (h : Heap) (d : ℕ) (x : Option Name) → d < bank_length → IsIn (native_names h) x →
+pub put_in_register-sound : (owned : List ℕ) (h : Heap) (d : ℕ) (x : Option Name) → d < length h.native_registers → IsIn (native_names h) x →
     IsSound (numbers_of x ++ owned) h → IsSound owned (put_in_register h d x).heap
 put_in_register-sound owned h d x room there s = let_go-sound owned (set_register h (N d) x) (register h (N d)) (native_register-sound owned h d x room there s)
 
@@ -33,11 +33,16 @@ put_in_register-sound owned h d x room there s = let_go-sound owned (set_registe
 pub IsIn-take_up : (h : Heap) (x y : Option Name) → IsIn (native_names h) y → IsIn (native_names (take_up h x)) y
 IsIn-take_up h x y there = subst (λ xs. IsIn xs y) (sym (native_names-alike h (take_up h x) (HoldsTheSame-take_up h x))) there
 
+-- and all registers
+pub room-take_up : (h : Heap) (x : Option Name) (d : ℕ) → d < length h.native_registers → d < length (take_up h x).native_registers
+room-take_up h x d room = subst (λ (rs : Slots). d < length rs) (sym (HoldsTheSame-take_up h x).beside.native_registers) room
+
 -- A native that is there comes into a native register.
-pub hold_native-sound : (owned : List ℕ) (h : Heap) (d : ℕ) (x : Option Name) → d < bank_length → IsIn (native_names h) x → IsSound owned h →
+pub hold_native-sound : (owned : List ℕ) (h : Heap) (d : ℕ) (x : Option Name) → d < length h.native_registers → IsIn (native_names h) x → IsSound owned h →
     IsSound owned (hold_native h d x).heap
 unfolding hold_native
-hold_native-sound owned h d x room there s = search (put_in_register-sound, IsIn-take_up, take_up-sound, IsIn-natives)
+hold_native-sound owned h d x room there s = put_in_register-sound owned (take_up h x) d x (room-take_up h x d room) (IsIn-take_up h x x there)
+    (take_up-sound owned h x (IsIn-natives h x there) s)
 
 -- Slots of natives
 
@@ -105,7 +110,8 @@ pub IsIn-made : (h : Heap) (n : ℕ) → IsWellFormed h → IsIn (native_names (
 IsIn-made h n w = λ y m. ⊎_elim (λ e. subst (λ z. Among z (native_names (with_native h n))) e (native_names-new_native h n w)) (λ t. absurd t) m
 
 -- A native is made, and a native register holds it.
-pub make_native-sound : (owned : List ℕ) (h : Heap) (d n : ℕ) → d < bank_length → n ≤ most_slots → h.natives_made < h.limits.natives → IsSound owned h →
+pub make_native-sound : (owned : List ℕ) (h : Heap) (d n : ℕ) → d < length h.native_registers → n ≤ most_slots → h.natives_made < h.limits.natives → IsSound owned h →
     IsSound owned (make_native h d n).heap
 unfolding make_native
-make_native-sound owned h d n room few allowed s = search (put_in_register-sound, IsIn-made, with_native-sound)
+make_native-sound owned h d n room few allowed s = put_in_register-sound owned (with_native h n) d (Some (native (h.natives_made + 1))) room
+    (IsIn-made h n s.well_formed) (with_native-sound owned h n s few allowed)

@@ -24,12 +24,14 @@ pub record Readings : Type 1 where
   pub held_script : Option Name → Type 0
   -- of any object that a register holds
   pub held : Option Name → Type 0
+  -- of the place of a native register
+  pub place : ℕ → Type 0
 
 -- What each deed rests on
 
 -- one more native with n slots, which native register d is to hold
-pub record HasRoomForNative (o : Objects) (d n : ℕ) : Type 0 where
-  pub register : d < bank_length
+pub record HasRoomForNative (P : Readings) (o : Objects) (d n : ℕ) : Type 0 where
+  pub register : P.place d
   pub few : n ≤ most_slots
   pub room : o.natives_made < o.limits.natives
 
@@ -51,11 +53,11 @@ pub record EntryRests (P : Readings) (o : Objects) (m k v : Option Name) : Type 
 -- WHAT A DEED RESTS ON
 abbrev pub RestsOn : Readings → Objects → Deed → Type 0
 RestsOn P o nothing_done = Unit {0}
-RestsOn P o (native_made d n) = HasRoomForNative o d n
+RestsOn P o (native_made d n) = HasRoomForNative P o d n
 RestsOn P o (plain_made d n) = (n ≤ most_slots) × HasRoomForScript o
 RestsOn P o (map_made d) = HasRoomForScript o
 RestsOn P o (proxy_made d x) = P.held_script x × (is_none x ≡ false) × HasRoomForScript o
-RestsOn P o (native_held d x) = (d < bank_length) × P.native x
+RestsOn P o (native_held d x) = P.place d × P.native x
 RestsOn P o (script_held d x) = P.script x
 RestsOn P o (script_copied d x) = P.held_script x
 RestsOn P o (native_stored d i x) = P.held x × HasSlotAt o d i
@@ -70,6 +72,8 @@ RestsOn P o (object_exposed x) = Unit {0}
 pub record AreRead (P : Readings) (o : Objects) : Type 0 where
   pub no_native : P.native None
   pub no_script : P.held_script None
+  -- a register that commands can name has a place
+  pub place : (d : ℕ) → d < bank_length → P.place d
   -- registers, and what a source gives
   pub native_register : (d : ℕ) → P.native (o.register (N d))
   pub held_native : (d : ℕ) → P.held_native (o.register (N d))
@@ -85,6 +89,6 @@ pub record AreRead (P : Readings) (o : Objects) : Type 0 where
 -- EVERY COMMAND that is in range and not refused rests on what it may.
 pub rests_on : (P : Readings) (o : Objects) → AreRead P o → (c : Command) → IsTrue (in_range c) → IsTaken o c → RestsOn P o (deed_of o c)
 unfolding deed_of
-rests_on P o a (Get (N d) s i) r t = (ltb-true d bank_length (and_parts (is_register d) (is_register s) r).0, a.native_slot s i t.content)
+rests_on P o a (Get (N d) s i) r t = (a.place d (ltb-true d bank_length (and_parts (is_register d) (is_register s) r).0), a.native_slot s i t.content)
 rests_on P o a (Get (S d) s i) r t = a.script_in_native s i t.content
-rests_on P o a c r t = grind (arith, and_parts, or_parts, ltb-true, leb-true, leb-false, not-false, a.no_native, a.no_script, a.native_register, a.held_native, a.script_register, a.source, a.script_slot, a.value, a.behind)
+rests_on P o a c r t = grind (arith, and_parts, or_parts, ltb-true, leb-true, leb-false, not-false, a.place, a.no_native, a.no_script, a.native_register, a.held_native, a.script_register, a.source, a.script_slot, a.value, a.behind)

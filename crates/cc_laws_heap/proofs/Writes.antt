@@ -7,7 +7,8 @@ use Rattle.cc_lists.specs.Members.{Among}
 use Rattle.cc_names.specs.declared.name.Name.{Name}
 use Rattle.cc_names.specs.declared.register.Reg.TheVariants.{N, S}
 use Rattle.cc_names.specs.Names.{native, reflector, same_name}
-use Rattle.cc_names.specs.Sizes.{bank_length, most_slots}
+use Rattle.cc_names.specs.Sizes.{most_slots}
+use Rattle.cc_model.specs.Banks.{IsBankLength}
 use Rattle.cc_model.specs.Slots.{Slots, contents}
 use Rattle.cc_model.specs.Heap.{Heap, HeapNative, HeapScript, native_at, register, set_register, change_native, with_native_slot, set_preserved}
 use Rattle.cc_model.specs.WellFormed.{IsWellFormed, native_names, script_names, names_there}
@@ -35,18 +36,18 @@ contents-written names slots i x new old y m = ⊎_elim (new y) (old y) (Among-f
 -- Registers
 
 -- A native register is written.
-pub native_register-sound : (owned : List ℕ) (h : Heap) (d : ℕ) (x : Option Name) → d < bank_length → IsIn (native_names h) x →
+pub native_register-sound : (owned : List ℕ) (h : Heap) (d : ℕ) (x : Option Name) → d < length h.native_registers → IsIn (native_names h) x →
     IsSound (numbers_of x ++ owned) h → IsSound (numbers_of (register h (N d)) ++ owned) (set_register h (N d) x)
 native_register-sound owned h d x room there s = IsSound-from_counted (numbers_of (register h (N d)) ++ owned) (set_register h (N d) x)
     (IsWellFormed-registers h (set h.native_registers d x) h.script_registers w (record {
       natives = contents-written (native_names h) h.native_registers d x there w.native_registers;
       scripts = w.script_registers;
-      enough = (length-set h.native_registers d x ∙ w.registers.0, w.registers.1);
+      lengths = (subst IsBankLength (sym (length-set h.native_registers d x)) w.registers.0, w.registers.1);
     }))
     (λ k. omega (
       arith,
       IsSound-counted (numbers_of x ++ owned) h s k,
-      count_by-flat_map_set (same_name (native k)) option_to_list h.native_registers d x None within,
+      count_by-flat_map_set (same_name (native k)) option_to_list h.native_registers d x None room,
       times-numbers_of k x owned,
       times-numbers_of k (register h (N d)) owned,
     ))
@@ -55,9 +56,6 @@ native_register-sound owned h d x room there s = IsSound-from_counted (numbers_o
     w : IsWellFormed h
     w = s.well_formed
 
-    within : d < length h.native_registers
-    within = omega (arith, s.well_formed.registers.0)
-
 -- A script register is written: no count changes.
 pub script_register-sound : (owned : List ℕ) (h : Heap) (d : ℕ) (x : Option Name) → IsIn (script_names h) x →
     IsSound owned h → IsSound owned (set_register h (S d) x)
@@ -65,7 +63,7 @@ script_register-sound owned h d x there s = record {
   well_formed = IsWellFormed-registers h h.native_registers (set h.script_registers d x) w (record {
     natives = w.native_registers;
     scripts = contents-written (script_names h) h.script_registers d x there w.script_registers;
-    enough = (w.registers.0, length-set h.script_registers d x ∙ w.registers.1);
+    lengths = (w.registers.0, subst IsBankLength (sym (length-set h.script_registers d x)) w.registers.1);
   });
   counts = s.counts;
   none_zero = s.none_zero;

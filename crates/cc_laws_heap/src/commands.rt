@@ -1,5 +1,5 @@
 //! Laws of commands: counts are those of the references, and the colour invariant holds.
-ghost use Rattle.std.specs.Prelude.{◌≡◌, ◌+◌, ◌≤◌, ℕ, IsTrue, List, [], None};
+ghost use Rattle.std.specs.Prelude.{◌≡◌, ◌+◌, ◌≤◌, ℕ, IsTrue, List, [], None, length};
 ghost use Rattle.cc_lists.specs.Members.{Among};
 ghost use Rattle.cc_names.specs.Allowance.{Allowance};
 ghost use Rattle.cc_names.specs.Sizes.{most_references};
@@ -21,7 +21,7 @@ pub fn commands_keep_counts()
     ensures command { (h : Heap) (c : Command) → IsSound [] h → IsTrue (in_range c) →
         refusal_of (objects_of h) c ≡ None → IsSound [] (effects h c).heap }
     ensures bound { (owned : List ℕ) (h : Heap) (n : HeapNative) → IsSound owned h → h.limits.natives ≤ 1000000 →
-        Among n h.natives → n.count ≤ most_references + times n.number owned }
+        Among n h.natives → n.count ≤ most_references (length h.native_registers) + times n.number owned }
 {}
 
 /// Each command that is not refused keeps the colour invariant: no black script object has a gray one in a

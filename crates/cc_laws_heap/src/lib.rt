@@ -8,6 +8,7 @@
 //! Those crates prove that their calls are the definitions of `cc_model`, and cite these laws.
 #![tactic(auto)]
 
+mod banks;
 mod commands;
 mod counts;
 mod ends;
@@ -15,6 +16,7 @@ mod paths;
 mod rounds;
 mod stands;
 
+pub use banks::banks_may_be_longer;
 pub use commands::{commands_keep_colours, commands_keep_counts};
 pub use counts::cascade_keeps_counts;
 pub use ends::{ends_keep_counts, ends_stand, unlinking_keeps_counts};

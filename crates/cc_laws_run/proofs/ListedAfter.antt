@@ -21,6 +21,7 @@ use Rattle.cc_model.specs.Deeds.{Deed, native_made, deed_of}
 use Rattle.cc_model.specs.Graph.{Graph, done_to, changed, unless_refused, step}
 use Rattle.cc_model.specs.Reached.{Reached, held}
 use Rattle.cc_model.specs.WellMade.{IsWellMade}
+use Rattle.cc_model.specs.Slots.{Slots}
 use Rattle.cc_model.specs.Heap.{Heap, HeapNative, register, objects_of, has_reflector}
 use Rattle.cc_model.specs.Effects.{effects}
 use Rattle.cc_model.specs.WellFormed.{IsWellFormed, native_names, script_names}
@@ -69,7 +70,7 @@ unfolding done_to
 made-reached h g (native_made d n) k w s m i = ⊎_elim
     (λ e. subst (λ x. Reached (done_to g (native_made d n)) x) e
     (held (N d) (native (h.natives_made + 1))
-    (get_or-set_same g.native_registers d (Some (native (length g.natives + 1))) None (subst (λ l. d < l) (sym w.registers.0) m.register)
+    (get_or-set_same g.native_registers d (Some (native (length g.natives + 1))) None (subst (λ (rs : Slots). d < length rs) s.native_registers m.register)
     ∙ ap (λ j. Some (native (j + 1))) (sym s.natives_made))))
     (λ n. absurd n) i
 made-reached h g _ k w s m i = absurd i

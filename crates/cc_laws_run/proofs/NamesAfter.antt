@@ -12,7 +12,7 @@ use Rattle.cc_names.specs.declared.register.Reg.TheVariants.{N, S}
 use Rattle.cc_names.specs.declared.kind.Kind.{Kind}
 use Rattle.cc_names.specs.declared.kind.Kind.TheVariants.{Plain, Reflector, Map, Proxy as proxy_kind}
 use Rattle.cc_names.specs.Names.{native, object, reflector}
-use Rattle.cc_names.specs.Sizes.{bank_length, most_slots}
+use Rattle.cc_names.specs.Sizes.{most_slots}
 use Rattle.cc_model.specs.declared.command.Command.{Command}
 use Rattle.cc_model.specs.Slots.{reflector_slots}
 use Rattle.cc_model.specs.Ranges.{in_range}
@@ -36,7 +36,7 @@ use Rattle.cc_laws_heap.proofs.Owning.{IsIn, take_up-sound}
 use Rattle.cc_laws_heap.proofs.Writes.{native_register-sound, native_slot-sound}
 use Rattle.cc_laws_heap.proofs.MadeSound.{with_native-sound}
 use Rattle.cc_laws_heap.proofs.Holding.{IsIn-natives}
-use Rattle.cc_laws_heap.proofs.NativeCommands.{IsIn-take_up, HasSlot, HasSlot-from, HasSlot-take_up, put_in_slot-written, names_there-take_up, IsIn-made}
+use Rattle.cc_laws_heap.proofs.NativeCommands.{IsIn-take_up, room-take_up, HasSlot, HasSlot-from, HasSlot-take_up, put_in_slot-written, names_there-take_up, IsIn-made}
 use Rattle.cc_laws_heap.proofs.Moving.{taken_out-sound, taken_out-there, HasSlot-taken_out, move_slot-is}
 use Rattle.cc_laws_heap.proofs.Emptying.{let_go-frees}
 use Rattle.cc_laws_heap.proofs.Taken.{IsTaken}
@@ -93,21 +93,21 @@ NamesAfter-freed h g o s f = (f.0, NamesAfter-frees h g [] f.0 o (s.natives ∙ 
 -- Commands that give up natives
 
 -- a native register written
-put_in_register-frees : (h : Heap) (d : ℕ) (x : Option Name) → d < bank_length → IsIn (native_names h) x → IsSound (numbers_of x ++ []) h →
+put_in_register-frees : (h : Heap) (d : ℕ) (x : Option Name) → d < length h.native_registers → IsIn (native_names h) x → IsSound (numbers_of x ++ []) h →
     (ks : List ℕ) × Frees (set_register h (N d) x) ks (put_in_register h d x)
 put_in_register-frees h d x room there s = let_go-frees [] (set_register h (N d) x) (register h (N d)) (native_register-sound [] h d x room there s)
 
 -- a native register written with what is there
-put_in_register-names : (h g : Heap) (d : ℕ) (x : Option Name) → SameNames h g → d < bank_length → IsIn (native_names g) x → IsSound (numbers_of x ++ []) g →
+put_in_register-names : (h g : Heap) (d : ℕ) (x : Option Name) → SameNames h g → d < length g.native_registers → IsIn (native_names g) x → IsSound (numbers_of x ++ []) g →
     (ks : List ℕ) × NamesAfter h (put_in_register g d x) ks [] []
 put_in_register-names h g d x a room there s =
     NamesAfter-freed h (set_register g (N d) x) (put_in_register g d x) (record { natives = a.natives; scripts = a.scripts }) (put_in_register-frees g d x room there s)
 
 -- a native register written, with the reference taken first
-hold_native-names : (h : Heap) (d : ℕ) (x : Option Name) → d < bank_length → IsIn (native_names h) x → IsSound [] h →
+hold_native-names : (h : Heap) (d : ℕ) (x : Option Name) → d < length h.native_registers → IsIn (native_names h) x → IsSound [] h →
     (ks : List ℕ) × NamesAfter h (hold_native h d x) ks [] []
 unfolding hold_native
-hold_native-names h d x room there s = put_in_register-names h (take_up h x) d x (SameNames-alike h (take_up h x) (HoldsTheSame-take_up h x)) room
+hold_native-names h d x room there s = put_in_register-names h (take_up h x) d x (SameNames-alike h (take_up h x) (HoldsTheSame-take_up h x)) (room-take_up h x d room)
     (IsIn-take_up h x x there) (take_up-sound [] h x (IsIn-natives h x there) s)
 
 -- a slot of a native written
@@ -144,7 +144,7 @@ move_slot-names h d i s j to from sound =
     (HasSlot-taken_out h f.number j x d i (HasSlot-from h d i sound.well_formed to)) (taken_out-sound h f.number j x [] f.there f.found f.room refl sound))
 
 -- a native made
-make_native-names : (h : Heap) (d n : ℕ) → d < bank_length → n ≤ most_slots → h.natives_made < h.limits.natives → IsSound [] h →
+make_native-names : (h : Heap) (d n : ℕ) → d < length h.native_registers → n ≤ most_slots → h.natives_made < h.limits.natives → IsSound [] h →
     (ks : List ℕ) × NamesAfter h (make_native h d n) ks (native (h.natives_made + 1) ∷ []) []
 unfolding make_native
 make_native-names h d n room few allowed s =

@@ -1,5 +1,5 @@
 -- WHAT A COMMAND COMES TO IS A LOYAL CHANGE, so each command that is not refused is one.
-use Rattle.std.proofs.Common.{◌≡◌, ℕ, ◌+◌, ◌<◌, ◌≤◌, List, ◌++◌, length, Option, Some, None, refl, sym, ◌∙◌, subst, inl, arith, slice_index_or}
+use Rattle.std.proofs.Common.{◌≡◌, ℕ, ◌+◌, ◌<◌, ◌≤◌, List, ◌++◌, length, Option, Some, None, refl, sym, ◌∙◌, subst, inl, slice_index_or}
 use Rattle.std.specs.Prelude.{IsTrue}
 use Rattle.std.specs.Option.{option_to_list}
 use Rattle.cc_lists.specs.Members.{Among}
@@ -7,7 +7,7 @@ use Rattle.cc_names.specs.declared.name.Name.{Name}
 use Rattle.cc_names.specs.declared.register.Reg.TheVariants.{N, S}
 use Rattle.cc_names.specs.declared.kind.Kind.TheVariants.{Plain, Map}
 use Rattle.cc_names.specs.Names.{native}
-use Rattle.cc_names.specs.Sizes.{bank_length, most_slots}
+use Rattle.cc_names.specs.Sizes.{most_slots}
 use Rattle.cc_model.specs.declared.command.Command.{Command}
 use Rattle.cc_model.specs.Slots.{contents}
 use Rattle.cc_model.specs.Ranges.{in_range}
@@ -25,7 +25,7 @@ use Rattle.cc_laws_heap.proofs.Owning.{IsIn, take_up-sound}
 use Rattle.cc_laws_heap.proofs.Writes.{contents-at, native_register-sound, native_slot-sound}
 use Rattle.cc_laws_heap.proofs.MadeSound.{with_native-sound}
 use Rattle.cc_laws_heap.proofs.Holding.{IsIn-natives}
-use Rattle.cc_laws_heap.proofs.NativeCommands.{IsIn-take_up, IsIn-made, HasSlot, HasSlot-take_up, put_in_slot-written, names_there-take_up}
+use Rattle.cc_laws_heap.proofs.NativeCommands.{IsIn-take_up, room-take_up, IsIn-made, HasSlot, HasSlot-take_up, put_in_slot-written, names_there-take_up}
 use Rattle.cc_laws_heap.proofs.MayBeDone.{MayBeDone, may_be_done}
 use Rattle.cc_laws_heap.proofs.CommandsSound.{done_in-sound}
 use Rattle.cc_laws_heap.proofs.Taken.{IsTaken}
@@ -38,26 +38,25 @@ use Rattle.cc_laws_snapshot.proofs.StillNatives.{Still-refl, Still-script_regist
 use Rattle.cc_laws_snapshot.proofs.MovesLoyal.{move_slot-loyal}
 
 -- a native comes into a native register
-pub hold_native-loyal : {owned : List ℕ} (h : Heap) (d : ℕ) (x : Option Name) → d < bank_length → IsIn (native_names h) x → IsSound owned h → IsLoyal (view h) (view (hold_native h d x).heap)
+pub hold_native-loyal : {owned : List ℕ} (h : Heap) (d : ℕ) (x : Option Name) → d < length h.native_registers → IsIn (native_names h) x → IsSound owned h → IsLoyal (view h) (view (hold_native h d x).heap)
 unfolding hold_native
 hold_native-loyal {owned} h d x room there s =
     let taken = take_up-sound owned h x (IsIn-natives h x there) s in
-    let enough : d < length (take_up h x).native_registers = omega (arith, taken.well_formed.registers.0) in
+    let enough : d < length (take_up h x).native_registers = room-take_up h x d room in
     let names : native_names (take_up h x) ≡ native_names h = native_names-alike h (take_up h x) (HoldsTheSame-take_up h x) in
     handed-loyal owned (register (take_up h x) (N d)) h (set_register (take_up h x) (N d) x) s.well_formed
-    (native_register-sound owned (take_up h x) d x room (IsIn-take_up h x x there) taken)
+    (native_register-sound owned (take_up h x) d x enough (IsIn-take_up h x x there) taken)
     (Hands-register h (take_up h x) d x enough (TakesUp-take_up h x) (λ i m. inl (subst (λ xs. Among (native i) xs) names m)))
 
 -- a native is made
-pub make_native-loyal : {owned : List ℕ} (h : Heap) (d n : ℕ) → d < bank_length → n ≤ most_slots → h.natives_made < h.limits.natives → IsSound owned h →
+pub make_native-loyal : {owned : List ℕ} (h : Heap) (d n : ℕ) → d < length h.native_registers → n ≤ most_slots → h.natives_made < h.limits.natives → IsSound owned h →
     IsLoyal (view h) (view (make_native h d n).heap)
 unfolding make_native
 make_native-loyal {owned} h d n room few allowed s =
     let made = with_native-sound owned h n s few allowed in
-    let enough : d < length (with_native h n).native_registers = omega (arith, s.well_formed.registers.0) in
     handed-loyal owned (register (with_native h n) (N d)) h (set_register (with_native h n) (N d) (Some (native (h.natives_made + 1)))) s.well_formed
     (native_register-sound owned (with_native h n) d (Some (native (h.natives_made + 1))) room (IsIn-made h n s.well_formed) made)
-    (Hands-register h (with_native h n) d (Some (native (h.natives_made + 1))) enough (TakesUp-with_native h n) (made-living h n))
+    (Hands-register h (with_native h n) d (Some (native (h.natives_made + 1))) room (TakesUp-with_native h n) (made-living h n))
 
 -- what is there comes into a slot of a native that is reached
 pub stored-loyal : {owned : List ℕ} (h : Heap) (k i : ℕ) (n : HeapNative) (x : Option Name) → IsIn (names_there h) x → native_at (take_up h x) k ≡ Some n → i < length n.slots →

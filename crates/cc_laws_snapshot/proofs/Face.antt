@@ -13,6 +13,7 @@ pub use Rattle.cc_laws_snapshot.proofs.KindsFresh.{fresh-coloured, fresh-more}
 pub use Rattle.cc_laws_snapshot.proofs.KindsHeld.{entry_written-suspected, flag_written-suspected, reflector_made-suspected, script_slot_written-suspected}
 pub use Rattle.cc_laws_snapshot.proofs.KindsMade.{reflector_made-fresh}
 pub use Rattle.cc_laws_snapshot.proofs.KindsWritten.{flag_written-fresh}
+pub use Rattle.cc_laws_snapshot.proofs.Lengthened.{lengthen-fresh, lengthen-gentle, lengthen-loyal, lengthen-suspected}
 pub use Rattle.cc_laws_snapshot.proofs.LoyalSuspected.{loyal-suspected}
 pub use Rattle.cc_laws_snapshot.proofs.Marked.{with_mark-keeps}
 pub use Rattle.cc_laws_snapshot.proofs.MovesGentle.{taken_out-gentle, taken_out-taken}

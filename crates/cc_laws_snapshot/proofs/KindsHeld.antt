@@ -1,5 +1,5 @@
 -- WHAT IS MADE, REFERRED TO, EXPOSED OR WRITTEN BESIDE NATIVES keeps every unreached native suspected.
-use Rattle.std.proofs.Common.{◌≡◌, ℕ, ◌+◌, ◌<◌, ◌≤◌, Bool, true, false, List, [], ◌∷◌, ◌++◌, map, Option, Some, None, refl, ◌∙◌, ap, subst, inl, ⊎_elim, arith}
+use Rattle.std.proofs.Common.{◌≡◌, ℕ, ◌+◌, ◌<◌, ◌≤◌, Bool, true, false, List, [], ◌∷◌, ◌++◌, map, length, Option, Some, None, refl, ◌∙◌, ap, subst, inl, ⊎_elim, arith}
 use Rattle.std.proofs.lemmas.List.{map_push}
 use Rattle.cc_lists.specs.Members.{Among}
 use Rattle.cc_lists.proofs.Members.{Among-append}
@@ -8,7 +8,7 @@ use Rattle.cc_names.specs.declared.name.Name.TheVariants as name
 use Rattle.cc_names.specs.declared.kind.Kind.{Kind}
 use Rattle.cc_names.specs.declared.kind.Kind.TheVariants.{Reflector}
 use Rattle.cc_names.specs.Names.{native, object, reflector, same_name, is_script}
-use Rattle.cc_names.specs.Sizes.{bank_length, most_slots}
+use Rattle.cc_names.specs.Sizes.{most_slots}
 use Rattle.cc_model.specs.Slots.{reflector_slots}
 use Rattle.cc_model.specs.Heap.{Heap, HeapScript, has_reflector, change_script, with_script_slot, set_preserved, new_script}
 use Rattle.cc_model.specs.View.{view, ReachedIn}
@@ -31,7 +31,7 @@ use Rattle.cc_laws_snapshot.proofs.CommandsLoyal.{make_native-loyal}
 -- A native made
 
 -- A native is made, and a register holds it.
-pub native_made-suspected : (owned : List ℕ) (h : Heap) (candidates : List ℕ) (d n : ℕ) → IsSound owned h → d < bank_length → n ≤ most_slots →
+pub native_made-suspected : (owned : List ℕ) (h : Heap) (candidates : List ℕ) (d n : ℕ) → IsSound owned h → d < length h.native_registers → n ≤ most_slots →
     h.natives_made < h.limits.natives → IsSuspectedIn h candidates → IsSuspectedIn (make_native h d n).heap candidates
 native_made-suspected owned h candidates d n s room few allowed = loyal-suspected h (make_native h d n).heap candidates s.well_formed
     (make_native-sound owned h d n room few allowed s).well_formed (make_native-loyal h d n room few allowed s)

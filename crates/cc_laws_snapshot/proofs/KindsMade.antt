@@ -1,5 +1,5 @@
 -- WHAT IS MADE, AND WHAT IS EXPOSED, keeps every snapshot fresh.
-use Rattle.std.proofs.Common.{◌≡◌, ℕ, ◌+◌, ◌<◌, ◌≤◌, Bool, true, false, List, Option, Some, None, is_some, refl, ap, inl}
+use Rattle.std.proofs.Common.{◌≡◌, ℕ, ◌+◌, ◌<◌, ◌≤◌, Bool, true, false, List, length, Option, Some, None, is_some, refl, ap, inl}
 use Rattle.cc_lists.specs.Members.{Among}
 use Rattle.cc_names.specs.declared.name.Name.{Name}
 use Rattle.cc_names.specs.declared.name.Name.TheVariants as name
@@ -8,7 +8,7 @@ use Rattle.cc_names.specs.declared.kind.Kind.TheVariants.{Reflector}
 use Rattle.cc_names.specs.declared.kind.Colour.{Colour}
 use Rattle.cc_names.specs.declared.kind.Colour.TheVariants.{White, Gray, Black}
 use Rattle.cc_names.specs.Names.{native, object, reflector}
-use Rattle.cc_names.specs.Sizes.{bank_length, most_slots}
+use Rattle.cc_names.specs.Sizes.{most_slots}
 use Rattle.cc_model.specs.Slots.{empty_slots, reflector_slots}
 use Rattle.cc_model.specs.Heap.{Heap, is_gray_colour, has_reflector, new_script}
 use Rattle.cc_model.specs.View.{view}
@@ -32,7 +32,7 @@ use Rattle.cc_laws_snapshot.proofs.ScriptParts.{exposed-gentle, make_object-gent
 use Rattle.cc_laws_snapshot.proofs.KindsFresh.{fresh-coloured}
 
 -- A native is made, and a register holds it.
-pub native_made-fresh : (owned : List ℕ) (h : Heap) (s : Snapshot) (d n : ℕ) → IsSound owned h → d < bank_length → n ≤ most_slots → h.natives_made < h.limits.natives →
+pub native_made-fresh : (owned : List ℕ) (h : Heap) (s : Snapshot) (d n : ℕ) → IsSound owned h → d < length h.native_registers → n ≤ most_slots → h.natives_made < h.limits.natives →
     IsFreshIn h s → IsFreshIn (make_native h d n).heap s
 native_made-fresh owned h s d n sound room few allowed =
     fresh-coloured h (make_native h d n).heap sound.well_formed (make_native-sound owned h d n room few allowed sound).well_formed

@@ -39,6 +39,7 @@ pub mod Handed
 pub mod StillNatives
 pub mod MovesLoyal
 pub mod CommandsLoyal
+pub mod Lengthened
 pub mod CommandsSuspected
 pub mod GivingBack
 pub mod SweepLoses

@@ -6,7 +6,7 @@ use Rattle.cc_names.specs.declared.name.Name.{Name}
 use Rattle.cc_names.specs.declared.name.Name.TheVariants as name
 use Rattle.cc_names.specs.declared.register.Reg.TheVariants.{N}
 use Rattle.cc_names.specs.Names.{native}
-use Rattle.cc_names.specs.Sizes.{bank_length, most_slots}
+use Rattle.cc_names.specs.Sizes.{most_slots}
 use Rattle.cc_model.specs.Checks.{slots_at}
 use Rattle.cc_model.specs.Heap.{Heap, Outcome, register, set_register, change_native, with_native_slot, objects_of}
 use Rattle.cc_model.specs.Cascade.{take_up, let_go}
@@ -18,7 +18,7 @@ use Rattle.cc_laws_heap.proofs.Owning.{IsIn, take_up-sound}
 use Rattle.cc_laws_heap.proofs.Writes.{native_register-sound, native_slot-sound}
 use Rattle.cc_laws_heap.proofs.MadeSound.{with_native-sound}
 use Rattle.cc_laws_heap.proofs.Holding.{IsIn-natives}
-use Rattle.cc_laws_heap.proofs.NativeCommands.{IsIn-take_up, HasSlot, HasSlot-take_up, put_in_slot-written, names_there-take_up, IsIn-made}
+use Rattle.cc_laws_heap.proofs.NativeCommands.{IsIn-take_up, room-take_up, HasSlot, HasSlot-take_up, put_in_slot-written, names_there-take_up, IsIn-made}
 use Rattle.cc_laws_snapshot.proofs.GentleBut.{AreGentle, IsGentleBut-then, AreGentle-then}
 use Rattle.cc_laws_snapshot.proofs.NativeParts.{IsNotGray, AreTaken, take_up-taken, register-gentle, take_up-gentle, native_slot-gentle, with_native-gentle}
 use Rattle.cc_laws_snapshot.proofs.CascadesGentle.{let_go-gentle, let_go-caught}
@@ -26,17 +26,17 @@ use Rattle.cc_laws_snapshot.proofs.CascadesGentle.{let_go-gentle, let_go-caught}
 -- Native registers
 
 -- A native register written, its new reference owned, and the old one given up.
-pub put_in_register-gentle : (owned : List ℕ) (h : Heap) (d : ℕ) (x : Option Name) → d < bank_length → IsIn (native_names h) x →
+pub put_in_register-gentle : (owned : List ℕ) (h : Heap) (d : ℕ) (x : Option Name) → d < length h.native_registers → IsIn (native_names h) x →
     IsSound (numbers_of x ++ owned) h → AreGentle h (put_in_register h d x).heap
 put_in_register-gentle owned h d x room there s = AreGentle-then h (set_register h (N d) x) (put_in_register h d x).heap (register-gentle h (N d) x)
     (let_go-gentle owned (set_register h (N d) x) (register h (N d)) (native_register-sound owned h d x room there s))
 
 -- The same with the reference taken first.
-pub hold_native-gentle : (owned : List ℕ) (h : Heap) (d : ℕ) (x : Option Name) → d < bank_length → IsIn (native_names h) x → IsSound owned h →
+pub hold_native-gentle : (owned : List ℕ) (h : Heap) (d : ℕ) (x : Option Name) → d < length h.native_registers → IsIn (native_names h) x → IsSound owned h →
     AreGentle h (hold_native h d x).heap
 unfolding hold_native
 hold_native-gentle owned h d x room there s = AreGentle-then h (take_up h x) (put_in_register (take_up h x) d x).heap (take_up-gentle h x)
-    (put_in_register-gentle owned (take_up h x) d x room (IsIn-take_up h x x there) (take_up-sound owned h x (IsIn-natives h x there) s))
+    (put_in_register-gentle owned (take_up h x) d x (room-take_up h x d room) (IsIn-take_up h x x there) (take_up-sound owned h x (IsIn-natives h x there) s))
 
 -- Slots of natives
 
@@ -76,7 +76,7 @@ store_native-gentle owned h d i x there pale room s =
 -- Natives made
 
 -- A native is made, and a native register holds it.
-pub make_native-gentle : (owned : List ℕ) (h : Heap) (d n : ℕ) → d < bank_length → n ≤ most_slots → h.natives_made < h.limits.natives → IsSound owned h →
+pub make_native-gentle : (owned : List ℕ) (h : Heap) (d n : ℕ) → d < length h.native_registers → n ≤ most_slots → h.natives_made < h.limits.natives → IsSound owned h →
     AreGentle h (make_native h d n).heap
 unfolding make_native
 make_native-gentle owned h d n room few allowed s = AreGentle-then h (with_native h n) (put_in_register (with_native h n) d (Some (native (h.natives_made + 1)))).heap

@@ -5,9 +5,10 @@ ghost use Rattle.cc_names.specs.declared.name.Name.{Name};
 ghost use Rattle.cc_names.specs.declared.register.Reg.{Reg};
 ghost use Rattle.cc_names.specs.declared.kind.Kind.{Kind};
 ghost use Rattle.cc_names.specs.Names.{native, object, reflector};
-ghost use Rattle.cc_names.specs.Sizes.{bank_length, most_slots};
+ghost use Rattle.cc_names.specs.Sizes.{most_slots};
+ghost use Rattle.cc_model.specs.Banks.{Bank};
 ghost use Rattle.cc_model.specs.Slots.{contents, empty_slots};
-ghost use Rattle.cc_model.specs.Heap.{Heap, HeapNative, native_at, has_reflector, set_register, change_native, change_script, with_native_slot, with_script_slot, set_preserved, register};
+ghost use Rattle.cc_model.specs.Heap.{Heap, HeapNative, native_at, has_reflector, set_register, change_native, change_script, with_native_slot, with_script_slot, set_preserved, register, lengthen};
 ghost use Rattle.cc_model.specs.Cascade.{Draining, add_ref, give_up, natives_of_slots, without_native};
 ghost use Rattle.cc_model.specs.Effects.{make_native, make_object, with_reflector, wrapped, set_entry};
 ghost use Rattle.cc_model.specs.Exposure.{exposed};
@@ -23,10 +24,10 @@ ghost use Rattle.cc_laws_snapshot.specs.KindsSuspected.{IsSuspectedIn, IsSuspect
 ///
 /// The kinds: a native is made, and a register holds it; a script object is made; a native gets a reference, or a
 /// reflector; a register, a slot, a flag or an entry is written, where no script object that is named then, or is the
-/// delegate of the one that is made, is gray, and a native that is put into a slot stands in the buffer; something is
-/// exposed; a reference is given up; the front of the queue leaves.
+/// delegate of the one that is made, is gray, and a native that is put into a slot stands in the buffer; registers come,
+/// empty; something is exposed; a reference is given up; the front of the queue leaves.
 pub fn kinds_of_change_keep_fresh()
-    ensures native_made { (owned : List ℕ) (h : Heap) (s : Snapshot) (d n : ℕ) → IsSound owned h → d < bank_length → n ≤ most_slots →
+    ensures native_made { (owned : List ℕ) (h : Heap) (s : Snapshot) (d n : ℕ) → IsSound owned h → d < length h.native_registers → n ≤ most_slots →
         h.natives_made < h.limits.natives → IsFreshIn h s → IsFreshIn (make_native h d n).heap s }
     ensures object_made { (owned : List ℕ) (h : Heap) (s : Snapshot) (d : ℕ) (kind : Kind) (n : ℕ) (its_delegate : Option Name) → IsSound owned h →
         FitsName (object (h.scripts_made + 1)) kind (empty_slots n) → is_some its_delegate ≡ is_proxy_kind kind →
@@ -39,6 +40,7 @@ pub fn kinds_of_change_keep_fresh()
     ensures reference_added { (h : Heap) (s : Snapshot) (k : ℕ) → IsFreshIn h s → IsFreshIn (add_ref h k) s }
     ensures register_written { (h : Heap) (s : Snapshot) (r : Reg) (x : Option Name) → IsThereIn (view h) x → IsNotGrayIn (view h) x →
         IsFreshIn h s → IsFreshIn (set_register h r x) s }
+    ensures registers_come { (h : Heap) (s : Snapshot) (b : Bank) (n : ℕ) → IsFreshIn h s → IsFreshIn (lengthen h b n) s }
     ensures slot_written { (h : Heap) (s : Snapshot) (n : HeapNative) (k i : ℕ) (x : Option Name) → IsWellFormed h →
         native_at h k ≡ Some n → i < length n.slots → IsInBuffer (view h) x → IsNotGrayIn (view h) x →
         IsFreshIn h s → IsFreshCounting (numbers_of (slice_index_or n.slots i None)) (change_native h k (with_native_slot i x)) s }
@@ -73,10 +75,10 @@ pub fn waiting_asks_less()
 /// queued for deletion, and those whose overwritten reference is not given up yet, count as purple in the buffer.
 ///
 /// The kinds: a native is made, and a register holds it; a script object is made; a reached native gets a reference, or a
-/// reflector; a register, a slot, a flag or an entry is written, whatever it then holds; something is exposed; a
-/// reference is given up; the front of the queue leaves.
+/// reflector; a register, a slot, a flag or an entry is written, whatever it then holds; registers come, empty; something
+/// is exposed; a reference is given up; the front of the queue leaves.
 pub fn kinds_of_change_keep_suspected()
-    ensures native_made { (owned : List ℕ) (h : Heap) (candidates : List ℕ) (d n : ℕ) → IsSound owned h → d < bank_length → n ≤ most_slots →
+    ensures native_made { (owned : List ℕ) (h : Heap) (candidates : List ℕ) (d n : ℕ) → IsSound owned h → d < length h.native_registers → n ≤ most_slots →
         h.natives_made < h.limits.natives → IsSuspectedIn h candidates → IsSuspectedIn (make_native h d n).heap candidates }
     ensures object_made { (h : Heap) (candidates : List ℕ) (d : ℕ) (kind : Kind) (n : ℕ) (its_delegate : Option Name) → IsWellFormed h →
         IsSuspectedIn h candidates → IsSuspectedIn (make_object h d kind n its_delegate) candidates }
@@ -88,6 +90,7 @@ pub fn kinds_of_change_keep_suspected()
         IsSuspectedIn h candidates → IsSuspectedIn (add_ref h k) candidates }
     ensures register_written { (h : Heap) (candidates : List ℕ) (r : Reg) (x : Option Name) → IsWellFormed h →
         IsSuspectedIn h candidates → IsSuspectedCounting (numbers_of (register h r)) (set_register h r x) candidates }
+    ensures registers_come { (h : Heap) (candidates : List ℕ) (b : Bank) (n : ℕ) → IsSuspectedIn h candidates → IsSuspectedIn (lengthen h b n) candidates }
     ensures slot_written { (h : Heap) (candidates : List ℕ) (n : HeapNative) (k i : ℕ) (x : Option Name) → IsWellFormed h → native_at h k ≡ Some n →
         IsSuspectedIn h candidates → IsSuspectedCounting (numbers_of (slice_index_or n.slots i None)) (change_native h k (with_native_slot i x)) candidates }
     ensures script_slot_written { (h : Heap) (candidates : List ℕ) (o : Name) (i : ℕ) (x : Option Name) → IsWellFormed h →

@@ -1,7 +1,8 @@
 -- THE BANKS OF REGISTERS: one for each kind of object that a register may hold. A further bank is one more kind here.
-use Rattle.std.specs.Prelude.{ℕ, List, ◌++◌}
+use Rattle.std.specs.Prelude.{ℕ, ◌≤◌, List, ◌++◌}
 use Rattle.cc_names.specs.declared.register.Reg.{Reg}
 use Rattle.cc_names.specs.declared.register.Reg.TheVariants.{N, S}
+use Rattle.cc_names.specs.Sizes.{bank_length, most_roots}
 
 pub data Bank : Type 0 where
   of_natives : Bank
@@ -20,3 +21,8 @@ place_in_bank (S r) = r
 -- what each bank gives, one after the other
 abbrev pub over_banks : {X : Type 0} → (Bank → List X) → List X
 over_banks f = f of_natives ++ f of_scripts
+
+-- HOW LONG A BANK MAY BE: it has each register that commands can name, and no more than are allowed
+pub record IsBankLength (n : ℕ) : Type 0 where
+  pub enough : bank_length ≤ n
+  pub allowed : n ≤ most_roots

@@ -2,17 +2,19 @@
 use Rattle.std.specs.Prelude.{ℕ, ◌+◌, Bool, true, false, not, [], ◌∷◌, ◌++◌, Option, Some, None, is_none}
 use Rattle.cc_names.specs.declared.name.Name.{Name}
 use Rattle.cc_names.specs.declared.name.Name.TheVariants as name
+use Rattle.cc_names.specs.declared.register.Reg.{Reg}
 use Rattle.cc_names.specs.declared.register.Reg.TheVariants.{N, S}
 use Rattle.cc_names.specs.declared.kind.Kind.{Kind}
 use Rattle.cc_names.specs.declared.kind.Kind.TheVariants.{Plain, Reflector, Map, Proxy as proxy_kind}
 use Rattle.cc_names.specs.Names.{native, object, reflector}
 use Rattle.cc_model.specs.declared.command.Command.{Command}
 use Rattle.cc_model.specs.declared.command.Command.TheVariants.{Native, Script, WeakMap, Proxy, Wrap, SetEntry}
+use Rattle.cc_model.specs.Banks.{of_natives, of_scripts}
 use Rattle.cc_model.specs.Slots.{reflector_slots}
 use Rattle.cc_model.specs.Entries.{with_entry, without_entry}
 use Rattle.cc_model.specs.Checks.{slot_at, value_at, reflector_of}
 use Rattle.cc_model.specs.Deeds.{Deed, nothing_done, native_made, plain_made, map_made, proxy_made, native_held, script_held, script_copied, native_stored, slot_moved, script_stored, reflector_held, reflector_preserved, entry_written, object_exposed, deed_of}
-use Rattle.cc_model.specs.Heap.{Heap, Outcome, silently, new_script, native_to_make, register, objects_of, delegate_at, has_reflector, set_register, set_slot, preserve, touch}
+use Rattle.cc_model.specs.Heap.{Heap, Outcome, silently, new_script, native_to_make, register, objects_of, delegate_at, has_reflector, set_register, lengthen, set_slot, preserve, touch}
 use Rattle.cc_model.specs.Cascade.{add_ref, take_up, let_go}
 use Rattle.cc_model.specs.Exposure.{exposed}
 
@@ -51,6 +53,11 @@ move_slot h d i s j = let x = slot_at (objects_of h) (N s) j in put_in_slot (tak
 -- what comes into a script register is exposed
 abbrev pub hold_script : Heap → ℕ → Option Name → Heap
 hold_script h d x = set_register (exposed h x) (S d) x
+
+-- A ROOT AT A PLACE: the bank is lengthened where the place is beyond it, and the register holds x from then on. No command does this.
+abbrev pub root_at : Heap → Reg → Option Name → Outcome
+root_at h (N d) x = hold_native (lengthen h of_natives (d + 1)) d x
+root_at h (S d) x = silently (hold_script (lengthen h of_scripts (d + 1)) d x)
 
 -- a native with the next number, count 1, in the buffer without the purple mark
 abbrev pub with_native : Heap → ℕ → Heap

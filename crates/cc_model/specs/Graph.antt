@@ -11,7 +11,7 @@ use Rattle.cc_model.specs.declared.command.Command.{Command}
 use Rattle.cc_model.specs.declared.item.Refusal.{Refusal}
 use Rattle.cc_model.specs.declared.item.Reply.{Reply}
 use Rattle.cc_model.specs.Banks.{Bank, of_natives, of_scripts, bank_of, place_in_bank}
-use Rattle.cc_model.specs.Slots.{Slots, empty_slots, reflector_slots}
+use Rattle.cc_model.specs.Slots.{Slots, empty_slots, lengthened, reflector_slots}
 use Rattle.cc_model.specs.Entries.{Entry, value_in, with_entry, without_entry}
 use Rattle.cc_model.specs.Checks.{Objects, slot_at, reflector_of, refusal_of, reply_of}
 use Rattle.cc_model.specs.Deeds.{Deed, nothing_done, native_made, plain_made, map_made, proxy_made, native_held, script_held, script_copied, native_stored, slot_moved, script_stored, reflector_held, reflector_preserved, entry_written, object_exposed, deed_of}
@@ -117,6 +117,14 @@ with_bank g of_scripts slots = record g { script_registers = slots }
 
 abbrev pub set_register : Graph → Reg → Option Name → Graph
 set_register g r x = with_bank g (bank_of r) (slice_set (bank g (bank_of r)) (place_in_bank r) x)
+
+-- A BANK WITH n REGISTERS AT LEAST: those that come are empty. No command does this.
+abbrev pub lengthen : Graph → Bank → ℕ → Graph
+lengthen g b n = with_bank g b (lengthened (bank g b) n)
+
+-- A ROOT AT A PLACE: the bank is lengthened where the place is beyond it, and the register holds x from then on
+abbrev pub root_at : Graph → Reg → Option Name → Graph
+root_at g r x = set_register (lengthen g (bank_of r) (place_in_bank r + 1)) r x
 
 -- native k changed
 abbrev pub set_native : Graph → ℕ → Option GraphNative → Graph

@@ -12,7 +12,7 @@ use Rattle.cc_names.specs.Names.{object, reflector, same_name}
 use Rattle.cc_names.specs.Sizes.{bank_length}
 use Rattle.cc_model.specs.declared.item.Event.{Event}
 use Rattle.cc_model.specs.Banks.{Bank, of_natives, of_scripts, bank_of, place_in_bank}
-use Rattle.cc_model.specs.Slots.{Slots, empty_slots}
+use Rattle.cc_model.specs.Slots.{Slots, empty_slots, lengthened}
 use Rattle.cc_model.specs.Entries.{Entry, value_in}
 use Rattle.cc_model.specs.Checks.{Objects}
 
@@ -174,6 +174,10 @@ with_bank h of_scripts slots = record h { script_registers = slots }
 
 abbrev pub set_register : Heap → Reg → Option Name → Heap
 set_register h r x = with_bank h (bank_of r) (slice_set (bank h (bank_of r)) (place_in_bank r) x)
+
+-- A BANK WITH n REGISTERS AT LEAST: those that come are empty. No command does this.
+abbrev pub lengthen : Heap → Bank → ℕ → Heap
+lengthen h b n = with_bank h b (lengthened (bank h b) n)
 
 -- native k changed
 abbrev pub change_native : Heap → ℕ → (HeapNative → HeapNative) → Heap

@@ -1,5 +1,5 @@
 -- Slots of objects: places that each hold a name or nothing.
-use Rattle.std.specs.Prelude.{ℕ, List, flat_map, Option, None, option_to_list, replicate}
+use Rattle.std.specs.Prelude.{ℕ, ◌-◌, List, ◌++◌, flat_map, length, Option, None, option_to_list, replicate}
 use Rattle.cc_names.specs.declared.name.Name.{Name}
 
 -- what an object holds in its slots, in order
@@ -12,6 +12,10 @@ contents slots = flat_map option_to_list slots
 
 abbrev pub empty_slots : ℕ → Slots
 empty_slots n = replicate n None
+
+-- with n places at least: empty ones come behind the others
+abbrev pub lengthened : Slots → ℕ → Slots
+lengthened slots n = slots ++ empty_slots (n - length slots)
 
 -- how many slots a reflector has
 abbrev pub reflector_slots : ℕ

@@ -7,7 +7,8 @@ use Rattle.cc_names.specs.declared.name.Name.TheVariants as name
 use Rattle.cc_names.specs.declared.kind.Kind.{Kind}
 use Rattle.cc_names.specs.declared.kind.Kind.TheVariants.{Plain, Reflector, Map, Proxy}
 use Rattle.cc_names.specs.Names.{native, object, reflector, same_name}
-use Rattle.cc_names.specs.Sizes.{bank_length, most_slots}
+use Rattle.cc_names.specs.Sizes.{most_slots}
+use Rattle.cc_model.specs.Banks.{IsBankLength}
 use Rattle.cc_model.specs.Slots.{Slots, contents, reflector_slots}
 use Rattle.cc_model.specs.Entries.{Entry, is_entry_of}
 use Rattle.cc_model.specs.Heap.{Heap, HeapNative, HeapScript, Buffered}
@@ -56,7 +57,7 @@ pub record IsWellFormed (h : Heap) : Type 0 where
   -- native registers hold natives, script registers script objects
   pub native_registers : (x : Name) → Among x (contents h.native_registers) → Among x (native_names h)
   pub script_registers : (x : Name) → Among x (contents h.script_registers) → Among x (script_names h)
-  pub registers : (length h.native_registers ≡ bank_length) × (length h.script_registers ≡ bank_length)
+  pub registers : IsBankLength (length h.native_registers) × IsBankLength (length h.script_registers)
   -- natives by rising number, numbers that were made, no more slots than are allowed, which hold what is there
   pub rising : IsRising (map (λ n. n.number) h.natives)
   pub native_numbers : (n : HeapNative) → Among n h.natives → (1 ≤ n.number) × (n.number ≤ h.natives_made)

@@ -4,7 +4,8 @@ use Rattle.cc_lists.specs.Members.{Among}
 use Rattle.cc_names.specs.declared.name.Name.{Name}
 use Rattle.cc_names.specs.declared.name.Name.TheVariants as name
 use Rattle.cc_names.specs.Names.{object, reflector, is_native, is_script}
-use Rattle.cc_names.specs.Sizes.{bank_length, most_slots}
+use Rattle.cc_names.specs.Sizes.{most_slots}
+use Rattle.cc_model.specs.Banks.{IsBankLength}
 use Rattle.cc_model.specs.Slots.{Slots, contents, reflector_slots}
 use Rattle.cc_model.specs.Entries.{Entry, is_entry_of}
 use Rattle.cc_model.specs.Graph.{Graph, GraphNative, plain_object, weak_map, proxy, native_in, script_in, delegate_in}
@@ -32,7 +33,7 @@ pub record IsMadeEntry (g : Graph) (e : Entry) : Type 0 where
 
 pub record IsWellMade (g : Graph) : Type 0 where
   -- native registers hold natives, script registers script objects
-  pub registers : (length g.native_registers ≡ bank_length) × (length g.script_registers ≡ bank_length)
+  pub registers : IsBankLength (length g.native_registers) × IsBankLength (length g.script_registers)
   pub native_registers : (x : Name) → Among x (contents g.native_registers) → IsTrue (is_made_native g x)
   pub script_registers : (x : Name) → Among x (contents g.script_registers) → IsTrue (is_made_script g x)
   -- a native has no more slots than are allowed, which hold what was made; where its reflector is preserved, it was wrapped

@@ -4,9 +4,9 @@ use cc_names::{Name, Reg, RegNo, SlotNo};
 
 /// What one line of the input asks, by its word and its tokens in their order.
 ///
-/// The first register of a command that has a destination is the destination. Registers are 0 to 1023, numbers of slots 0 to
-/// 256, indexes of slots 0 to 4294967295, numbers of units 1 to 1000000. Version 1 of the language names the registers 0 to
-/// 255 alone, and gives 64 slots at most.
+/// The first register of a command that has a destination is the destination. Registers are 0 to 1023 (their type has room for
+/// those that a host alone names), numbers of slots 0 to 256, indexes of slots 0 to 4294967295, numbers of units 1 to 1000000.
+/// Version 1 of the language names the registers 0 to 255 alone, and gives 64 slots at most.
 #[derive(Clone, Copy, Debug, PartialEq, Eq, Drop)]
 pub enum Command {
     /// A blank line or a comment.

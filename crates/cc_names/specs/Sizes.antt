@@ -1,10 +1,14 @@
 -- The sizes of the language by their names in specifications. The figures stand in the code alone.
 use Rattle.std.specs.Prelude.{ℕ, ◌+◌, ◌*◌}
-use Rattle.cc_names.specs.declared.sizes.TheConstants.{BANK_LENGTH, MOST_SLOTS, FIRST_BANK_LENGTH, FIRST_MOST_SLOTS}
+use Rattle.cc_names.specs.declared.sizes.TheConstants.{BANK_LENGTH, MOST_ROOTS, MOST_SLOTS, FIRST_BANK_LENGTH, FIRST_MOST_SLOTS}
 
--- there are so many registers of each kind
+-- so many registers of each kind commands can name; a bank has so many or more
 abbrev pub bank_length : ℕ
 bank_length = BANK_LENGTH
+
+-- no bank has more registers
+abbrev pub most_roots : ℕ
+most_roots = MOST_ROOTS
 
 -- no object has more slots
 abbrev pub most_slots : ℕ
@@ -18,7 +22,7 @@ first_bank_length = FIRST_BANK_LENGTH
 abbrev pub first_most_slots : ℕ
 first_most_slots = FIRST_MOST_SLOTS
 
--- so many references may lead to one native: from each register of its kind, from each slot of a million natives, and from
--- its reflector
-abbrev pub most_references : ℕ
-most_references = bank_length + most_slots * 1000000 + 1
+-- so many references may lead to one native where there are n native registers: from each of them, from each slot of a
+-- million natives, and from its reflector
+abbrev pub most_references : ℕ → ℕ
+most_references n = n + most_slots * 1000000 + 1

@@ -25,7 +25,9 @@ pub use name::{Name, write_name};
 pub use no_memory::NoMemory;
 pub use number::{NKey, NativeNo, SKey, ScriptNo, narrow_key};
 pub use register::{Reg, write_register};
-pub use sizes::{BANK_LENGTH, FIRST_BANK_LENGTH, FIRST_MOST_SLOTS, MOST_SLOTS, RegNo, SlotNo};
+pub use sizes::{
+    BANK_LENGTH, FIRST_BANK_LENGTH, FIRST_MOST_SLOTS, MOST_ROOTS, MOST_SLOTS, RegNo, SlotNo,
+};
 
 /// The test of the specifications tells names apart: it says yes exactly for equal ones.
 pub fn names_are_told_apart()

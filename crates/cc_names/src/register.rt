@@ -7,7 +7,8 @@ use crate::line::LineBuf;
 use crate::sizes::RegNo;
 use itoa::Buffer;
 
-/// A register: `n0` to `n1023` hold natives, `s0` to `s1023` hold script objects. The registers are the roots.
+/// A register: `n0`, `n1` and so on hold natives, `s0`, `s1` and so on hold script objects. The registers are the roots.
+/// Commands name those up to 1023.
 #[derive(Clone, Copy, Debug, PartialEq, Eq, Drop)]
 pub enum Reg {
     /// A native register.
@@ -16,12 +17,12 @@ pub enum Reg {
     S(RegNo),
 }
 
-/// Appends the text of a register: `n` or `s`, then its number in its bank in decimal. It has at most 6 bytes, which must be
-/// free.
+/// Appends the text of a register: `n` or `s`, then its number in its bank in decimal. It has at most 11 bytes, which must
+/// be free.
 pub fn write_register(register: Reg, out: &mut LineBuf)
-    requires { length out.old + 6 ≤ 128 }
+    requires { length out.old + 11 ≤ 128 }
     ensures text { out.new ≡ out.old ++ text_of_register register }
-    ensures short { length out.new ≤ length out.old + 6 }
+    ensures short { length out.new ≤ length out.old + 11 }
 {
     let (letter, number) = match register {
         Reg::N(k) => (b"n", k),

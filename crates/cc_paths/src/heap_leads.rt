@@ -9,7 +9,7 @@ ghost use Rattle.cc_heaps.specs.Keyed.{IsInOrder};
 
 use cc_counted::Held;
 use cc_heaps::Heaps;
-use cc_names::{BANK_LENGTH, Name, RegNo, SKey, SlotNo};
+use cc_names::{Name, RegNo, SKey, SlotNo};
 use cc_search::{Bank, Leads};
 
 /// The heaps, as a search reads them.
@@ -53,8 +53,11 @@ impl<'a> Leads for HeapLeads<'a> {
 
     ghost is_ready = { λ s. (owned : List ℕ) × IsInOrder owned s.heaps.now };
 
-    fn used(&self, _bank: Bank) -> RegNo {
-        BANK_LENGTH as RegNo
+    fn used(&self, bank: Bank) -> RegNo {
+        match bank {
+            Bank::Natives => self.heaps.native_reg_count(),
+            Bank::Scripts => self.heaps.script_reg_count(),
+        }
     }
 
     fn register(&self, bank: Bank, r: RegNo) -> Option<Held> {

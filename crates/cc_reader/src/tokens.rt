@@ -139,8 +139,8 @@ fn register_with(letter: u8, token: &[u8], dialect: Dialect) -> Option<RegNo>
             if *first != letter {
                 return None;
             }
-            let value = number(digits, dialect.registers() as u32 - 1)?;
-            Some(value as RegNo)
+            let register = number(digits, dialect.registers() as u32 - 1)?;
+            Some(register)
         }
         [] => None,
     }

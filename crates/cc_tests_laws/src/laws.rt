@@ -1,9 +1,9 @@
 //! A call of each law.
 use cc_laws_headline::lawful_transcripts_tell_of_a_graph;
 use cc_laws_heap::{
-    cascade_keeps_counts, commands_keep_colours, commands_keep_counts, commands_stand,
-    ends_keep_counts, ends_stand, graphs_are_well_made, marking_is_least, paths_agree,
-    paths_are_right, reached_alike, replies_agree, rounds_keep_counts, rounds_stand,
+    banks_may_be_longer, cascade_keeps_counts, commands_keep_colours, commands_keep_counts,
+    commands_stand, ends_keep_counts, ends_stand, graphs_are_well_made, marking_is_least,
+    paths_agree, paths_are_right, reached_alike, replies_agree, rounds_keep_counts, rounds_stand,
     sweeps_stand, unlinking_keeps_counts,
 };
 use cc_laws_run::{
@@ -62,6 +62,7 @@ fn laws_of_lists_and_names_can_be_called() {
 fn laws_of_the_heap_can_be_called() {
     cascade_keeps_counts();
     commands_keep_counts();
+    banks_may_be_longer();
     commands_keep_colours();
     marking_is_least();
     rounds_keep_counts();

@@ -1,7 +1,6 @@
 //! Native registers and slots of natives written.
 ghost use Rattle.std.specs.Prelude.{◌≡◌, ◌<◌, ◌≤◌, ℕ, List, ◌∷◌, ◌++◌, length, map, slice_index_or, Some, None, IsSome, ◌+◌};
 ghost use Rattle.cc_names.specs.Names.{native};
-ghost use Rattle.cc_names.specs.Sizes.{bank_length};
 ghost use Rattle.cc_names.specs.declared.register.Reg.TheVariants.{N as n_register};
 ghost use Rattle.cc_model.specs.Heap.{native_at, register, set_register, set_slot, touch};
 ghost use Rattle.cc_model.specs.Cascade.{add_ref, take_up, let_go};
@@ -64,7 +63,7 @@ impl Heaps {
 
     // A register written, whose new reference was taken before; what it held.
     fn replace_register(&mut self, r: RegNo, content: Option<NKey>) -> Option<NKey>
-        requires within { r < bank_length }
+        requires within { r < length self.old.heap.native_registers }
         requires order { (owned : List ℕ) × IsInOrder (numbers_of (native_name self.old content) ++ owned) self.old }
         requires there { IsNativeThere self.old content }
         ensures heap { self.new ≡ changed_to self.old (set_register self.old.heap (n_register r) (native_name self.old content)) }
@@ -84,7 +83,7 @@ impl Heaps {
         content: Option<NKey>,
         out: &mut N,
     )
-        requires within { r < bank_length }
+        requires within { r < length self.old.heap.native_registers }
         requires order { (owned : List ℕ) × IsInOrder (numbers_of (native_name self.old content) ++ owned) self.old }
         requires there { IsNativeThere self.old content }
         ensures heap { self.new ≡ left_with self.old (put_in_register self.old.heap r (native_name self.old content)).heap }
@@ -114,7 +113,7 @@ impl Heaps {
     /// The new reference is taken first, then the register is written, then what it held is given up with all that it
     /// deletes. Takes no memory.
     pub fn set_native_reg<N: Notices>(&mut self, r: RegNo, content: Option<NKey>, out: &mut N)
-        requires within { r < bank_length }
+        requires within { r < length self.old.heap.native_registers }
         requires order { (owned : List ℕ) × IsInOrder owned self.old × AreOwnedOnce owned }
         requires there { IsNativeThere self.old content }
         ensures heap { self.new ≡ left_with self.old (hold_native self.old.heap r (native_name self.old content)).heap }

@@ -1,7 +1,7 @@
 //! Natives made.
-ghost use Rattle.std.specs.Prelude.{◌≡◌, ◌+◌, ◌<◌, ◌≤◌, ℕ, List, ◌∷◌, Some, Err, IfOk, OnOk, OnErr, nat_le};
+ghost use Rattle.std.specs.Prelude.{◌≡◌, ◌+◌, ◌<◌, ◌≤◌, ℕ, List, ◌∷◌, length, Some, Err, IfOk, OnOk, OnErr, nat_le};
 ghost use Rattle.cc_names.specs.Names.{native};
-ghost use Rattle.cc_names.specs.Sizes.{bank_length, most_slots};
+ghost use Rattle.cc_names.specs.Sizes.{most_slots};
 ghost use Rattle.cc_model.specs.Effects.{make_native, with_native};
 ghost use Rattle.cc_model.specs.Telling.{TellsEvents};
 ghost use Rattle.cc_model.specs.declared.command.Command.TheVariants as command;
@@ -55,7 +55,7 @@ impl Heaps {
         slots: SlotNo,
         out: &mut N,
     ) -> Result<Name, MakeStop>
-        requires within { r < bank_length }
+        requires within { r < length self.old.heap.native_registers }
         requires order { (owned : List ℕ) × IsInOrder owned self.old }
         requires slots { slots ≤ most_slots }
         ensures full { result ≡ Err MakeStop.Full → self.old.heap.limits.natives ≤ self.old.heap.natives_made }

@@ -4,7 +4,7 @@ ghost use Rattle.cc_names.specs.declared.kind.Colour.TheVariants.{Black};
 ghost use Rattle.cc_names.specs.declared.kind.Kind.TheVariants.{Map, Plain};
 ghost use Rattle.cc_names.specs.declared.register.Reg.TheVariants.{S as s_register};
 ghost use Rattle.cc_names.specs.Names.{object};
-ghost use Rattle.cc_names.specs.Sizes.{bank_length, most_slots};
+ghost use Rattle.cc_names.specs.Sizes.{most_slots};
 ghost use Rattle.cc_model.specs.Heap.{preserve, set_register, set_slot};
 ghost use Rattle.cc_model.specs.Effects.{hold_script, make_object, make_proxy, with_object};
 ghost use Rattle.cc_model.specs.Exposure.{exposed};
@@ -40,7 +40,7 @@ fn create(scripts: &mut Scripts, number: ScriptNo, what: ToMake) -> Result<SKey,
 impl Heaps {
     // A script register written. What it holds is exposed before.
     fn write_script_reg(&mut self, r: RegNo, content: Option<SKey>)
-        requires within { r < bank_length }
+        requires within { r < length self.old.heap.script_registers }
         requires order { (owned : List ℕ) × IsInOrder owned self.old }
         requires there { IsScriptThere self.old content }
         ensures heap { self.new.heap ≡ set_register self.old.heap (s_register r) (script_name self.old content) }
@@ -102,7 +102,7 @@ impl Heaps {
 
     // A script object made and held by a register. Its name.
     fn new_object(&mut self, r: RegNo, what: ToMake) -> Result<Name, MakeStop>
-        requires within { r < bank_length }
+        requires within { r < length self.old.heap.script_registers }
         requires order { (owned : List ℕ) × IsInOrder owned self.old }
         requires may { MayBeMade self.old.scripts what }
         ensures full { result ≡ Err MakeStop.Full → self.old.heap.limits.scripts ≤ self.old.heap.scripts_made }
@@ -141,7 +141,7 @@ impl Heaps {
     /// `Full` exactly where as many plain objects, weak maps and proxies as the limit were ever made; `NoMemory` at any other
     /// time. Neither changes anything.
     pub fn new_plain(&mut self, r: RegNo, slots: SlotNo) -> Result<Name, MakeStop>
-        requires within { r < bank_length }
+        requires within { r < length self.old.heap.script_registers }
         requires order { (owned : List ℕ) × IsInOrder owned self.old }
         requires slots { slots ≤ most_slots }
         ensures full { result ≡ Err MakeStop.Full → self.old.heap.limits.scripts ≤ self.old.heap.scripts_made }
@@ -161,7 +161,7 @@ impl Heaps {
     /// `Full` exactly where as many plain objects, weak maps and proxies as the limit were ever made; `NoMemory` at any other
     /// time. Neither changes anything.
     pub fn new_map(&mut self, r: RegNo) -> Result<Name, MakeStop>
-        requires within { r < bank_length }
+        requires within { r < length self.old.heap.script_registers }
         requires order { (owned : List ℕ) × IsInOrder owned self.old }
         ensures full { result ≡ Err MakeStop.Full → self.old.heap.limits.scripts ≤ self.old.heap.scripts_made }
         ensures full_always { self.old.heap.limits.scripts ≤ self.old.heap.scripts_made → result ≡ Err MakeStop.Full }
@@ -181,7 +181,7 @@ impl Heaps {
     /// `Full` exactly where as many plain objects, weak maps and proxies as the limit were ever made; `NoMemory` at any other
     /// time. Neither changes anything.
     pub fn new_proxy(&mut self, r: RegNo, delegate: SKey) -> Result<Name, MakeStop>
-        requires within { r < bank_length }
+        requires within { r < length self.old.heap.script_registers }
         requires order { (owned : List ℕ) × IsInOrder owned self.old }
         requires black { colour_at self.old.scripts delegate.0 ≡ Some Black }
         ensures full { result ≡ Err MakeStop.Full → self.old.heap.limits.scripts ≤ self.old.heap.scripts_made }
@@ -200,7 +200,7 @@ impl Heaps {
     /// Register `r` holds a script object from then on, or nothing. What comes into it is exposed: it is black, with all
     /// that it reaches over slots and from proxies to their delegates. Takes no memory.
     pub fn set_script_reg(&mut self, r: RegNo, content: Option<SKey>)
-        requires within { r < bank_length }
+        requires within { r < length self.old.heap.script_registers }
         requires order { (owned : List ℕ) × IsInOrder owned self.old }
         requires there { IsScriptThere self.old content }
         ensures heap { self.new.heap ≡ hold_script self.old.heap r (script_name self.old content) }

@@ -47,7 +47,7 @@ fn place_of(index: u32) -> Place
 {
     let each = u32::from(PLACES);
     Place {
-        register: NUMBERED_ROOTS + (index / (each * each * each)) as RegNo,
+        register: NUMBERED_ROOTS + index / (each * each * each),
         first: (index / (each * each) % each) as SlotNo,
         second: (index / each % each) as SlotNo,
         slot: (index % each) as SlotNo,

@@ -1,9 +1,12 @@
-use Rattle.std.proofs.Common.{subst}
+use Rattle.std.proofs.Common.{subst, arith}
 use Rattle.cc_model.specs.Heap.{Outcome}
 use Rattle.cc_model.specs.Telling.{TellsEvents}
 use Rattle.cc_heaps.proofs.FewCounts.{none-owned}
 use Rattle.cc_host.proofs.Spare.{held-from, held-silently}
 use Rattle.cc_host.proofs.changes.hold.Goals as goal
+
+pub set_native_reg-requires-clause-within : goal.set_native_reg-requires-clause-within
+set_native_reg-requires-clause-within g c = omega (arith, c.requires.ready.order.sound.well_formed.registers.0.enough)
 
 pub set_native_reg-requires-clause-order : goal.set_native_reg-requires-clause-order
 set_native_reg-requires-clause-order g c = none-owned c.args.heaps.now c.requires.ready.order

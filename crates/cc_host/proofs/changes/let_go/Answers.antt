@@ -1,6 +1,10 @@
+use Rattle.std.proofs.Common.{arith}
 use Rattle.cc_heaps.proofs.FewCounts.{none-owned}
 use Rattle.cc_host.proofs.Around.{let_go-from}
 use Rattle.cc_host.proofs.changes.let_go.Goals as goal
+
+pub set_native_reg-requires-clause-within : goal.set_native_reg-requires-clause-within
+set_native_reg-requires-clause-within g c = omega (arith, c.requires.order.sound.well_formed.registers.0.enough)
 
 pub set_native_reg-requires-clause-order : goal.set_native_reg-requires-clause-order
 set_native_reg-requires-clause-order g c = none-owned c.args.heaps.now c.requires.order

@@ -1,4 +1,4 @@
-use Rattle.std.proofs.Common.{◌≡◌, ◌+◌, [], Some, None, sym, ◌∙◌, ap}
+use Rattle.std.proofs.Common.{◌≡◌, ◌+◌, [], Some, None, sym, ◌∙◌, ap, arith}
 use Rattle.cc_names.specs.Names.{native}
 use Rattle.cc_heaps.specs.Changes.{native_name}
 use Rattle.cc_heaps.proofs.FewCounts.{none-owned}
@@ -6,6 +6,9 @@ use Rattle.cc_host.proofs.MadeChange.{held-b, live-b, order-then, change-came, c
 use Rattle.cc_host.proofs.changes.make_below.Given as given
 use Rattle.cc_host.proofs.changes.make_below.Goals as goal
 use Rattle.cc_host.proofs.changes.make_below.Goals.{After-let_go}
+
+pub new_native-requires-clause-within : goal.new_native-requires-clause-within
+new_native-requires-clause-within g c = omega (arith, c.requires.ready.order.sound.well_formed.registers.0.enough)
 
 pub unreachable-requires : goal.unreachable-requires
 unreachable-requires g c =

@@ -1,4 +1,4 @@
-use Rattle.std.proofs.Common.{sym, ap, subst}
+use Rattle.std.proofs.Common.{sym, ap, subst, arith}
 use Rattle.cc_heaps.specs.Keyed.{Keyed}
 use Rattle.cc_heaps.proofs.FewCounts.{none-owned}
 use Rattle.cc_host.specs.Missing.{KeepsDoomed}
@@ -9,6 +9,9 @@ use Rattle.cc_lists.specs.Members.{Among}
 use Rattle.cc_model.specs.WellFormed.{names_there}
 use Rattle.cc_host.proofs.Coming.{hold_native-none_came}
 use Rattle.cc_host.proofs.changes.root_native.Goals as goal
+
+pub set_native_reg-requires-clause-within : goal.set_native_reg-requires-clause-within
+set_native_reg-requires-clause-within g c = omega (arith, c.requires.within, c.requires.ready.order.sound.well_formed.registers.0.enough)
 
 pub set_native_reg-requires-clause-order : goal.set_native_reg-requires-clause-order
 set_native_reg-requires-clause-order g c = none-owned c.args.heaps.now c.requires.ready.order

@@ -1,3 +1,4 @@
+use Rattle.cc_laws_snapshot.proofs.Lengthened.{lengthen-fresh}
 use Rattle.cc_laws_snapshot.proofs.KindsMade.{native_made-fresh, object_made-fresh, reflector_made-fresh, exposed-fresh, wrapped-fresh}
 use Rattle.cc_laws_snapshot.proofs.KindsWritten.{reference_added-fresh, register_written-fresh, slot_written-fresh, script_slot_written-fresh, flag_written-fresh, entry_written-fresh}
 use Rattle.cc_laws_snapshot.proofs.KindsGivenUp.{given_up-fresh, front_leaves-fresh, full_front_leaves-fresh}
@@ -44,3 +45,6 @@ returns-clause-full_front_leaves c = full_front_leaves-fresh
 
 pub returns-clause-wrapped : goal.returns-clause-wrapped
 returns-clause-wrapped c = wrapped-fresh
+
+pub returns-clause-registers_come : goal.returns-clause-registers_come
+returns-clause-registers_come c = lengthen-fresh

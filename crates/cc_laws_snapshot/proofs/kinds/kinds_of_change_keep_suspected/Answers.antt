@@ -1,3 +1,4 @@
+use Rattle.cc_laws_snapshot.proofs.Lengthened.{lengthen-suspected}
 use Rattle.cc_laws_snapshot.proofs.KindsHeld.{native_made-suspected, object_made-suspected, reflector_made-suspected, wrapped-suspected, reference_added-suspected, script_slot_written-suspected, flag_written-suspected, entry_written-suspected, exposed-suspected}
 use Rattle.cc_laws_snapshot.proofs.KindsWaiting.{register_written-suspected, slot_written-suspected, given_up-suspected, front_leaves-suspected, full_front_leaves-suspected}
 use Rattle.cc_laws_snapshot.proofs.kinds.kinds_of_change_keep_suspected.Goals as goal
@@ -43,3 +44,6 @@ returns-clause-front_leaves c = front_leaves-suspected
 
 pub returns-clause-full_front_leaves : goal.returns-clause-full_front_leaves
 returns-clause-full_front_leaves c = full_front_leaves-suspected
+
+pub returns-clause-registers_come : goal.returns-clause-registers_come
+returns-clause-registers_come c = lengthen-suspected

@@ -1,10 +1,13 @@
-use Rattle.std.proofs.Common.{true, None, refl, ap}
+use Rattle.std.proofs.Common.{true, None, refl, ap, arith}
 use Rattle.cc_names.specs.declared.kind.Kind.TheVariants.{Map}
 use Rattle.cc_model.specs.declared.item.Refusal.TheVariants.{NoMemory}
 use Rattle.cc_model.specs.declared.item.Reply.TheVariants.{Named}
 use Rattle.cc_model.specs.Effects.{done_in, make_object}
 use Rattle.cc_mutator.proofs.Carrying.{answered-denied, answered-silently, name-not_refused}
 use Rattle.cc_mutator.proofs.making.make_map.Goals as goal
+
+pub new_map-requires-clause-within : goal.new_map-requires-clause-within
+new_map-requires-clause-within c = omega (arith, c.requires.within, c.requires.order.1.sound.well_formed.registers.1.enough)
 
 pub returns-in-Ok : goal.returns-in-Ok
 unfolding done_in

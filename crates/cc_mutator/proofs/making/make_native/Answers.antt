@@ -1,9 +1,12 @@
-use Rattle.std.proofs.Common.{true, refl, ap}
+use Rattle.std.proofs.Common.{true, refl, ap, arith}
 use Rattle.cc_model.specs.declared.item.Refusal.TheVariants.{NoMemory}
 use Rattle.cc_model.specs.declared.item.Reply.TheVariants.{Named}
 use Rattle.cc_model.specs.Effects.{done_in}
 use Rattle.cc_mutator.proofs.Carrying.{answered-denied, answered-done, name-not_refused}
 use Rattle.cc_mutator.proofs.making.make_native.Goals as goal
+
+pub new_native-requires-clause-within : goal.new_native-requires-clause-within
+new_native-requires-clause-within g c = omega (arith, c.requires.within, c.requires.order.1.sound.well_formed.registers.0.enough)
 
 pub returns-in-Ok : goal.returns-in-Ok
 unfolding done_in

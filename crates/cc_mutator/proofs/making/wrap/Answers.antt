@@ -1,4 +1,4 @@
-use Rattle.std.proofs.Common.{◌≡◌, List, Some, not, refl, sym, ◌∙◌, ap}
+use Rattle.std.proofs.Common.{◌≡◌, List, Some, not, refl, sym, ◌∙◌, ap, arith}
 use Rattle.cc_names.specs.declared.register.Reg.TheVariants.{N, S}
 use Rattle.cc_names.specs.Names.{reflector}
 use Rattle.cc_model.specs.declared.item.Refusal.TheVariants.{NoMemory}
@@ -17,6 +17,9 @@ use Rattle.cc_mutator.proofs.NativesRead.{held-number}
 use Rattle.cc_mutator.proofs.Reflecting.{KeepsKeys-then}
 use Rattle.cc_mutator.proofs.ScriptsRead.{key-black}
 use Rattle.cc_mutator.proofs.making.wrap.Goals as goal
+
+pub set_script_reg-requires-clause-within : goal.set_script_reg-requires-clause-within
+set_script_reg-requires-clause-within c = let f = c.requires.order in omega (arith, c.requires.within, (c.wrap.ensures.kept.order f.0 f.1).sound.well_formed.registers.1.enough)
 
 pub set_script_reg-requires-clause-order : goal.set_script_reg-requires-clause-order
 set_script_reg-requires-clause-order c = let f = c.requires.order in (f.0, c.wrap.ensures.kept.order f.0 f.1)

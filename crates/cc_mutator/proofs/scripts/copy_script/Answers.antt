@@ -1,4 +1,4 @@
-use Rattle.std.proofs.Common.{◌≡◌, false, refl, ◌∙◌, ap, subst, sym}
+use Rattle.std.proofs.Common.{◌≡◌, false, refl, ◌∙◌, ap, subst, sym, arith}
 use Rattle.cc_names.specs.declared.register.Reg.TheVariants.{S}
 use Rattle.cc_model.specs.declared.item.Refusal.TheVariants.{NoMemory}
 use Rattle.cc_model.specs.Checks.{named_or_nothing}
@@ -10,6 +10,9 @@ use Rattle.cc_laws_heap.proofs.Face.{AreColoured-from_view}
 use Rattle.cc_mutator.proofs.Carrying.{answered-silently, named-not_refused}
 use Rattle.cc_mutator.proofs.Exposing.{exposed-same, register-black}
 use Rattle.cc_mutator.proofs.scripts.copy_script.Goals as goal
+
+pub set_script_reg-requires-clause-within : goal.set_script_reg-requires-clause-within
+set_script_reg-requires-clause-within c = omega (arith, c.requires.within, c.requires.order.1.sound.well_formed.registers.1.enough)
 
 pub returns : goal.returns
 unfolding done_in

@@ -1,10 +1,13 @@
-use Rattle.std.proofs.Common.{false, None, refl, ◌∙◌, ap}
+use Rattle.std.proofs.Common.{false, None, refl, ◌∙◌, ap, arith}
 use Rattle.cc_names.specs.declared.register.Reg.TheVariants.{S}
 use Rattle.cc_model.specs.declared.item.Refusal.TheVariants.{NoMemory}
 use Rattle.cc_model.specs.Effects.{done_in}
 use Rattle.cc_model.specs.Heap.{Heap, set_register}
 use Rattle.cc_mutator.proofs.Carrying.{answered-silently, done-not_refused, exposed-none}
 use Rattle.cc_mutator.proofs.scripts.drop_script.Goals as goal
+
+pub set_script_reg-requires-clause-within : goal.set_script_reg-requires-clause-within
+set_script_reg-requires-clause-within c = omega (arith, c.requires.within, c.requires.order.1.sound.well_formed.registers.1.enough)
 
 pub returns : goal.returns
 unfolding done_in

@@ -1,9 +1,12 @@
-use Rattle.std.proofs.Common.{false, refl}
+use Rattle.std.proofs.Common.{false, refl, arith}
 use Rattle.cc_model.specs.declared.item.Refusal.TheVariants.{NoMemory}
 use Rattle.cc_model.specs.Effects.{done_in, hold_script}
 use Rattle.cc_heaps.specs.Changes.{script_name}
 use Rattle.cc_mutator.proofs.Carrying.{answered-silently, named-not_refused}
 use Rattle.cc_mutator.proofs.scripts.hold.Goals as goal
+
+pub set_script_reg-requires-clause-within : goal.set_script_reg-requires-clause-within
+set_script_reg-requires-clause-within c = omega (arith, c.requires.within, c.requires.order.1.sound.well_formed.registers.1.enough)
 
 pub returns : goal.returns
 unfolding done_in

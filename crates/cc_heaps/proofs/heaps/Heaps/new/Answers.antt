@@ -7,6 +7,7 @@ use Rattle.cc_names.specs.declared.number.NKey.{NKey}
 use Rattle.cc_names.specs.declared.number.SKey.{SKey}
 use Rattle.cc_names.specs.Names.{same_name, is_native}
 use Rattle.cc_names.specs.Sizes.{bank_length}
+use Rattle.cc_model.specs.Banks.{IsBankLength}
 use Rattle.cc_model.specs.Heap.{Heap, empty_heap}
 use Rattle.cc_laws_heap.specs.Sound.{IsSound}
 use Rattle.cc_counted.specs.Counts.{Counts, no_counts}
@@ -44,6 +45,10 @@ empty-order l few = record {
   entries_there = λ e m. absurd m;
 }
 
+-- a bank is no shorter
+shortest : IsBankLength bank_length
+shortest = record { enough = omega arith; allowed = omega arith }
+
 module _ (natives : Vec (Option NKey)) (scripts : Vec (Option SKey)) (limits : Allowance) {counted : Counts} {objects : List Object} {weak : List KeyedEntry}
     (no_natives : natives.items ≡ replicate bank_length None) (no_scripts : scripts.items ≡ replicate bank_length None) (none_counted : counted ≡ no_counts) (none_made : objects ≡ []) (none_set : weak ≡ []) where
   abbrev p : Inside
@@ -66,7 +71,7 @@ module _ (natives : Vec (Option NKey)) (scripts : Vec (Option SKey)) (limits : A
   empty-linked = record {
     native_registers = none-each bank_length natives.items no_natives (IsLive counted.keys) tt;
     script_registers = none-each bank_length scripts.items no_scripts (IsScriptLive objects) tt;
-    registers = (none-length bank_length natives.items no_natives, none-length bank_length scripts.items no_scripts);
+    registers = (subst IsBankLength (sym (none-length bank_length natives.items no_natives)) shortest, subst IsBankLength (sym (none-length bank_length scripts.items no_scripts)) shortest);
     held = subst (λ (c : Counts). AreHeldThere objects c.natives) (sym none_counted) (λ n x m. absurd m);
     one_key = subst (λ os. (key : ℕ) → count_by (λ (o : Object). o.key == key) os ≤ 1) (sym none_made) (λ key. omega arith);
     one_name = subst (λ os. (x : Name) → count_by (λ (o : Object). same_name o.name x) os ≤ 1) (sym none_made) (λ x. omega arith);

@@ -1,7 +1,8 @@
-use Rattle.std.proofs.Common.{◌<◌, ◌++◌, Some, arith, sym, ◌∙◌, ap, subst, refl}
+use Rattle.std.proofs.Common.{◌<◌, ◌++◌, length, Some, arith, sym, ◌∙◌, ap, subst, refl}
 use Rattle.cc_model.specs.declared.command.Command.TheVariants.{Native}
 use Rattle.cc_model.specs.Graph.{step}
 use Rattle.cc_model.specs.Telling.{TellsEvents}
+use Rattle.cc_model.specs.Heap.{Heap}
 use Rattle.cc_model.specs.Effects.{put_in_register}
 use Rattle.cc_model.specs.WellFormed.{names_there}
 use Rattle.cc_laws_heap.specs.Sound.{numbers_of}
@@ -30,6 +31,10 @@ returns-in-Ok-clause-told g c =
     subst (λ o. TellsEvents (g.N.Notices.telling c.args.out.now) (g.N.Notices.telling c.put_in_register.new.out) o.events)
     (made-is c.args.self.now.heap mid.heap (native_name mid (Some c.in-Ok.key)) c.args.r c.args.slots c.in-Ok.ensures.heap c.in-Ok.ensures.name)
     c.put_in_register.ensures.told
+
+pub put_in_register-requires-clause-within : goal.put_in_register-requires-clause-within
+put_in_register-requires-clause-within g c =
+    subst (λ (h : Heap). c.args.r < length h.native_registers) (sym c.in-Ok.ensures.heap) c.requires.within
 
 -- the caller owns the new native, which the register is to hold
 pub put_in_register-requires-clause-order : goal.put_in_register-requires-clause-order

@@ -1,4 +1,7 @@
-use Rattle.std.proofs.Common.{◌≡◌, ◌<◌, sym, ◌∙◌, subst, arith, refl, ap}
+use Rattle.std.proofs.Common.{◌≡◌, ◌<◌, length, Option, sym, ◌∙◌, subst, arith, refl, ap}
+use Rattle.cc_names.specs.declared.name.Name.{Name}
+use Rattle.cc_model.specs.Slots.{Slots}
+use Rattle.cc_model.specs.Heap.{Heap, preserve}
 use Rattle.cc_model.specs.WellFormed.{native_names, script_names}
 use Rattle.cc_heaps.specs.Keyed.{Keyed}
 use Rattle.cc_heaps.specs.Making.{delegate_name, made_in}
@@ -12,6 +15,17 @@ use Rattle.cc_heaps.proofs.heaps.Heaps.new_object.Goals as goal
 
 pub preserve_delegate-requires-clause-order : goal.preserve_delegate-requires-clause-order
 preserve_delegate-requires-clause-order c = let f = c.requires.order in (f.0, c.add_object.ensures.order f.0 f.1)
+
+-- a reflector preserved leaves script registers
+registers-preserve : (h : Heap) (x : Option Name) → (preserve h x).script_registers ≡ h.script_registers
+registers-preserve h x = grind arith
+
+pub write_script_reg-requires-clause-within : goal.write_script_reg-requires-clause-within
+write_script_reg-requires-clause-within c =
+    let mid = c.add_object.new.self in
+    subst (λ (rs : Slots). c.args.r < length rs)
+    (sym (ap (λ (w : Keyed). w.heap.script_registers) c.preserve_delegate.ensures.heap
+    ∙ (registers-preserve mid.heap (delegate_name mid c.args.what) ∙ ap (λ (h : Heap). h.script_registers) c.in-Ok.ensures.heap))) c.requires.within
 
 pub write_script_reg-requires-clause-order : goal.write_script_reg-requires-clause-order
 write_script_reg-requires-clause-order c = let f = c.requires.order in (f.0, c.preserve_delegate.ensures.order f.0 (c.add_object.ensures.order f.0 f.1))
@@ -57,7 +71,7 @@ pub returns-in-Ok-clause-stands : goal.returns-in-Ok-clause-stands
 returns-in-Ok-clause-stands c reached =
     let v = c.args.self.now in
     subst (λ h. StandsAfter v.heap h (λ g. made_in g c.args.r c.args.what (delegate_name v c.args.what))) (sym (made c))
-    (make_object-stands v c.requires.order.1 c.args.r c.args.what c.requires.within c.requires.may (room c) reached)
+    (make_object-stands v c.requires.order.1 c.args.r c.args.what c.requires.may (room c) reached)
 
 pub returns-in-Err-clause-kept : goal.returns-in-Err-clause-kept
 returns-in-Err-clause-kept c = KeepsAll-same c.args.self.now _ c.in-Err.ensures.same

@@ -1,11 +1,11 @@
-use Rattle.std.proofs.Common.{◌≡◌, ℕ, ◌<◌, List, ◌++◌, set, Option, sym, ◌∙◌, ap, subst, ⊎_elim}
+use Rattle.std.proofs.Common.{◌≡◌, ℕ, ◌<◌, List, ◌++◌, length, set, Option, sym, ◌∙◌, ap, subst, ⊎_elim}
 use Rattle.std.specs.Vec.{with_item}
 use Rattle.std.proofs.Math.ListN.{length-set}
 use Rattle.std.proofs.lemmas.List.{map-set}
 use Rattle.cc_lists.proofs.ListWrites.{Among-set_cases}
 use Rattle.cc_names.specs.declared.number.NKey.{NKey}
 use Rattle.cc_names.specs.declared.register.Reg.TheVariants.{N}
-use Rattle.cc_names.specs.Sizes.{bank_length}
+use Rattle.cc_model.specs.Banks.{IsBankLength}
 use Rattle.cc_model.specs.Heap.{register, set_register}
 use Rattle.cc_laws_heap.specs.Sound.{numbers_of}
 use Rattle.cc_heaps.specs.declared.heaps.Heaps.TheInside.{Inside}
@@ -37,7 +37,7 @@ module _ (p : Inside) (r : ℕ) (x : Option NKey) where
     native_registers = λ y m. ⊎_elim (λ e. subst (IsLive p.counted.keys) e (live-there v x there)) (l.native_registers y)
         (Among-set_cases p.native_registers.items r x y m);
     script_registers = l.script_registers;
-    registers = (length-set p.native_registers.items r x ∙ l.registers.0, l.registers.1);
+    registers = (subst IsBankLength (sym (length-set p.native_registers.items r x)) l.registers.0, l.registers.1);
     held = l.held;
     one_key = l.one_key;
     one_name = l.one_name;
@@ -45,7 +45,7 @@ module _ (p : Inside) (r : ℕ) (x : Option NKey) where
     script_names = l.script_names;
   }
 
-  written-fit : (owned : List ℕ) → r < bank_length → IsNativeThere v x → (was : Option NKey) → native_name v was ≡ register v.heap (N r) →
+  written-fit : (owned : List ℕ) → r < length v.heap.native_registers → IsNativeThere v x → (was : Option NKey) → native_name v was ≡ register v.heap (N r) →
       IsFit (numbers_of (native_name v x) ++ owned) p → IsFit (numbers_of (native_name (keyed_of (written p r x)) was) ++ owned) (written p r x)
   written-fit owned within there was held f = record {
     order = subst (IsInOrder (numbers_of (native_name v was) ++ owned)) (sym written-keyed)
@@ -69,5 +69,5 @@ returns-clause-there c =
 pub returns-clause-order : goal.returns-clause-order
 returns-clause-order c owned =
     rw (← c.self.view_is)
-    (λ o. (written-fit c.self.inside c.args.r c.args.content owned c.requires.within (rw (← c.self.view_is) at c.requires.there) c.native_reg-held.result
+    (λ o. (written-fit c.self.inside c.args.r c.args.content owned (rw (← c.self.view_is) at c.requires.within) (rw (← c.self.view_is) at c.requires.there) c.native_reg-held.result
     (rw (← c.self.view_is) at c.native_reg-held.ensures.name) (record { order = o; linked = c.self.invariant })).order)

@@ -1,4 +1,4 @@
-use Rattle.std.proofs.Common.{◌≡◌, ℕ, List, ◌++◌, Option, refl, sym, ◌∙◌, ap, subst}
+use Rattle.std.proofs.Common.{◌≡◌, ℕ, ◌<◌, List, ◌++◌, length, Option, refl, sym, ◌∙◌, ap, subst}
 use Rattle.cc_names.specs.declared.name.Name.{Name}
 use Rattle.cc_names.specs.declared.number.NKey.{NKey}
 use Rattle.cc_model.specs.Telling.{TellsEvents}
@@ -6,6 +6,7 @@ use Rattle.cc_model.specs.Heap.{Heap}
 use Rattle.cc_model.specs.Cascade.{take_up}
 use Rattle.cc_model.specs.Effects.{put_in_register, hold_native}
 use Rattle.cc_laws_heap.specs.Sound.{numbers_of}
+use Rattle.cc_laws_heap.proofs.Face.{room-take_up}
 use Rattle.cc_counted.specs.declared.held.Held.{Held}
 use Rattle.cc_counted.specs.Counts.{held_of_native}
 use Rattle.cc_heaps.specs.Keyed.{Keyed, IsInOrder, changed_to, left_with}
@@ -38,6 +39,12 @@ module _ (v mid : Keyed) (r : ℕ) (x : Option NKey) (item : Option Held) (is : 
   held-owned : (owned : List ℕ) → IsInOrder (numbers_of (held_name v item) ++ owned) mid → IsInOrder (numbers_of (native_name mid x) ++ owned) mid
   held-owned owned o = subst (λ y. IsInOrder (numbers_of y ++ owned) mid)
       (ap (held_name v) is ∙ (held_of_native-name v x ∙ sym (ap (λ (w : Keyed). native_name w x) taken))) o
+
+pub put_in_register-requires-clause-within : goal.put_in_register-requires-clause-within
+put_in_register-requires-clause-within g c =
+    let v = c.args.self.now in
+    subst (λ (w : Keyed). c.args.r < length w.heap.native_registers) (sym c.take_up.ensures.heap)
+    (room-take_up v.heap (held_name v c.of_native.result) c.args.r c.requires.within)
 
 pub put_in_register-requires-clause-order : goal.put_in_register-requires-clause-order
 put_in_register-requires-clause-order g c =

@@ -1,12 +1,21 @@
-use Rattle.std.proofs.Common.{◌≡◌, sym, subst, ap}
+use Rattle.std.proofs.Common.{◌≡◌, ◌<◌, length, sym, ◌∙◌, subst, ap}
+use Rattle.cc_model.specs.Slots.{Slots}
+use Rattle.cc_model.specs.Heap.{Heap}
 use Rattle.cc_model.specs.Effects.{hold_script}
 use Rattle.cc_model.specs.WellFormed.{native_names, script_names}
+use Rattle.cc_laws_heap.proofs.Face.{Leaves-exposed}
 use Rattle.cc_heaps.specs.Changes.{script_name}
 use Rattle.cc_heaps.proofs.Kept.{KeepsKeys-on}
 use Rattle.cc_heaps.proofs.FewCounts.{few-owned}
 use Rattle.cc_heaps.proofs.Following.{Keeps, hold_script-keeps, script_name-there}
 use Rattle.cc_heaps.proofs.StandingAfter.{script_register-stands}
 use Rattle.cc_heaps.proofs.heaps.Heaps.set_script_reg.Goals as goal
+
+pub write_script_reg-requires-clause-within : goal.write_script_reg-requires-clause-within
+write_script_reg-requires-clause-within c =
+    let v = c.args.self.now in
+    subst (λ (rs : Slots). c.args.r < length rs)
+    (sym (ap (λ (h : Heap). h.script_registers) c.expose_content.ensures.heap ∙ (Leaves-exposed v.heap (script_name v c.args.content)).beside.script_registers)) c.requires.within
 
 pub write_script_reg-requires-clause-order : goal.write_script_reg-requires-clause-order
 write_script_reg-requires-clause-order c = let f = c.requires.order in (f.0, c.expose_content.ensures.order f.0 f.1)

@@ -8,6 +8,9 @@ use Rattle.cc_host.proofs.Making.{native-beside, native-came, native-held, nativ
 use Rattle.cc_host.proofs.Coming.{OneCame-named}
 use Rattle.cc_host.proofs.changes.making.make_native.Goals as goal
 
+pub new_native-requires-clause-within : goal.new_native-requires-clause-within
+new_native-requires-clause-within g c = omega (arith, c.requires.within, c.requires.ready.order.sound.well_formed.registers.0.enough)
+
 pub unreachable-requires : goal.unreachable-requires
 unreachable-requires g c =
     let h = c.args.heaps.now.heap in

@@ -1,4 +1,4 @@
-use Rattle.std.proofs.Common.{rules, ◌+◌, Some, None, sym, ◌∙◌, ap, subst}
+use Rattle.std.proofs.Common.{rules, ◌+◌, Some, None, sym, ◌∙◌, ap, subst, arith}
 use Rattle.cc_names.specs.declared.register.Reg.TheVariants.{N}
 use Rattle.cc_model.specs.Heap.{Heap, register}
 use Rattle.cc_host.specs.Hosted.{spare}
@@ -11,6 +11,9 @@ use Rattle.cc_model.specs.WellFormed.{names_there}
 use Rattle.cc_heaps.specs.Changes.{script_name}
 use Rattle.cc_host.proofs.Coming.{OneCame-named, object-came}
 use Rattle.cc_host.proofs.changes.making.make_plain.Goals as goal
+
+pub new_plain-requires-clause-within : goal.new_plain-requires-clause-within
+new_plain-requires-clause-within c = omega (arith, c.requires.within, c.requires.ready.order.sound.well_formed.registers.1.enough)
 
 pub returns-clause-change : goal.returns-clause-change
 returns-clause-change c =

@@ -1,4 +1,4 @@
-use Rattle.std.proofs.Common.{rules, ◌+◌, Some, sym, ◌∙◌, ap, subst, inl, inr, ⊎_elim}
+use Rattle.std.proofs.Common.{rules, ◌+◌, Some, sym, ◌∙◌, ap, subst, inl, inr, ⊎_elim, arith}
 use Rattle.cc_names.specs.declared.register.Reg.TheVariants.{N}
 use Rattle.cc_model.specs.Graph as graph
 use Rattle.cc_model.specs.Heap.{Heap, register}
@@ -15,6 +15,9 @@ use Rattle.cc_model.specs.WellFormed.{names_there}
 use Rattle.cc_heaps.specs.Changes.{script_name}
 use Rattle.cc_host.proofs.Coming.{OneCame-named, proxy-came}
 use Rattle.cc_host.proofs.changes.making.make_proxy.Goals as goal
+
+pub new_proxy-requires-clause-within : goal.new_proxy-requires-clause-within
+new_proxy-requires-clause-within c = omega (arith, c.requires.within, c.expose_key.ensures.ready.order.sound.well_formed.registers.1.enough)
 
 pub returns-clause-change : goal.returns-clause-change
 returns-clause-change c =

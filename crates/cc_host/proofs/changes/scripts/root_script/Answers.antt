@@ -1,9 +1,12 @@
-use Rattle.std.proofs.Common.{[], sym, subst}
+use Rattle.std.proofs.Common.{[], sym, subst, arith}
 use Rattle.cc_heaps.specs.Changes.{script_name}
 use Rattle.cc_host.specs.Missing.{KeepsDoomed}
 use Rattle.cc_host.proofs.KeptDoomed.{hold_script-doomed}
 use Rattle.cc_host.proofs.ScriptSteps.{StaysBeside, beside-none_came, beside-none_left, beside-spared, hold_script-beside}
 use Rattle.cc_host.proofs.changes.scripts.root_script.Goals as goal
+
+pub set_script_reg-requires-clause-within : goal.set_script_reg-requires-clause-within
+set_script_reg-requires-clause-within c = omega (arith, c.requires.within, c.requires.ready.order.sound.well_formed.registers.1.enough)
 
 pub set_script_reg-requires-clause-order : goal.set_script_reg-requires-clause-order
 set_script_reg-requires-clause-order c = ([], c.requires.ready.order)
