@@ -8,7 +8,8 @@ use Rattle.cc_chain.proofs.Slots.{slots-below}
 use Rattle.cc_script.specs.declared.links.Waiting.{Waiting}
 use Rattle.cc_script.specs.declared.parts.ScriptParts.{ScriptParts}
 use Rattle.cc_script.specs.Lists.{Lists, objects_of}
-use Rattle.cc_script.specs.Cells.{Linked, Beside, cells_of, order_links, waiting_links, beside_waiting}
+use Rattle.cc_script.specs.Threads.{Thread, of_order, of_waiting}
+use Rattle.cc_script.specs.Cells.{Linked, Beside, beside, cells_of, links_in}
 use Rattle.cc_script.specs.Parts.{lists_of, marking_of, IsChained}
 
 -- the parts are these lists, and these wait
@@ -18,28 +19,27 @@ pub record AreLists (p : ScriptParts) (l : Lists) (waiting : List ℕ) : Type 0 
   pub chained : IsChained p
 
 -- where the cells are those, and the chains the lists
-pub are-lists : (p : ScriptParts) (l : Lists) (waiting : List ℕ) → cells_of p.cells.slots ≡ l.cells → IsChain (order_links p.cells.slots) p.order l.order →
-    IsChain (waiting_links p.cells.slots) p.waiting waiting → AreLists p l waiting
+pub are-lists : (p : ScriptParts) (l : Lists) (waiting : List ℕ) → cells_of p.cells.slots ≡ l.cells → IsChain (links_in of_order p.cells.slots) p.order l.order →
+    IsChain (links_in of_waiting p.cells.slots) p.waiting waiting → AreLists p l waiting
 are-lists p l waiting cells order waits = grind (arith, chain-bounded, slots-below)
 
 -- the slab written where no link changes
-module _ (p : ScriptParts) (h : IsChained p) (cells : Slab Linked) (order : order_links cells.slots ≡ order_links p.cells.slots)
-    (waiting : waiting_links cells.slots ≡ waiting_links p.cells.slots) where
-  pub order-kept : IsChain (order_links cells.slots) p.order (lists_of p).order
-  order-kept = subst (λ links. IsChain links p.order (lists_of p).order) (sym order) h.order
+module _ (p : ScriptParts) (h : IsChained p) (cells : Slab Linked) (same : (t : Thread) → links_in t cells.slots ≡ links_in t p.cells.slots) where
+  order-kept : IsChain (links_in of_order cells.slots) p.order (lists_of p).order
+  order-kept = subst (λ links. IsChain links p.order (lists_of p).order) (sym (same of_order)) h.order
 
-  pub waiting-kept : IsChain (waiting_links cells.slots) p.waiting (marking_of p).waiting
-  waiting-kept = subst (λ links. IsChain links p.waiting (marking_of p).waiting) (sym waiting) h.waiting
+  pub waiting-kept : IsChain (links_in of_waiting cells.slots) p.waiting (marking_of p).waiting
+  waiting-kept = subst (λ links. IsChain links p.waiting (marking_of p).waiting) (sym (same of_waiting)) h.waiting
 
   pub lists-kept : AreLists (record p { cells = cells }) (record { cells = cells_of cells.slots; order = (lists_of p).order }) (marking_of p).waiting
   lists-kept = are-lists (record p { cells = cells }) (record { cells = cells_of cells.slots; order = (lists_of p).order }) (marking_of p).waiting refl order-kept waiting-kept
 
 -- the list of those that wait written, and nothing else
-pub lists-waiting : (p : ScriptParts) → IsChained p → (cells : Slab Linked) (chain : Chain Waiting) (waiting : List ℕ) → IsChain (waiting_links cells.slots) chain waiting →
-    beside_waiting cells ≡ beside_waiting p.cells → AreLists (record { cells = cells; order = p.order; waiting = chain }) (lists_of p) waiting
+pub lists-waiting : (p : ScriptParts) → IsChained p → (cells : Slab Linked) (chain : Chain Waiting) (waiting : List ℕ) → IsChain (links_in of_waiting cells.slots) chain waiting →
+    beside of_waiting cells ≡ beside of_waiting p.cells → AreLists (record { cells = cells; order = p.order; waiting = chain }) (lists_of p) waiting
 lists-waiting p h cells chain waiting waits rest = are-lists (record { cells = cells; order = p.order; waiting = chain }) (lists_of p) waiting
     (ap (λ (b : Beside). b.cells) rest)
-    (subst (λ links. IsChain links p.order (lists_of p).order) (sym (ap (λ (b : Beside). b.other) rest)) h.order)
+    (subst (λ links. IsChain links p.order (lists_of p).order) (sym (ap (λ (b : Beside). b.others of_order) rest)) h.order)
     waits
 
 -- and in a walk

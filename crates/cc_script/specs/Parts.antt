@@ -8,10 +8,11 @@ use Rattle.cc_script.specs.Lists.{Lists, objects_of, IsPlaced}
 use Rattle.cc_script.specs.ColourOrder.{HasColourOrder}
 use Rattle.cc_script.specs.Marking.{Marking, AreRaised}
 use Rattle.cc_script.specs.Underway.{IsMarked}
-use Rattle.cc_script.specs.Cells.{cells_of, order_links, waiting_links}
+use Rattle.cc_script.specs.Cells.{cells_of, links_in}
+use Rattle.cc_script.specs.Threads.{of_order, of_waiting}
 
 abbrev pub lists_of : ScriptParts → Lists
-lists_of p = record { cells = cells_of p.cells.slots; order = walked (length p.cells.slots) (order_links p.cells.slots) p.order.first }
+lists_of p = record { cells = cells_of p.cells.slots; order = walked (length p.cells.slots) (links_in of_order p.cells.slots) p.order.first }
 
 -- what the parts show
 abbrev pub shows : ScriptParts → List Object
@@ -19,12 +20,12 @@ shows p = objects_of (lists_of p)
 
 -- and in a walk
 abbrev pub marking_of : ScriptParts → Marking
-marking_of p = record { objects = shows p; waiting = walked (length p.cells.slots) (waiting_links p.cells.slots) p.waiting.first }
+marking_of p = record { objects = shows p; waiting = walked (length p.cells.slots) (links_in of_waiting p.cells.slots) p.waiting.first }
 
 -- each chain is the list that is read from it
 pub record IsChained (p : ScriptParts) : Type 0 where
-  pub order : IsChain (order_links p.cells.slots) p.order (lists_of p).order
-  pub waiting : IsChain (waiting_links p.cells.slots) p.waiting (marking_of p).waiting
+  pub order : IsChain (links_in of_order p.cells.slots) p.order (lists_of p).order
+  pub waiting : IsChain (links_in of_waiting p.cells.slots) p.waiting (marking_of p).waiting
 
 -- the parts fit together, the colours are in order, and no object waits to be looked into
 pub record IsAtRest (p : ScriptParts) : Type 0 where

@@ -10,13 +10,14 @@ pub(crate) struct Order;
 pub(crate) struct Waiting;
 
 impl LinkStore<Order> for Cells {
-    ghost use Rattle.cc_script.specs.Cells.{Beside, beside_order, order_links};
+    ghost use Rattle.cc_script.specs.Threads.{of_order};
+    ghost use Rattle.cc_script.specs.Cells.{Beside, beside, links_in};
 
-    ghost links = { λ s. order_links s.slots };
+    ghost links = { λ s. links_in of_order s.slots };
 
     ghost Rest = { Beside };
 
-    ghost rest = { beside_order };
+    ghost rest = { beside of_order };
 
     fn get(&self, key: u32) -> Option<Link> {
         self.slab[key as usize].order.link()
@@ -28,13 +29,14 @@ impl LinkStore<Order> for Cells {
 }
 
 impl LinkStore<Waiting> for Cells {
-    ghost use Rattle.cc_script.specs.Cells.{Beside, beside_waiting, waiting_links};
+    ghost use Rattle.cc_script.specs.Threads.{of_waiting};
+    ghost use Rattle.cc_script.specs.Cells.{Beside, beside, links_in};
 
-    ghost links = { λ s. waiting_links s.slots };
+    ghost links = { λ s. links_in of_waiting s.slots };
 
     ghost Rest = { Beside };
 
-    ghost rest = { beside_waiting };
+    ghost rest = { beside of_waiting };
 
     fn get(&self, key: u32) -> Option<Link> {
         self.bodies[key as usize].waiting.link()

@@ -3,7 +3,8 @@ use Rattle.cc_lists.proofs.Held.{is_some-found}
 use Rattle.cc_chain.proofs.Slots.{among-linked}
 use Rattle.cc_script.specs.ColourOrder.{HasColourOrder}
 use Rattle.cc_script.specs.Lists.{cell_at, objects_of, IsPlaced}
-use Rattle.cc_script.specs.Cells.{Beside, order_links}
+use Rattle.cc_script.specs.Threads.{of_order}
+use Rattle.cc_script.specs.Cells.{Beside, links_in}
 use Rattle.cc_script.specs.Parts.{lists_of, shows}
 use Rattle.cc_script.proofs.Places.{live-cell, live-some}
 use Rattle.cc_script.proofs.Keys.{coloured-there}
@@ -21,7 +22,7 @@ unlink_at-requires-clause-linked c =
     let p = c.args.self.now in
     let l = lists_of p in
     let f = live-cell l c.requires.at_rest.placed c.args.key.0 (coloured-there (shows p) c.args.key.0 _ c.requires.white) in
-    among-linked (order_links p.cells.slots) p.order l.order c.requires.at_rest.chained.order c.args.key.0 (c.requires.at_rest.placed.ordered c.args.key.0 f.0 f.1)
+    among-linked (links_in of_order p.cells.slots) p.order l.order c.requires.at_rest.chained.order c.args.key.0 (c.requires.at_rest.placed.ordered c.args.key.0 f.0 f.1)
 
 pub remove-requires : goal.remove-requires
 remove-requires c =
