@@ -9,7 +9,7 @@ use Rattle.cc_chain.specs.Links.{with_link}
 use Rattle.cc_chain.proofs.Stores.{slot_at-kept, slot_at-live, slot_at-set}
 use Rattle.cc_chain.proofs.Slots.{parts-read, parts-set, parts-kept, parts-held}
 use Rattle.cc_script.specs.Lists.{Placed, cell_at}
-use Rattle.cc_script.specs.Threads.{Thread, of_order, of_waiting, same_thread, threaded}
+use Rattle.cc_script.specs.Threads.{Thread, of_order, of_waiting, of_walk, same_thread, threaded}
 use Rattle.cc_script.specs.Cells.{Linked, Changes, beside, cells_of, links_in, unless}
 
 abbrev object_in : Linked → Placed
@@ -64,15 +64,23 @@ relinks-written s t key x y link at placed here others = record {
 }
 
 -- the links of the other lists stay
-pub threaded-order : (order before waiting : Option Link) (u : Thread) → same_thread of_order u ≡ false → threaded order waiting u ≡ threaded before waiting u
-threaded-order order before waiting of_order e = absurd (true≢false e)
-threaded-order order before waiting of_waiting e = refl
+pub threaded-order : (order before waiting walk : Option Link) (u : Thread) → same_thread of_order u ≡ false → threaded order waiting walk u ≡ threaded before waiting walk u
+threaded-order order before waiting walk of_order e = absurd (true≢false e)
+threaded-order order before waiting walk of_waiting e = refl
+threaded-order order before waiting walk of_walk e = refl
 
-pub threaded-waiting : (order waiting before : Option Link) (u : Thread) → same_thread of_waiting u ≡ false → threaded order waiting u ≡ threaded order before u
-threaded-waiting order waiting before of_order e = refl
-threaded-waiting order waiting before of_waiting e = absurd (true≢false e)
+pub threaded-waiting : (order waiting before walk : Option Link) (u : Thread) → same_thread of_waiting u ≡ false → threaded order waiting walk u ≡ threaded order before walk u
+threaded-waiting order waiting before walk of_order e = refl
+threaded-waiting order waiting before walk of_waiting e = absurd (true≢false e)
+threaded-waiting order waiting before walk of_walk e = refl
+
+pub threaded-walk : (order waiting walk before : Option Link) (u : Thread) → same_thread of_walk u ≡ false → threaded order waiting walk u ≡ threaded order waiting before u
+threaded-walk order waiting walk before of_order e = refl
+threaded-walk order waiting walk before of_waiting e = refl
+threaded-walk order waiting walk before of_walk e = absurd (true≢false e)
 
 -- in no list
-pub threaded-none : (order waiting : Option Link) → order ≡ None → waiting ≡ None → (t : Thread) → threaded order waiting t ≡ None
-threaded-none order waiting unordered idle of_order = unordered
-threaded-none order waiting unordered idle of_waiting = idle
+pub threaded-none : (order waiting walk : Option Link) → order ≡ None → waiting ≡ None → walk ≡ None → (t : Thread) → threaded order waiting walk t ≡ None
+threaded-none order waiting walk unordered idle out of_order = unordered
+threaded-none order waiting walk unordered idle out of_waiting = idle
+threaded-none order waiting walk unordered idle out of_walk = out

@@ -24,6 +24,7 @@ pub record Label : Type 0 where
   pub native : Option ℕ
   pub delegate : Option ℕ
   pub order : Option Link
+  pub walk : Option Link
 
 pub record Content : Type 0 where
   pub slots : List (Option ℕ)
@@ -44,7 +45,7 @@ filled content label = record {
     slots = content.slots;
     colour = White;
   };
-  links = threaded label.order content.waiting;
+  links = threaded label.order content.waiting label.walk;
 }
 
 abbrev pub in_colour : Colour → Linked → Linked

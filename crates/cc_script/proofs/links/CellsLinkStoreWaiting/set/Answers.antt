@@ -25,7 +25,7 @@ returns c =
     let seen = c.behind-self.view_is ∙ (c.index_mut.ensures.value ∙ get_or_default contents c.args.key c.index_mut.result.now nothing within) in
     let r = content-relinked s contents c.self.inside.colours.items c.args.self.now c.self.view_is c.args.key of_waiting there.0 there.1
     c.args.link content within (ap (λ (w : Content). (filled w there.0).placed) seen) c.of.ensures
-    (threaded-waiting there.0.order c.of.result (get_or contents c.args.key nothing).waiting) in
+    (threaded-waiting there.0.order c.of.result (get_or contents c.args.key nothing).waiting there.0.walk) in
     record { links = r.links; rest = r.rest }
 
 pub invariant_of-self : goal.invariant_of-self

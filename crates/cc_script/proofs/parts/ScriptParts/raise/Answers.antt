@@ -60,7 +60,7 @@ returns-then-is_below-clause-raises c =
     let pushed = c.push_back.ensures.keys (marking_of p).waiting (waiting-kept p h c.paint.new.self changes.links) in
     let objects = ap objects_of painted.lists
     ∙ objects-painted l at c.args.key.0 f.0 f.1 c.args.to (cells_of c.paint.new.self.slots) changes.cells (raised c.args.to)
-    (raised-below c.args.to (with_key c.args.key.0 f.0) below) in
+    (raised-below c.args.to (with_key c.args.key.0 (l.walks c.args.key.0) f.0) below) in
     marking-is _ _ _ (lists-waiting (record p { cells = c.paint.new.self }) painted.chained c.push_back.new.store c.push_back.new.self _ pushed c.push_back.ensures.rest)
     ∙ (ap (λ os. marking os ((marking_of p).waiting ++ c.args.key.0 ∷ [])) objects ∙ sym (raise_key-lower c.args.to c.args.key.0 (marking_of p) lower))
 
