@@ -15,7 +15,7 @@ use Rattle.cc_script.specs.declared.links.Walking.{Walking}
 use Rattle.cc_script.specs.declared.parts.ScriptParts.{ScriptParts}
 use Rattle.cc_script.specs.Lists.{Lists, objects_of}
 use Rattle.cc_script.specs.Threads.{Thread, of_order, of_waiting, of_walk}
-use Rattle.cc_script.specs.Cells.{Linked, Beside, beside, cells_of, links_in}
+use Rattle.cc_script.specs.Cells.{Linked, Beside, beside, cells_of, link_of, links_in}
 use Rattle.cc_script.specs.Parts.{lists_of, marking_of, walk_in, IsChained}
 
 -- the parts are these lists, and these wait
@@ -26,15 +26,15 @@ pub record AreLists (p : ScriptParts) (l : Lists) (waiting : List ℕ) : Type 0 
 
 -- the walk is this set
 pub walk-is : (p : ScriptParts) (w : Walk) → IsWalk (links_in of_walk p.cells.slots) p.walk w → walk_in p ≡ w
-walk-is p w walk = walk-bounded (links_in of_walk p.cells.slots) p.walk w walk (length p.cells.slots) (slots-below (λ (c : Linked). c.links of_walk) p.cells.slots)
+walk-is p w walk = walk-bounded (links_in of_walk p.cells.slots) p.walk w walk (length p.cells.slots) (slots-below (link_of of_walk) p.cells.slots)
 
 -- where the cells are those, the chains the lists, and the walk a set in which each key stands so
 pub are-lists : (p : ScriptParts) (l : Lists) (waiting : List ℕ) (w : Walk) → cells_of p.cells.slots ≡ l.cells → IsChain (links_in of_order p.cells.slots) p.order l.order →
     IsChain (links_in of_waiting p.cells.slots) p.waiting waiting → IsWalk (links_in of_walk p.cells.slots) p.walk w → states_of w ≡ l.walks → AreLists p l waiting
 are-lists p l waiting w cells order waits walk walks =
     let slots = p.cells.slots in
-    let ordered = chain-bounded (links_in of_order slots) p.order l.order (length slots) order (slots-below (λ (c : Linked). c.links of_order) slots) in
-    let waited = chain-bounded (links_in of_waiting slots) p.waiting waiting (length slots) waits (slots-below (λ (c : Linked). c.links of_waiting) slots) in
+    let ordered = chain-bounded (links_in of_order slots) p.order l.order (length slots) order (slots-below (link_of of_order) slots) in
+    let waited = chain-bounded (links_in of_waiting slots) p.waiting waiting (length slots) waits (slots-below (link_of of_waiting) slots) in
     let walked = walk-is p w walk in
     let states = ap states_of walked ∙ walks in
     record {

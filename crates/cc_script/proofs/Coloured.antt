@@ -17,7 +17,7 @@ use Rattle.cc_chain.specs.Links.{is_live}
 use Rattle.cc_script.specs.Lists.{Placed, cell_at, painted}
 use Rattle.cc_script.specs.Paired.{Reaches, paired}
 use Rattle.cc_script.specs.Threads.{Thread, same_thread}
-use Rattle.cc_script.specs.Cells.{AreGrayNoted, Changes, Content, HasColourAt, HaveAll, Label, Linked, Whitens, cells_of, coloured_slab, filled, filled_slab, in_colour, links_in, nothing}
+use Rattle.cc_script.specs.Cells.{AreGrayNoted, Changes, Content, HasColourAt, HaveAll, Label, Linked, Whitens, cells_of, coloured_slab, filled, filled_slab, in_colour, link_of, links_in, nothing}
 use Rattle.cc_script.proofs.Linking.{Relinks, cell-held, cell-read, changes-written, relinks-written}
 use Rattle.cc_script.proofs.Paired.{held-in, paired-at, paired-same, paired-set, paired-written, read-at, updates-made, updates-taken, vacant-at}
 
@@ -48,9 +48,9 @@ replicate-white (suc n) (suc key) = replicate-white n key
 
 -- links stay
 links-white : (t : Thread) (slots : List (Option Linked)) → links_in t (map (option_map (in_colour White)) slots) ≡ links_in t slots
-links-white t slots = fun_ext (λ key. ap (option_map (λ (z : Linked). z.links t)) (get_or-map (option_map (in_colour White)) slots key None) ∙ go (get_or slots key None))
+links-white t slots = fun_ext (λ key. ap (option_map (link_of t)) (get_or-map (option_map (in_colour White)) slots key None) ∙ go (get_or slots key None))
   where
-    go : (o : Option Linked) → option_map (λ (z : Linked). z.links t) (option_map (in_colour White) o) ≡ option_map (λ (z : Linked). z.links t) o
+    go : (o : Option Linked) → option_map (link_of t) (option_map (in_colour White) o) ≡ option_map (link_of t) o
     go None = refl
     go (Some z) = refl
 
@@ -77,11 +77,11 @@ pub changes-painted : {room : ℕ} (s : Slab Linked) (colours : List Colour) (ke
 changes-painted {room} s colours key colour b l at =
     subst (λ slots. Changes (coloured_slab room s colours) (record (coloured_slab room s colours) { slots = slots }) key (painted colour)) (sym (paired-written in_colour White s.slots colours key colour b l at))
     (changes-written (coloured_slab room s colours) key (in_colour (get_or colours key White) b) (in_colour colour b) (painted colour)
-    (paired-at in_colour White s.slots colours key ∙ ap (option_map (in_colour (get_or colours key White))) at) refl refl)
+    (paired-at in_colour White s.slots colours key ∙ ap (option_map (in_colour (get_or colours key White))) at) refl (λ t. refl))
 
 -- a label and its content written, where an object stood
 pub changes-bare : {room : ℕ} (s : Slab Linked) (colours : List Colour) (key : ℕ) (b d : Linked) (change : Placed → Placed) → get s key ≡ Some b →
-    (in_colour (get_or colours key White) d).placed ≡ change (in_colour (get_or colours key White) b).placed → d.links ≡ b.links →
+    (in_colour (get_or colours key White) d).placed ≡ change (in_colour (get_or colours key White) b).placed → ((t : Thread) → link_of t d ≡ link_of t b) →
     Changes (coloured_slab room s colours) (coloured_slab room (record s { slots = set s.slots key (Some d) }) colours) key change
 changes-bare {room} s colours key b d change at e links =
     let colour = get_or colours key White in
@@ -122,7 +122,7 @@ module _ {room : ℕ} (s : Slab Linked) (colours : List Colour) (now : Slab Link
 
   -- the link of one list written
   relinked : (t : Thread) (link : Option Link) (b d : Linked) → get s key ≡ Some b → (in_colour (get_or colours key White) d).placed ≡ (in_colour (get_or colours key White) b).placed →
-      d.links t ≡ link → ((u : Thread) → same_thread t u ≡ false → d.links u ≡ b.links u) → Relinks t key link now (coloured_slab room (record s { slots = set s.slots key (Some d) }) colours)
+      link_of t d ≡ link → ((u : Thread) → same_thread t u ≡ false → link_of u d ≡ link_of u b) → Relinks t key link now (coloured_slab room (record s { slots = set s.slots key (Some d) }) colours)
   relinked t link b d at placed here others =
       let colour = get_or colours key White in
       let old = coloured_slab room s colours in
@@ -153,19 +153,19 @@ module _ {room : ℕ} (s : Slab Label) (contents : List Content) (colours : List
     (t : Thread) where
   -- a live key is that of an object
   pub held-linked : IsTrue (is_live (links_in t now.slots) key) → ContainsKey s key
-  held-linked live = held-label s contents key (held-bare (filled_slab s contents) colours now same key (sym (is_some-map (λ (z : Linked). z.links t) (get now key)) ∙ live))
+  held-linked live = held-label s contents key (held-bare (filled_slab s contents) colours now same key (sym (is_some-map (link_of t) (get now key)) ∙ live))
 
   module _ (label : Label) (at : get s key ≡ Some label) where
     abbrev was : Linked
     was = filled (get_or contents key nothing) label
 
     -- its link is read,
-    pub read-linked : links_in t now.slots key ≡ Some (was.links t)
-    read-linked = ap (option_map (λ (z : Linked). z.links t)) (read-coloured (filled_slab s contents) colours now same key was (read-filled s contents key label at))
+    pub read-linked : links_in t now.slots key ≡ Some (link_of t was)
+    read-linked = ap (option_map (link_of t)) (read-coloured (filled_slab s contents) colours now same key was (read-filled s contents key label at))
 
     -- and written: in a label,
-    pub label-relinked : (link : Option Link) (new : Label) → (filled (get_or contents key nothing) new).placed ≡ was.placed → (filled (get_or contents key nothing) new).links t ≡ link →
-        ((u : Thread) → same_thread t u ≡ false → (filled (get_or contents key nothing) new).links u ≡ was.links u) →
+    pub label-relinked : (link : Option Link) (new : Label) → (filled (get_or contents key nothing) new).placed ≡ was.placed → link_of t (filled (get_or contents key nothing) new) ≡ link →
+        ((u : Thread) → same_thread t u ≡ false → link_of u (filled (get_or contents key nothing) new) ≡ link_of u was) →
         Relinks t key link now (coloured_slab room (filled_slab (record s { slots = set s.slots key (Some new) }) contents) colours)
     label-relinked link new placed here others =
         subst (λ slots. Relinks t key link now (coloured_slab room (record (filled_slab s contents) { slots = slots }) colours)) (sym (paired-set filled nothing s.slots contents key (Some new)))
@@ -173,8 +173,8 @@ module _ {room : ℕ} (s : Slab Label) (contents : List Content) (colours : List
         (ap (painted (get_or colours key White)) placed) here others)
 
     -- or in a content
-    pub content-relinked : (link : Option Link) (new : Content) → key < length contents → (filled new label).placed ≡ was.placed → (filled new label).links t ≡ link →
-        ((u : Thread) → same_thread t u ≡ false → (filled new label).links u ≡ was.links u) →
+    pub content-relinked : (link : Option Link) (new : Content) → key < length contents → (filled new label).placed ≡ was.placed → link_of t (filled new label) ≡ link →
+        ((u : Thread) → same_thread t u ≡ false → link_of u (filled new label) ≡ link_of u was) →
         Relinks t key link now (coloured_slab room (filled_slab s (set contents key new)) colours)
     content-relinked link new within placed here others =
         subst (λ z. Relinks t key link now (coloured_slab room z colours)) (sym (content-set s contents key label new within at))

@@ -14,7 +14,7 @@ use Rattle.cc_script.specs.declared.links.Order.{Order}
 use Rattle.cc_script.specs.declared.parts.ScriptParts.{ScriptParts}
 use Rattle.cc_script.specs.Lists.{cell_at, made}
 use Rattle.cc_script.specs.Threads.{Thread, of_order, of_waiting, of_walk}
-use Rattle.cc_script.specs.Cells.{Linked, Beside, beside, cells_of, links_in}
+use Rattle.cc_script.specs.Cells.{Linked, Beside, beside, cells_of, link_of, links_in}
 use Rattle.cc_script.specs.Parts.{lists_of, marking_of, walk_in, IsChained}
 use Rattle.cc_script.proofs.Linking.{cell-read, cell-vacant, cell-other}
 use Rattle.cc_script.proofs.Chained.{AreLists, are-lists}
@@ -24,15 +24,15 @@ pub record IsJoined (p : ScriptParts) (mid : Slab Linked) (key : ℕ) (x : Linke
   pub vacant : get p.cells key ≡ None
   pub at : get mid key ≡ Some x
   pub others : (k : ℕ) → k ≢ key → get mid k ≡ get p.cells k
-  pub free : (t : Thread) → x.links t ≡ None
+  pub free : (t : Thread) → link_of t x ≡ None
 
-pub joined : (p : ScriptParts) (mid : Slab Linked) (key : ℕ) (x : Linked) → get p.cells key ≡ None → Updates p.cells mid key (Some x) → ((t : Thread) → x.links t ≡ None) → IsJoined p mid key x
+pub joined : (p : ScriptParts) (mid : Slab Linked) (key : ℕ) (x : Linked) → get p.cells key ≡ None → Updates p.cells mid key (Some x) → ((t : Thread) → link_of t x ≡ None) → IsJoined p mid key x
 joined p mid key x vacant updates free = record { vacant = vacant; at = updates.changed; others = updates.others; free = free }
 
 module _ (p : ScriptParts) (h : IsChained p) (mid : Slab Linked) (key : ℕ) (x : Linked) (j : IsJoined p mid key x) where
   -- each list is what it was
   chain-joined : {R : Type 0} (t : Thread) (chain : Chain R) (keys : List ℕ) → IsChain (links_in t p.cells.slots) chain keys → IsChain (links_in t mid.slots) chain keys
-  chain-joined t chain keys c = chain-made (λ (z : Linked). z.links t) p.cells.slots mid.slots chain keys c key x (j.free t) j.vacant j.at j.others
+  chain-joined t chain keys c = chain-made (link_of t) p.cells.slots mid.slots chain keys c key x (j.free t) j.vacant j.at j.others
 
   pub order-joined : IsChain (links_in of_order mid.slots) p.order (lists_of p).order
   order-joined = chain-joined of_order p.order (lists_of p).order h.order
@@ -50,7 +50,7 @@ module _ (p : ScriptParts) (h : IsChained p) (mid : Slab Linked) (key : ℕ) (x 
   -- it is in no walk
   pub out-joined : states_of (walk_in p) key ≡ Out
   out-joined = states-absent (walk_in p) key
-      (λ m. let bad : false ≡ true = sym (ap (λ o. is_some (option_map (λ (z : Linked). z.links of_walk) o)) j.vacant) ∙ chain-live (links_in of_walk p.cells.slots) p.walk.chain (members (walk_in p)) h.walk.chain key m in
+      (λ m. let bad : false ≡ true = sym (ap (λ o. is_some (option_map (link_of of_walk) o)) j.vacant) ∙ chain-live (links_in of_walk p.cells.slots) p.walk.chain (members (walk_in p)) h.walk.chain key m in
       absurd (false≢true bad))
 
   -- and it goes last

@@ -10,13 +10,10 @@ use Rattle.cc_chain.proofs.Stores.{slot_at-kept, slot_at-live, slot_at-set}
 use Rattle.cc_chain.proofs.Slots.{parts-read, parts-set, parts-kept, parts-held}
 use Rattle.cc_script.specs.Lists.{Placed, cell_at}
 use Rattle.cc_script.specs.Threads.{Thread, of_order, of_waiting, of_walk, same_thread, threaded}
-use Rattle.cc_script.specs.Cells.{Linked, Changes, beside, cells_of, links_in, unless}
+use Rattle.cc_script.specs.Cells.{Linked, Changes, beside, cells_of, link_of, links_in, unless}
 
 abbrev object_in : Linked → Placed
 object_in c = c.placed
-
-abbrev link_in : Thread → Linked → Option Link
-link_in t c = c.links t
 
 -- what stands at a key
 pub cell-read : (slots : List (Option Linked)) (key : ℕ) (x : Linked) → slice_index_or slots key None ≡ Some x → cell_at (cells_of slots) key ≡ Some x.placed
@@ -32,12 +29,12 @@ pub cell-held : (slots : List (Option Linked)) (key : ℕ) → is_some (cell_at 
 cell-held slots key e = sym (parts-held object_in slots key) ∙ e
 
 -- an object changed that keeps its links
-pub changes-written : (s : Slab Linked) (key : ℕ) (x y : Linked) (change : Placed → Placed) → get s key ≡ Some x → y.placed ≡ change x.placed → y.links ≡ x.links →
+pub changes-written : (s : Slab Linked) (key : ℕ) (x y : Linked) (change : Placed → Placed) → get s key ≡ Some x → y.placed ≡ change x.placed → ((t : Thread) → link_of t y ≡ link_of t x) →
     Changes s (record s { slots = set s.slots key (Some y) }) key change
 changes-written s key x y change at e links = record {
   cells = parts-set object_in s.slots key (Some y)
       ∙ (ap (λ c. set (cells_of s.slots) key (Some c)) e ∙ ap (λ o. set (cells_of s.slots) key (option_map change o)) (sym (cell-read s.slots key x at)));
-  links = λ t. slot_at-kept (link_in t) s.slots key y x at (ap (λ (f : Thread → Option Link). f t) links);
+  links = λ t. slot_at-kept (link_of t) s.slots key y x at (links t);
   capacity = refl;
 }
 
@@ -54,13 +51,13 @@ beside-same t old new cells links capacity = λ i. record { cells = cells i; oth
     go u true e = refl
     go u false e = links u e
 
-pub relinks-written : (s : Slab Linked) (t : Thread) (key : ℕ) (x y : Linked) (link : Option Link) → get s key ≡ Some x → y.placed ≡ x.placed → y.links t ≡ link →
-    ((u : Thread) → same_thread t u ≡ false → y.links u ≡ x.links u) → Relinks t key link s (record s { slots = set s.slots key (Some y) })
+pub relinks-written : (s : Slab Linked) (t : Thread) (key : ℕ) (x y : Linked) (link : Option Link) → get s key ≡ Some x → y.placed ≡ x.placed → link_of t y ≡ link →
+    ((u : Thread) → same_thread t u ≡ false → link_of u y ≡ link_of u x) → Relinks t key link s (record s { slots = set s.slots key (Some y) })
 relinks-written s t key x y link at placed here others = record {
-  links = slot_at-set (link_in t) s.slots key y (slot_at-live (link_in t) s.slots key (ap (λ o. is_some (option_map (link_in t) o)) at))
+  links = slot_at-set (link_of t) s.slots key y (slot_at-live (link_of t) s.slots key (ap (λ o. is_some (option_map (link_of t) o)) at))
       ∙ ap (with_link (links_in t s.slots) key) here;
   rest = beside-same t s (record s { slots = set s.slots key (Some y) }) (parts-kept object_in s.slots key y x at placed)
-      (λ u other. slot_at-kept (link_in u) s.slots key y x at (others u other)) refl;
+      (λ u other. slot_at-kept (link_of u) s.slots key y x at (others u other)) refl;
 }
 
 -- the links of the other lists stay

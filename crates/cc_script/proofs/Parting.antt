@@ -17,7 +17,7 @@ use Rattle.cc_script.specs.declared.links.Walking.{Walking}
 use Rattle.cc_script.specs.declared.parts.ScriptParts.{ScriptParts}
 use Rattle.cc_script.specs.Lists.{taken_out, with_walk}
 use Rattle.cc_script.specs.Threads.{of_order, of_waiting, of_walk}
-use Rattle.cc_script.specs.Cells.{Linked, Beside, beside, cells_of, links_in}
+use Rattle.cc_script.specs.Cells.{Linked, Beside, beside, cells_of, link_of, links_in}
 use Rattle.cc_script.specs.Parts.{lists_of, marking_of, walk_in, IsChained}
 use Rattle.cc_script.proofs.Chained.{AreLists, are-lists}
 
@@ -35,13 +35,13 @@ module _ (p : ScriptParts) (h : IsChained p) (key : ℕ) (first : Slab Linked) (
   lists-parted idle mid order unlinked rest cells x at slots updates =
       are-lists (record p { cells = cells; order = order; walk = walk }) (taken_out (with_walk (lists_of p) key Out) key) (marking_of p).waiting (without_member key (walk_in p))
       (ap cells_of slots ∙ (parts-set (λ (c : Linked). c.placed) mid.slots key None ∙ ap (λ cs. set cs key None) (ap (λ (b : Beside). b.cells) rest ∙ ap (λ (b : Beside). b.cells) kept)))
-      (chain-left (λ (c : Linked). c.links of_order) mid.slots cells.slots order (without ◌==◌ key (lists_of p).order) unlinked
+      (chain-left (link_of of_order) mid.slots cells.slots order (without ◌==◌ key (lists_of p).order) unlinked
       key x (without-leaves key (lists_of p).order) at updates.changed updates.others)
-      (chain-left (λ (c : Linked). c.links of_waiting) mid.slots cells.slots p.waiting (marking_of p).waiting
+      (chain-left (link_of of_waiting) mid.slots cells.slots p.waiting (marking_of p).waiting
       (subst (λ links. IsChain links p.waiting (marking_of p).waiting) (sym (ap (λ (b : Beside). b.others of_waiting) rest ∙ ap (λ (b : Beside). b.others of_waiting) kept)) h.waiting)
       key x (λ m. subst (Among key) idle m) at updates.changed updates.others)
       (record {
-        chain = chain-left (λ (c : Linked). c.links of_walk) mid.slots cells.slots walk.chain (members (without_member key (walk_in p)))
+        chain = chain-left (link_of of_walk) mid.slots cells.slots walk.chain (members (without_member key (walk_in p)))
             (subst (λ links. IsChain links walk.chain (members (without_member key (walk_in p)))) (sym (ap (λ (b : Beside). b.others of_walk) rest)) left.chain)
             key x (λ m. (member-left key (walk_in p) key m).1 refl) at updates.changed updates.others;
         next = left.next;

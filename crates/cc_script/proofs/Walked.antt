@@ -22,7 +22,7 @@ use Rattle.cc_script.specs.Objects.{Object, change_object, is_below, places_of, 
 use Rattle.cc_script.specs.ColourOrder.{HasColourOrder}
 use Rattle.cc_script.specs.Lists.{Placed, Lists, cell_at, shown_at, objects_of, with_walk, IsPlaced}
 use Rattle.cc_script.specs.Threads.{of_walk}
-use Rattle.cc_script.specs.Cells.{Linked, links_in}
+use Rattle.cc_script.specs.Cells.{link_of, links_in}
 use Rattle.cc_script.specs.Parts.{lists_of, walk_in, IsChained}
 use Rattle.cc_script.proofs.Keys.{object_at-map, changed_at, changed_at-key}
 use Rattle.cc_script.proofs.Linking.{cell-read}
@@ -81,7 +81,7 @@ pub member-cell : (p : ScriptParts) → IsChained p → (key : ℕ) → Among ke
 member-cell p h key m =
     let slot = slice_index_or p.cells.slots key None in
     let live = chain-live (links_in of_walk p.cells.slots) p.walk.chain (members (walk_in p)) h.walk.chain key m in
-    let z = is_some-found slot (sym (is_some-map (λ (c : Linked). c.links of_walk) slot) ∙ live) in
+    let z = is_some-found slot (sym (is_some-map (link_of of_walk) slot) ∙ live) in
     (z.0.placed, cell-read p.cells.slots key z.0 z.1)
 
 -- there are fewer once the first has left

@@ -15,7 +15,13 @@ use Rattle.cc_script.specs.Threads.{Thread, same_thread, threaded}
 
 pub record Linked : Type 0 where
   pub placed : Placed
-  pub links : Thread → Option Link
+  pub order : Option Link
+  pub waiting : Option Link
+  pub walk : Option Link
+
+-- its links, by list
+abbrev pub link_of : Thread → Linked → Option Link
+link_of t c = threaded c.order c.waiting c.walk t
 
 -- what stands in the slab, and what a walk looks at, which stands apart
 pub record Label : Type 0 where
@@ -45,7 +51,9 @@ filled content label = record {
     slots = content.slots;
     colour = White;
   };
-  links = threaded label.order content.waiting label.walk;
+  order = label.order;
+  waiting = content.waiting;
+  walk = label.walk;
 }
 
 abbrev pub in_colour : Colour → Linked → Linked
@@ -76,7 +84,7 @@ cells_of slots = map (option_map (λ c. c.placed)) slots
 
 -- the links of a list
 abbrev pub links_in : Thread → List (Option Linked) → Links
-links_in t slots = slot_at (λ c. c.links t) slots
+links_in t slots = slot_at (link_of t) slots
 
 abbrev pub no_links : Links
 no_links key = None

@@ -66,5 +66,5 @@ returns c =
           (changes-bare f colours c.args.key.0 b d (written c.args.i x) (read-filled s contents c.args.key.0 there.0 there.1)
           (ap (λ ys. (in_colour colour (filled (content ys) there.0)).placed) (map-set held_key c.body.inside.slots.items c.args.i c.args.item)
           ∙ ap (λ (w : Content). written c.args.i x (in_colour colour (filled w there.0)).placed) seen)
-          (ap (λ (w : Content). threaded there.0.order w.waiting there.0.walk) seen)));
+          (λ t. ap (λ (w : Content). threaded there.0.order w.waiting there.0.walk t) seen)));
     }

@@ -4,7 +4,7 @@ use Rattle.cc_chain.proofs.Slots.{absent-free, held-live}
 use Rattle.cc_script.specs.Objects.{Object, object_at, is_below, raised}
 use Rattle.cc_script.specs.Lists.{Placed, with_key, objects_of, IsPlaced}
 use Rattle.cc_script.specs.Threads.{of_waiting}
-use Rattle.cc_script.specs.Cells.{Linked, cells_of, links_in}
+use Rattle.cc_script.specs.Cells.{cells_of, link_of, links_in}
 use Rattle.cc_script.specs.Marking.{Marking, is_lower, AreRaised}
 use Rattle.cc_script.specs.Parts.{lists_of, shows, marking_of}
 use Rattle.cc_script.proofs.Places.{object_at-placed, live-cell, live-some}
@@ -27,7 +27,9 @@ pub paint-requires : goal.paint-requires
 paint-requires c = record { live = live-some (lists_of c.args.self.now) c.requires.under_way.placed c.args.key.0 c.requires.live }
 
 pub push_back-requires-clause-chain : goal.push_back-requires-clause-chain
-push_back-requires-clause-chain c = grind (arith, waiting-kept)
+push_back-requires-clause-chain c =
+    let p = c.args.self.now in
+    ((marking_of p).waiting, waiting-kept p c.requires.under_way.chained c.paint.new.self c.paint.ensures.changes.links)
 
 pub push_back-requires-clause-free : goal.push_back-requires-clause-free
 push_back-requires-clause-free c =
@@ -38,7 +40,7 @@ push_back-requires-clause-free c =
     ap (λ colour. is_below colour c.args.to) (some-same (sym (ap (option_map (λ (z : Placed). z.colour)) f.1) ∙ c.colour.ensures)) ∙ (sym c.is_below.ensures ∙ c.if-is_below.true) in
     let lower : is_lower c.args.to (object_at (shows p) c.args.key.0) ≡ true =
     ap (is_lower c.args.to) (object_at-placed (lists_of p) c.requires.under_way.placed c.args.key.0 f.0 f.1) ∙ below in
-    let live = held-live (λ (z : Linked). z.links of_waiting) p.cells.slots c.args.key.0
+    let live = held-live (link_of of_waiting) p.cells.slots c.args.key.0
     (cell-held p.cells.slots c.args.key.0 (live-some (lists_of p) c.requires.under_way.placed c.args.key.0 c.requires.live)) in
     absent-free (links_in of_waiting c.paint.new.self.slots) p.waiting (marking_of p).waiting
     (waiting-kept p c.requires.under_way.chained c.paint.new.self changes.links) c.args.key.0

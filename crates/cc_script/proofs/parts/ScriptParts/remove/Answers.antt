@@ -5,7 +5,7 @@ use Rattle.cc_chain.proofs.Slots.{among-linked, held-live}
 use Rattle.cc_script.specs.ColourOrder.{HasColourOrder}
 use Rattle.cc_script.specs.Lists.{cell_at, objects_of, with_walk, IsPlaced}
 use Rattle.cc_script.specs.Threads.{of_order, of_walk}
-use Rattle.cc_script.specs.Cells.{Beside, Linked, links_in}
+use Rattle.cc_script.specs.Cells.{Beside, link_of, links_in}
 use Rattle.cc_script.specs.Parts.{lists_of, shows, walk_in}
 use Rattle.cc_script.proofs.Places.{live-cell, live-some}
 use Rattle.cc_script.proofs.Keys.{coloured-there}
@@ -22,7 +22,7 @@ leave-requires-clause-walk c = (walk_in c.args.self.now, c.requires.at_rest.chai
 pub leave-requires-clause-live : goal.leave-requires-clause-live
 leave-requires-clause-live c =
     let p = c.args.self.now in
-    held-live (λ (z : Linked). z.links of_walk) p.cells.slots c.args.key.0
+    held-live (link_of of_walk) p.cells.slots c.args.key.0
     (cell-held p.cells.slots c.args.key.0 (live-some (lists_of p) c.requires.at_rest.placed c.args.key.0 (coloured-there (shows p) c.args.key.0 _ c.requires.white)))
 
 pub unlink_at-requires-clause-chain : goal.unlink_at-requires-clause-chain

@@ -6,7 +6,7 @@ use Rattle.cc_script.specs.Objects.{entering}
 use Rattle.cc_script.specs.ColourOrder.{HasColourOrder}
 use Rattle.cc_script.specs.Lists.{objects_of, IsPlaced}
 use Rattle.cc_script.specs.Threads.{of_walk}
-use Rattle.cc_script.specs.Cells.{Linked}
+use Rattle.cc_script.specs.Cells.{link_of}
 use Rattle.cc_script.specs.Parts.{lists_of, shows, walk_in}
 use Rattle.cc_script.proofs.Places.{live-some}
 use Rattle.cc_script.proofs.Linking.{cell-held}
@@ -20,7 +20,7 @@ add-requires-clause-walk c = (walk_in c.args.self.now, c.requires.at_rest.chaine
 pub add-requires-clause-live : goal.add-requires-clause-live
 add-requires-clause-live c =
     let p = c.args.self.now in
-    held-live (λ (z : Linked). z.links of_walk) p.cells.slots c.args.key.0
+    held-live (link_of of_walk) p.cells.slots c.args.key.0
     (cell-held p.cells.slots c.args.key.0 (live-some (lists_of p) c.requires.at_rest.placed c.args.key.0 c.requires.live))
 
 pub returns-clause-shows : goal.returns-clause-shows

@@ -3,7 +3,7 @@ use Rattle.cc_chain.proofs.Slots.{held-live}
 use Rattle.cc_walk.specs.Walks.{is_walked}
 use Rattle.cc_walk.proofs.Sets.{walked-member}
 use Rattle.cc_script.specs.Threads.{of_walk}
-use Rattle.cc_script.specs.Cells.{Linked}
+use Rattle.cc_script.specs.Cells.{link_of}
 use Rattle.cc_script.specs.Parts.{lists_of, walk_in}
 use Rattle.cc_script.proofs.Places.{live-cell, live-some, walked_at-cell}
 use Rattle.cc_script.proofs.Linking.{cell-held}
@@ -12,7 +12,7 @@ use Rattle.cc_script.proofs.parts.ScriptParts.walked.Goals as goal
 pub holds-requires : goal.holds-requires
 holds-requires c =
     let p = c.args.self.now in
-    held-live (λ (z : Linked). z.links of_walk) p.cells.slots c.args.key.0
+    held-live (link_of of_walk) p.cells.slots c.args.key.0
     (cell-held p.cells.slots c.args.key.0 (live-some (lists_of p) c.requires.at_rest.placed c.args.key.0 c.requires.live))
 
 pub returns : goal.returns
