@@ -25,3 +25,14 @@ pub enum Colour {
     /// Marked from the script registers, or touched since: alive.
     Black,
 }
+
+/// Where an object stands in a walk over both heaps.
+#[derive(Clone, Copy, Debug, PartialEq, Eq, Drop)]
+pub enum Walked {
+    /// It is not in the set.
+    Out,
+    /// It is in the set, and was not given yet.
+    Waiting,
+    /// It is in the set, and was given.
+    Given,
+}

@@ -18,7 +18,7 @@ mod number;
 mod register;
 mod sizes;
 
-pub use kind::{Colour, Kind};
+pub use kind::{Colour, Kind, Walked};
 pub use limits::Limits;
 pub use line::LineBuf;
 pub use name::{Name, write_name};
