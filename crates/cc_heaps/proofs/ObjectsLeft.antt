@@ -16,7 +16,7 @@ use Rattle.cc_names.specs.declared.number.SKey.{SKey}
 use Rattle.cc_names.specs.Names.{object, same_name}
 use Rattle.cc_names.proofs.NameTests.{same_name-refl, same_name-exact}
 use Rattle.cc_model.specs.Slots.{contents}
-use Rattle.cc_model.specs.Heap.{HeapNative, HeapScript}
+use Rattle.cc_model.specs.Heap.{HeapNative}
 use Rattle.cc_model.specs.Sweep.{unmarked}
 use Rattle.cc_laws_heap.specs.Marks.{Stays, AreMarksClosed}
 use Rattle.cc_laws_heap.proofs.Face.{is_spared, stays-native_slot, stays-place}

@@ -1,6 +1,6 @@
 -- HEAPS GO ON STANDING FOR THE SAME GRAPHS, and the colours stay as they should be: where something changes that no graph
 -- sees, where references are taken and given up, and where what no register reaches is unlinked.
-use Rattle.std.proofs.Common.{arith, ◌≡◌, ℕ, Bool, List, [], ◌∷◌, Option, Some, None, sym, subst, inl, IsSome, MatchOption}
+use Rattle.std.proofs.Common.{arith, ◌≡◌, ℕ, Bool, List, [], ◌∷◌, Option, Some, None, refl, sym, subst, inl, IsSome, MatchOption}
 use Rattle.cc_lists.specs.Members.{Among}
 use Rattle.cc_names.specs.declared.name.Name.{Name}
 use Rattle.cc_names.specs.declared.number.NKey.{NKey}
