@@ -13,8 +13,7 @@ use Rattle.cc_names.specs.Sizes.{most_slots}
 use Rattle.cc_model.specs.declared.item.Event.TheVariants.{Freed}
 use Rattle.cc_model.specs.Telling.{Telling, TellsEvents}
 use Rattle.cc_model.specs.Counts.{times}
-use Rattle.cc_model.specs.Slots.{empty_slots}
-use Rattle.cc_model.specs.Heap.{Heap, HeapNative, native_at, register, set_register, set_slot, with_native_slot, new_native, native_to_make}
+use Rattle.cc_model.specs.Heap.{Heap, HeapNative, native_at, register, set_register, set_slot, with_native_slot, native_to_make}
 use Rattle.cc_model.specs.Cascade.{take_up, let_go, cascade}
 use Rattle.cc_model.specs.End.{slots_now}
 use Rattle.cc_model.specs.Effects.{hold_native, make_native, with_native}

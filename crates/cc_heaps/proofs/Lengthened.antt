@@ -1,5 +1,5 @@
 -- A BANK LENGTHENED, and what follows for a change that comes after it: the registers that came are empty, so all else is as it was.
-use Rattle.std.proofs.Common.{◌≡◌, ℕ, ◌+◌, ◌-◌, ◌<◌, ◌≤◌, List, ◌++◌, map, length, replicate, take, Option, Some, None, refl, sym, ◌∙◌, ap, subst, inl, inr, ⊎_elim, arith, if◌then◌else◌}
+use Rattle.std.proofs.Common.{◌≡◌, ℕ, ◌+◌, ◌-◌, ◌<◌, ◌≤◌, List, [], ◌++◌, map, length, replicate, take, Option, Some, None, refl, sym, ◌∙◌, ap, subst, inl, inr, ⊎_elim, arith, if◌then◌else◌}
 use Rattle.std.specs.Prelude.{Result, Ok, Err, OnOk, OnErr, is_ok}
 use Rattle.std.specs.Global.{Vec}
 use Rattle.std.proofs.lemmas.List.{append-nil, length-append, length-map, length-replicate, map-append, take_all}
@@ -25,7 +25,8 @@ use Rattle.cc_model.specs.StandsFor.{StandsFor}
 use Rattle.cc_model.specs.Colours.{HasColourInvariant}
 use Rattle.cc_model.specs.Fresh.{IsFresh}
 use Rattle.cc_model.specs.Suspected.{IsSuspected}
-use Rattle.cc_model.specs.Telling.{Telling}
+use Rattle.cc_model.specs.Telling.{Telling, TellsEvents}
+use Rattle.cc_model.proofs.Tellings.{Tells-nil}
 use Rattle.cc_laws_heap.proofs.Face.{length-lengthened, lengthen-sound, lengthen-stands, lengthen-well, script_names-exposed, view-lengthen}
 use Rattle.cc_laws_snapshot.proofs.Face.{lengthen-fresh, lengthen-suspected}
 use Rattle.cc_script.specs.Objects.{name_at}
@@ -139,6 +140,11 @@ native_names-exposed h (Some x) = refl
 pub held-left : (h : Heap) (d : ℕ) (x : Option Name) → IsWellFormed h → NothingLeft h (hold_script h d x)
 held-left h d x w y i = subst (Among y)
     (ap (λ xs. native_names h ++ xs) (sym (script_names-exposed h x w)) ∙ ap (λ xs. xs ++ script_names (exposed h x)) (sym (native_names-exposed h x))) i
+
+-- and tells nothing
+pub silent-told : {T E : Type 0} (r : Result T E) (t : Telling) → OnOk r (TellsEvents t t [])
+silent-told (Ok x) t = Tells-nil t
+silent-told (Err e) t = tt
 
 -- The fields
 

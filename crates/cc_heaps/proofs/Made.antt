@@ -13,7 +13,7 @@ use Rattle.cc_names.specs.declared.name.Name.{Name}
 use Rattle.cc_names.specs.declared.number.NKey.{NKey}
 use Rattle.cc_names.specs.Names.{native, reflector}
 use Rattle.cc_names.specs.Sizes.{most_slots}
-use Rattle.cc_model.specs.Slots.{contents, empty_slots}
+use Rattle.cc_model.specs.Slots.{contents}
 use Rattle.cc_model.specs.Heap.{Heap, HeapNative, with_mark, new_native}
 use Rattle.cc_model.specs.Effects.{put_in_register, with_native, make_native}
 use Rattle.cc_laws_heap.proofs.Face.{contents-empty_none, named-member}

@@ -118,7 +118,7 @@ impl Heaps {
     /// the bank's end the bank is lengthened up to it: a register takes 8 bytes.
     ///
     /// What the place held is given up as by `set_native_reg`, and what comes into a script register is exposed as by
-    /// `set_script_reg`. `NoMemory` changes nothing, and never comes where the place is not beyond the end.
+    /// `set_script_reg`. `NoMemory` changes nothing.
     pub fn root_at<N: Notices>(
         &mut self,
         place: RegNo,

@@ -1,6 +1,9 @@
-use Rattle.std.proofs.Common.{sym, arith}
+use Rattle.std.proofs.Common.{arith}
 use Rattle.std.proofs.lemmas.List.{length-map}
+use Rattle.cc_heaps.specs.Named.{named}
 use Rattle.cc_heaps.proofs.heaps.Heaps.native_reg_count.Goals as goal
 
 pub returns : goal.returns
-returns c = rw (← c.self.view_is) (sym (length-map c.self.inside.native_registers.items _))
+returns c =
+    let p = c.self.inside in
+    rw (← c.self.view_is) (omega (arith, c.len.ensures, p.native_registers.ok.0, length-map p.native_registers.items (named p.counted.keys)))

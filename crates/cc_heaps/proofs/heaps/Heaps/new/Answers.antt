@@ -1,4 +1,4 @@
-use Rattle.std.proofs.Common.{◌≡◌, ◌==◌, ◌≤◌, ℕ, false, List, [], map, count_by, replicate, Option, None, refl, sym, ◌∙◌, ap, subst, arith, rules}
+use Rattle.std.proofs.Common.{◌≡◌, ◌==◌, ◌≤◌, ℕ, false, List, [], count_by, replicate, Option, None, refl, sym, ◌∙◌, ap, subst, arith, rules}
 use Rattle.std.specs.Global.{Vec}
 use Rattle.cc_lists.specs.Members.{Among}
 use Rattle.cc_names.specs.Allowance.{Allowance}
@@ -14,8 +14,8 @@ use Rattle.cc_counted.specs.Counts.{Counts, no_counts}
 use Rattle.cc_script.specs.Objects.{Object}
 use Rattle.cc_weakmaps.specs.Entries.{KeyedEntry}
 use Rattle.cc_heaps.specs.declared.heaps.Heaps.TheInside.{Inside}
-use Rattle.cc_heaps.specs.Keyed.{Keyed, IsInOrder, named_entry, named_object, reflectors_by}
-use Rattle.cc_heaps.specs.Named.{named, named_native, script_named, IsLive, IsScriptLive}
+use Rattle.cc_heaps.specs.Keyed.{Keyed, IsInOrder, reflectors_by}
+use Rattle.cc_heaps.specs.Named.{named, script_named, IsLive, IsScriptLive}
 use Rattle.cc_heaps.specs.Fields.{keyed_of, IsLinked}
 use Rattle.cc_heaps.proofs.Keying.{AreHeldThere}
 use Rattle.cc_heaps.proofs.Registers.{none-length, none-mapped, none-each}

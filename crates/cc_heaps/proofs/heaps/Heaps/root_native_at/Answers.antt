@@ -1,21 +1,18 @@
 use Rattle.std.proofs.Common.{◌≡◌, ℕ, ◌+◌, ◌<◌, ◌≤◌, length, sym, ◌∙◌, ap, subst, arith}
 use Rattle.cc_lists.specs.Members.{Among}
-use Rattle.cc_names.specs.declared.name.Name.{Name}
 use Rattle.cc_names.specs.declared.register.Reg.TheVariants.{N}
 use Rattle.cc_names.specs.Sizes.{most_roots}
 use Rattle.cc_model.specs.Banks.{of_natives}
 use Rattle.cc_model.specs.Graph as graph
 use Rattle.cc_model.specs.Telling.{TellsEvents}
 use Rattle.cc_model.specs.Effects.{hold_native}
-use Rattle.cc_model.specs.Heap.{lengthen}
 use Rattle.cc_model.specs.WellFormed.{names_there}
-use Rattle.cc_heaps.specs.Keyed.{Keyed, changed_to}
+use Rattle.cc_heaps.specs.Keyed.{Keyed}
 use Rattle.cc_heaps.specs.Changes.{IsNativeThere, native_name}
 use Rattle.cc_heaps.specs.Standing.{IsReached, StandsAfter}
 use Rattle.cc_heaps.proofs.Kept.{KeepsAll-same}
 use Rattle.cc_heaps.proofs.Leaving.{nothing-told}
 use Rattle.cc_heaps.proofs.Lengthened.{has-place, kept-longer, order-longer, reached-longer, stands-longer, tells-longer}
-use Rattle.cc_heaps.proofs.heaps.Heaps.root_native_at.Given as given
 use Rattle.cc_heaps.proofs.heaps.Heaps.root_native_at.Goals as goal
 
 -- a bank may be as long

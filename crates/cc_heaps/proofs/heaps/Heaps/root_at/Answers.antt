@@ -1,0 +1,13 @@
+use Rattle.cc_heaps.proofs.Leaving.{nothing-told}
+use Rattle.cc_heaps.proofs.Lengthened.{silent-told}
+use Rattle.cc_heaps.proofs.heaps.Heaps.root_at.Goals as goal
+
+pub root_script_at-requires-clause-order : goal.root_script_at-requires-clause-order
+root_script_at-requires-clause-order g c = (c.requires.order.0, c.requires.order.1)
+
+pub returns-in-Script-clause-told : goal.returns-in-Script-clause-told
+returns-in-Script-clause-told g c = rw c.in-Script.is (silent-told c.root_script_at.result (g.N.Notices.telling c.args.out.now))
+
+pub returns-in-Script-clause-tells : goal.returns-in-Script-clause-tells
+returns-in-Script-clause-tells g c =
+    nothing-told c.args.self.now.heap c.root_script_at.new.self.heap (g.N.Notices.telling c.args.out.now) c.root_script_at.ensures.left
