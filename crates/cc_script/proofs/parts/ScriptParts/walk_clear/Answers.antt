@@ -1,7 +1,6 @@
-use Rattle.std.proofs.Common.{◌≡◌, ◌<◌, None, is_some, false, length, refl, ap, sym, subst, ◌∙◌, arith}
+use Rattle.std.proofs.Common.{◌≡◌, ◌<◌, None, is_some, length, refl, ap, sym, subst, ◌∙◌}
 use Rattle.cc_lists.specs.Walks.{first_of}
-use Rattle.cc_lists.proofs.Held.{is_some-map}
-use Rattle.cc_walk.specs.Walks.{Walk, members, no_walk, nowhere, states_of, without_first}
+use Rattle.cc_walk.specs.Walks.{Walk, members, nowhere, states_of, without_first}
 use Rattle.cc_walk.proofs.Sets.{no_members}
 use Rattle.cc_names.specs.declared.kind.Walked.TheVariants.{Out}
 use Rattle.cc_script.specs.Objects.{with_walked}
