@@ -93,4 +93,4 @@ fewer-left w some =
     (length-filter-less (λ k. not (k == f.0)) (members w) f.0 (first-among (members w) f.0 f.1) (ap not (eq-eqb f.0 f.0 refl))))
   where
     first : (key : ℕ) → first_of (members w) ≡ Some key → without_first w ≡ without_member key w
-    first key e = rw e refl
+    first key e = rw (e, without_first) refl

@@ -1,4 +1,4 @@
-use Rattle.std.proofs.Common.{◌≡◌, ℕ, List, [], ◌∷◌, ◌++◌, Some, option_map, true, false, ap, sym, subst, ◌∙◌, arith}
+use Rattle.std.proofs.Common.{◌≡◌, ℕ, List, [], ◌∷◌, ◌++◌, Some, option_map, true, false, ap, sym, subst, ◌∙◌}
 use Rattle.cc_chain.specs.Links.{is_live}
 use Rattle.cc_chain.proofs.Slots.{absent-free, held-live}
 use Rattle.cc_script.specs.Objects.{Object, object_at, is_below, raised}

@@ -1,7 +1,6 @@
-use Rattle.std.proofs.Common.{◌≡◌, ◌<◌, None, is_some, false, length, refl, ap, sym, subst, ◌∙◌, arith}
+use Rattle.std.proofs.Common.{◌≡◌, ◌<◌, None, is_some, length, refl, ap, sym, subst, ◌∙◌}
 use Rattle.cc_lists.specs.Walks.{first_of}
-use Rattle.cc_lists.proofs.Held.{is_some-map}
-use Rattle.cc_walk.specs.Walks.{Walk, members, no_walk, nowhere, states_of, without_first}
+use Rattle.cc_walk.specs.Walks.{Walk, members, nowhere, states_of, without_first}
 use Rattle.cc_walk.proofs.Sets.{no_members}
 use Rattle.cc_names.specs.declared.kind.Walked.TheVariants.{Out}
 use Rattle.cc_script.specs.Objects.{with_walked}
@@ -18,55 +17,55 @@ abbrev unseen : Lists → Lists
 unseen l = record l { walks = nowhere }
 
 pub take_first-requires : goal.take_first-requires
-take_first-requires c = (walk_in c.loop-self.self, c.loop-self.invariant.chained.walk)
+take_first-requires c = (walk_in c.loop.self, c.loop.invariant.chained.walk)
 
-pub loop-self-init : goal.loop-self-init
-loop-self-init c = record { chained = c.requires.at_rest.chained; lists = refl; waits = refl }
+pub loop-init : goal.loop-init
+loop-init c = record { chained = c.requires.at_rest.chained; lists = refl; waits = refl }
 
-pub loop-self-smaller : goal.loop-self-smaller
-loop-self-smaller c =
-    let p = c.loop-self.self in
+pub loop-smaller : goal.loop-smaller
+loop-smaller c =
+    let p = c.loop.self in
     let w = walk_in p in
-    let walk = c.take_first.ensures.walk w c.loop-self.invariant.chained.walk in
-    let some = ap is_some (sym (c.take_first.ensures.first w c.loop-self.invariant.chained.walk)) ∙ sym c.loop-self-test.ensures in
+    let walk = c.take_first.ensures.walk w c.loop.invariant.chained.walk in
+    let some = ap is_some (sym (c.take_first.ensures.first w c.loop.invariant.chained.walk)) ∙ sym c.loop-test.ensures in
     subst (λ (v : Walk). length (members v) < length (members w)) (sym (walk-is (record p { cells = c.take_first.new.store; walk = c.take_first.new.self }) (without_first w) walk)) (fewer-left w some)
 
-pub loop-self-preserved : goal.loop-self-preserved
-loop-self-preserved c =
-    let p = c.loop-self.self in
+pub loop-preserved : goal.loop-preserved
+loop-preserved c =
+    let p = c.loop.self in
     let w = walk_in p in
-    let h = c.loop-self.invariant.chained in
+    let h = c.loop.invariant.chained in
     let a = lists-walked p h c.take_first.new.store c.take_first.new.self (without_first w) (c.take_first.ensures.walk w h.walk) c.take_first.ensures.rest in
     record {
       chained = a.chained;
-      lists = ap unseen a.lists ∙ c.loop-self.invariant.lists;
-      waits = a.waits ∙ c.loop-self.invariant.waits;
+      lists = ap unseen a.lists ∙ c.loop.invariant.lists;
+      waits = a.waits ∙ c.loop.invariant.waits;
     }
 
 pub returns-clause-shows : goal.returns-clause-shows
 returns-clause-shows c =
-    let p = c.loop-self.self in
+    let p = c.loop.self in
     let w = walk_in p in
-    let h = c.loop-self.invariant.chained in
+    let h = c.loop.invariant.chained in
     let a = lists-walked p h c.take_first.new.store c.take_first.new.self (without_first w) (c.take_first.ensures.walk w h.walk) c.take_first.ensures.rest in
-    let none : first_of (members w) ≡ None = ap first_of (none-first (members w) (ap is_some (sym (c.take_first.ensures.first w h.walk)) ∙ sym c.loop-self-test.ensures)) in
+    let none : first_of (members w) ≡ None = ap first_of (none-first (members w) (ap is_some (sym (c.take_first.ensures.first w h.walk)) ∙ sym c.loop-test.ensures)) in
     ap objects_of a.lists
     ∙ (ap (λ (v : Walk). objects_of (record (lists_of p) { walks = states_of (without_first v) })) (no_members w none)
-    ∙ (ap objects_of c.loop-self.invariant.lists
+    ∙ (ap objects_of c.loop.invariant.lists
     ∙ objects-unwalked (lists_of c.args.self.now)))
 
 pub returns-clause-at_rest : goal.returns-clause-at_rest
 returns-clause-at_rest c =
-    let p = c.loop-self.self in
+    let p = c.loop.self in
     let w = walk_in p in
-    let h = c.loop-self.invariant.chained in
+    let h = c.loop.invariant.chained in
     let a = lists-walked p h c.take_first.new.store c.take_first.new.self (without_first w) (c.take_first.ensures.walk w h.walk) c.take_first.ensures.rest in
     let old = lists_of c.args.self.now in
-    let unwalked = subst IsPlaced (sym c.loop-self.invariant.lists) (IsPlaced-walked old nowhere c.requires.at_rest.placed) in
+    let unwalked = subst IsPlaced (sym c.loop.invariant.lists) (IsPlaced-walked old nowhere c.requires.at_rest.placed) in
     record {
       placed = subst IsPlaced (sym a.lists) (IsPlaced-walked (unseen (lists_of p)) (states_of (without_first w)) unwalked);
       chained = a.chained;
       coloured = subst HasColourOrder (sym (returns-clause-shows c))
           (HasColourOrder-mapped (with_walked Out) (λ o. refl) (λ o. refl) (λ o. refl) (shows c.args.self.now) c.requires.at_rest.coloured);
-      emptied = a.waits ∙ (c.loop-self.invariant.waits ∙ c.requires.at_rest.emptied);
+      emptied = a.waits ∙ (c.loop.invariant.waits ∙ c.requires.at_rest.emptied);
     }

@@ -6,7 +6,7 @@ use Rattle.cc_names.specs.declared.kind.Walked.TheVariants.{Given}
 use Rattle.cc_walk.specs.Walks.{Walk, Walks, gone_on, states_of}
 use Rattle.cc_walk.proofs.Sets.{gone_on-none, states-first, states-gone_on, states-none}
 use Rattle.cc_walk.proofs.WalkLists.{first-waits}
-use Rattle.cc_script.specs.Objects.{Object, with_walked}
+use Rattle.cc_script.specs.Objects.{Object, NoObjectWaits, with_walked}
 use Rattle.cc_script.specs.ColourOrder.{HasColourOrder}
 use Rattle.cc_script.specs.Lists.{objects_of, shown_at, IsPlaced}
 use Rattle.cc_script.specs.Threads.{of_walk}
@@ -27,10 +27,10 @@ returns-in_err-key-clause-none c =
     let h = c.requires.at_rest.chained in
     let w = walk_in p in
     let none : first_of w.waiting ≡ None = sym (c.give.ensures.first w h.walk) ∙ c.in_err-key.was in
-    let a = lists-walked p h p.cells c.give.new.self (gone_on w) (c.give.ensures.walk w h.walk) refl in (
-      λ o m waits. let k = Among-map_cases (shown_at l) l.order o m in states-none w none k.0 (ap (λ (z : Object). z.walked) k.2 ∙ waits),
-      ap objects_of a.lists ∙ ap (λ (v : Walk). objects_of (record l { walks = states_of v })) (gone_on-none w none),
-    )
+    let a = lists-walked p h p.cells c.give.new.self (gone_on w) (c.give.ensures.walk w h.walk) refl in
+    let waits : NoObjectWaits (shows p) = λ o m waiting. let k = Among-map_cases (shown_at l) l.order o m in states-none w none k.0 (ap (λ (z : Object). z.walked) k.2 ∙ waiting) in
+    let same = ap objects_of a.lists ∙ ap (λ (v : Walk). objects_of (record l { walks = states_of v })) (gone_on-none w none) in
+    rw c.from_residual.ensures (waits, same)
 
 pub returns-in_err-key-clause-at_rest : goal.returns-in_err-key-clause-at_rest
 returns-in_err-key-clause-at_rest c =
