@@ -67,7 +67,7 @@ module _ (l : Lists) (p : IsPlaced l) (key : ℕ) (c d : Placed) (at : cell_at l
   -- the lists fit together where the new slots hold what is there, and so do the queue and the buffer
   pub IsPlaced-changed : length d.slots ≤ most_slots → ((x : Option Held) → Among x d.slots → is_live (keyed l.cells) x ≡ true) → (queue : List ℕ) (marks : List Marked) →
       ((k : ℕ) → Among k queue → (b : Placed) × (cell_at l.cells k ≡ Some b)) → ((m : Marked) → Among m marks → (b : Placed) × (cell_at l.cells m.key ≡ Some b)) →
-      IsPlaced (record { cells = changed_cells; order = l.order; queue = queue; marks = marks })
+      IsPlaced (record l { cells = changed_cells; queue = queue; marks = marks })
   IsPlaced-changed few live queue marks q ms = record {
     in_order = λ k m. changed-there k (p.in_order k m);
     ordered = λ k b e. ⊎_elim (λ t. p.ordered k c (ap (cell_at l.cells) t.0 ∙ at)) (λ t. p.ordered k b t) (changed-cases k b e);
@@ -78,6 +78,7 @@ module _ (l : Lists) (p : IsPlaced l) (key : ℕ) (c d : Placed) (at : cell_at l
         (λ t. p.held k b x t m) (changed-cases k b e));
     queued = λ k m. changed-there k (q k m);
     marked = λ m n. changed-there m.key (ms m n);
+    walking = λ k m. changed-there k (p.walking k m);
   }
 
   -- what is shown of the native

@@ -24,3 +24,4 @@ pub mod Emptying
 pub mod Unlinking
 pub mod Scripts
 pub mod Threading
+pub mod Walking

@@ -1,12 +1,14 @@
 -- THE REFLECTOR OF A NATIVE: where it stands and whether it is preserved, as they are written and read.
 use Rattle.std.proofs.Common.{◌≡◌, ◌<◌, ℕ, Bool, List, map, length, get_or, Option, Some, None, option_map, refl, sym, ◌∙◌, ap, subst, arith}
 use Rattle.std.proofs.Math.ListN.{set}
+use Rattle.std.proofs.Math.Path.{fun_ext}
+use Rattle.cc_names.specs.declared.kind.Walked.{Walked}
 use Rattle.std.proofs.lemmas.Bool.Decides.{eqb_tells}
 use Rattle.std.proofs.lemmas.List.{map-set, get_or_push, get_or_append_left}
 use Rattle.cc_lists.proofs.ListWrites.{map-agree}
 use Rattle.cc_model.specs.Heap.{Heap, HeapNative, native_at, set_preserved}
 use Rattle.cc_laws_heap.proofs.Face.{native_at-change_other, native_at-change_same}
-use Rattle.cc_counted.specs.Counts.{Counts, the_number, heap_of, with_heap, key_left, reflectors_left, left_with, with_reflector, preserved_at, preserved_of, preserved_reflector, reflector_at, references_of, slots_of}
+use Rattle.cc_counted.specs.Counts.{Counts, the_number, heap_of, with_heap, key_left, reflectors_left, state_left, left_with, with_reflector, preserved_at, preserved_of, preserved_reflector, reflector_at, references_of, slots_of}
 use Rattle.cc_counted.specs.Lists.{Placed, Lists, cell_at, with_flag, reflected_by, reflector_placed, marked_number, counts_of, IsPlaced}
 use Rattle.cc_counted.proofs.Places.{reflector_at-cells, the_number-cell, native_at-cell}
 use Rattle.cc_counted.proofs.Changing.{keyed-changed, reflectors-changed, IsPlaced-changed, natives-changed, natives-kept}
@@ -20,12 +22,16 @@ flagged on n = record n { preserved = on }
 key_left-flagged : (h : Heap) (k : ℕ) (on : Bool) (o : Option ℕ) → key_left (set_preserved h k on) o ≡ key_left h o
 key_left-flagged h k on o = grind (arith, native_at-change_same, native_at-change_other, eqb_tells)
 
--- so it says nothing of which keys and reflectors are left
+state_left-flagged : (h : Heap) (k : ℕ) (on : Bool) (o : Option ℕ) (state : Walked) → state_left (set_preserved h k on) o state ≡ state_left h o state
+state_left-flagged h k on o state = grind (arith, native_at-change_same, native_at-change_other, eqb_tells)
+
+-- so it says nothing of which keys are left, nor of what stands at them
 pub left-flagged : (c : Counts) (h : Heap) (k : ℕ) (on : Bool) → with_heap (left_with c h) (set_preserved h k on) ≡ left_with c (set_preserved h k on)
-left-flagged c h k on =
-    let flag : Heap = set_preserved h k on in
-    ap (λ ks. record { natives = flag.natives; buffer = flag.buffer; keys = ks; reflectors = reflectors_left ks c.reflectors })
-    (sym (map-agree (key_left flag) (key_left h) c.keys (λ o m. key_left-flagged h k on o)))
+left-flagged c h k on = counts-same _ _ _ _ _ _ _ _ _ _ refl refl keys (ap (λ ks. reflectors_left ks c.reflectors) keys)
+    (fun_ext (λ key. sym (state_left-flagged h k on (get_or c.keys key None) (c.walks key))))
+  where
+    keys : map (key_left h) c.keys ≡ map (key_left (set_preserved h k on)) c.keys
+    keys = sym (map-agree (key_left (set_preserved h k on)) (key_left h) c.keys (λ o m. key_left-flagged h k on o))
 
 module _ (l : Lists) (p : IsPlaced l) (key : ℕ) (c : Placed) (at : cell_at l.cells key ≡ Some c) where
   -- Written
@@ -37,11 +43,11 @@ module _ (l : Lists) (p : IsPlaced l) (key : ℕ) (c : Placed) (at : cell_at l.c
     pub counts-flagged : counts_of (record l { cells = cells }) ≡ with_heap (counts_of l) (set_preserved (heap_of (counts_of l)) (the_number (counts_of l) key) on)
     counts-flagged =
         ap (λ cs. counts_of (record l { cells = cs })) flag-written
-        ∙ (counts-same _ _ _ _ _ _ _ _
+        ∙ (counts-same _ _ _ _ _ _ _ _ _ _
         (natives-changed l p key c (with_flag on c) at refl (flagged on) refl)
         (ap (λ n. map (marked_number n) l.marks) (keyed-changed l p key c (with_flag on c) at refl))
         (ap (λ (n : Counts). n.keys) (keyed-changed l p key c (with_flag on c) at refl))
-        (reflectors-changed l p key c (with_flag on c) at refl refl)
+        (reflectors-changed l p key c (with_flag on c) at refl refl) refl
         ∙ ap (λ k. with_heap (counts_of l) (set_preserved (heap_of (counts_of l)) k on)) (sym (the_number-cell l.cells key c at)))
 
     pub placed-flagged : IsPlaced (record l { cells = cells })

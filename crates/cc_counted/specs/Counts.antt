@@ -9,11 +9,15 @@ use Rattle.cc_names.specs.Places.{where_set, native_places}
 use Rattle.cc_model.specs.Slots.{Slots}
 use Rattle.cc_model.specs.Heap.{Heap, HeapNative, Buffered, Outcome, empty_heap, native_at}
 use Rattle.cc_model.specs.Cascade.{cascade}
+use Rattle.cc_names.specs.declared.kind.Walked.{Walked}
+use Rattle.cc_names.specs.declared.kind.Walked.TheVariants.{Out}
+use Rattle.cc_walk.specs.Walks.{Walks, nowhere}
 use Rattle.cc_counted.specs.declared.held.Held.{Held}
 use Rattle.cc_counted.specs.declared.held.Held.TheVariants as held
 
--- natives by rising number, the buffer in order, at each key the number of the native that stands there, and at each key
--- the key of that native's reflector in the script heap, where it has one.
+-- natives by rising number, the buffer in order, at each key the number of the native that stands there, at each key
+-- the key of that native's reflector in the script heap, where it has one, and how each key stands in a walk: a key that
+-- holds nothing is out of it.
 -- A SCRIPT OBJECT IN A SLOT, which stands at key q of its own heap, is named object q: its key in the place of a number.
 -- This heap knows no other name of it; crates above give it its own name.
 pub record Counts : Type 0 where
@@ -21,9 +25,10 @@ pub record Counts : Type 0 where
   pub buffer : List Buffered
   pub keys : List (Option ℕ)
   pub reflectors : List (Option ℕ)
+  pub walks : Walks
 
 abbrev pub no_counts : Counts
-no_counts = record { natives = []; buffer = []; keys = []; reflectors = [] }
+no_counts = record { natives = []; buffer = []; keys = []; reflectors = []; walks = nowhere }
 
 -- the number of the native at a key
 abbrev pub number_at : Counts → ℕ → Option ℕ
@@ -96,6 +101,14 @@ reflectors_left (k ∷ ks) [] = []
 reflectors_left (None ∷ ks) (r ∷ rs) = None ∷ reflectors_left ks rs
 reflectors_left (Some k ∷ ks) (r ∷ rs) = r ∷ reflectors_left ks rs
 
+-- a native that is no more is in no walk
+abbrev pub state_left : Heap → Option ℕ → Walked → Walked
+state_left h None state = state
+state_left h (Some k) state = if is_some (native_at h k) then state else Out
+
+abbrev pub walks_left : Heap → List (Option ℕ) → Walks → Walks
+walks_left h keys walks key = state_left h (slice_index_or keys key None) (walks key)
+
 -- some natives are no more
 abbrev pub left_with : Counts → Heap → Counts
 left_with c h = record {
@@ -103,11 +116,16 @@ left_with c h = record {
   buffer = h.buffer;
   keys = map (key_left h) c.keys;
   reflectors = reflectors_left (map (key_left h) c.keys) c.reflectors;
+  walks = walks_left h c.keys c.walks;
 }
 
 -- the native at a key has this reflector, or none
 abbrev pub with_reflector : Counts → ℕ → Option ℕ → Counts
 with_reflector c key reflector = record c { reflectors = slice_set c.reflectors key reflector }
+
+-- each key stands so in a walk
+abbrev pub with_walks : Counts → Walks → Counts
+with_walks c walks = record c { walks = walks }
 
 -- after one reference to native k was given up
 abbrev pub released : Counts → ℕ → Outcome

@@ -43,3 +43,4 @@ pub record Makes (old new : Counts) (key number slots : ℕ) : Type 0 where
   pub reflector : reflector_at new key ≡ None
   pub other_reflectors : (q : ℕ) → q ≢ key → reflector_at new q ≡ reflector_at old q
   pub as_many : length new.reflectors ≡ length new.keys
+  pub walks : new.walks ≡ old.walks

@@ -1,0 +1,56 @@
+-- THE WALK of the natives: its keys are those of natives after each call, and what it is by the states of its keys.
+use Rattle.std.proofs.Common.{◌≡◌, ℕ, Option, Some, None, option_map, is_some, IfSome, MatchOption, true, sym, ◌∙◌, ap, ⊎_elim}
+use Rattle.cc_lists.specs.Members.{Among}
+use Rattle.cc_lists.specs.Walks.{first_of}
+use Rattle.cc_lists.proofs.Members.{Among-right}
+use Rattle.cc_lists.proofs.Walks.{first-among}
+use Rattle.cc_names.specs.declared.number.NKey.{NKey}
+use Rattle.cc_names.specs.declared.kind.Walked.TheVariants.{Waiting, Given}
+use Rattle.cc_walk.specs.Walks.{Walk, no_walk, members, with_member, gone_on, with_state, entered, NoneWaits}
+use Rattle.cc_walk.proofs.Sets.{member-came, member-given, states-with_member, states-gone_on, states-first, states-none, gone_on-none}
+use Rattle.cc_counted.specs.Counts.{Counts, number_at, with_walks}
+use Rattle.cc_counted.specs.Lists.{Placed, Lists, cell_at, counts_of, IsPlaced}
+use Rattle.cc_counted.proofs.Places.{number_at-cell}
+
+module _ (l : Lists) (p : IsPlaced l) where
+  -- other keys of natives in the walk
+  placed-walk : (w : Walk) → ((k : ℕ) → Among k (members w) → (c : Placed) × (cell_at l.cells k ≡ Some c)) → IsPlaced (record l { walk = w })
+  placed-walk w there = record {
+    in_order = p.in_order;
+    ordered = p.ordered;
+    rising = p.rising;
+    small = p.small;
+    held = p.held;
+    queued = p.queued;
+    marked = p.marked;
+    walking = there;
+  }
+
+  pub placed-cleared : IsPlaced (record l { walk = no_walk })
+  placed-cleared = placed-walk no_walk (λ k m. absurd m)
+
+  pub placed-entered : (key : ℕ) (c : Placed) → cell_at l.cells key ≡ Some c → IsPlaced (record l { walk = with_member key l.walk })
+  placed-entered key c at = placed-walk (with_member key l.walk)
+      (λ k m. ⊎_elim (λ e. (c, ap (cell_at l.cells) e ∙ at)) (λ t. p.walking k t) (member-came key l.walk k m))
+
+  pub placed-gone_on : IsPlaced (record l { walk = gone_on l.walk })
+  placed-gone_on = placed-walk (gone_on l.walk) (λ k m. p.walking k (member-given l.walk k m))
+
+  -- the first that waits is given
+  pub walked-next : (o : Option NKey) → option_map (λ (k : NKey). k.0) o ≡ first_of l.walk.waiting → IfSome o (λ k. ¬ (Among k.0 l.walk.given)) →
+      (new : Lists) → new ≡ record l { walk = gone_on l.walk } →
+      MatchOption o (NoneWaits (counts_of l).walks × (counts_of new ≡ counts_of l))
+      (λ key. ((counts_of l).walks key.0 ≡ Waiting) × (counts_of new ≡ with_walks (counts_of l) (with_state (counts_of l).walks key.0 Given)) × (is_some (number_at (counts_of l) key.0) ≡ true))
+  walked-next None e apart new s =
+      (states-none l.walk (sym e), ap (λ (n : Lists). counts_of n) s ∙ ap (λ (w : Walk). counts_of (record l { walk = w })) (gone_on-none l.walk (sym e)))
+  walked-next (Some key) e apart new s =
+      let f = p.walking key.0 (Among-right key.0 l.walk.given l.walk.waiting (first-among l.walk.waiting key.0 (sym e))) in (
+        states-first l.walk key.0 (sym e) apart,
+        ap (λ (n : Lists). counts_of n) s ∙ ap (with_walks (counts_of l)) (states-gone_on l.walk key.0 (sym e)),
+        ap is_some (number_at-cell l.cells key.0 f.0 f.1),
+      )
+
+-- A key comes in.
+pub counts-entered : (l : Lists) (key : ℕ) → counts_of (record l { walk = with_member key l.walk }) ≡
+    with_walks (counts_of l) (with_state (counts_of l).walks key (entered ((counts_of l).walks key)))
+counts-entered l key = ap (with_walks (counts_of l)) (states-with_member key l.walk)
