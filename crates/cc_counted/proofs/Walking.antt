@@ -1,15 +1,16 @@
 -- THE WALK of the natives: its keys are those of natives after each call, and what it is by the states of its keys.
-use Rattle.std.proofs.Common.{◌≡◌, ℕ, Option, Some, None, option_map, is_some, IfSome, MatchOption, true, sym, ◌∙◌, ap, ⊎_elim}
+use Rattle.std.proofs.Common.{◌≡◌, ℕ, Option, Some, None, option_map, is_some, IfSome, MatchOption, true, false, length, ◌<◌, sym, ◌∙◌, ap, subst, ⊎_elim}
 use Rattle.cc_lists.specs.Members.{Among}
 use Rattle.cc_lists.specs.Walks.{first_of}
 use Rattle.cc_lists.proofs.Members.{Among-right}
 use Rattle.cc_lists.proofs.Walks.{first-among}
 use Rattle.cc_names.specs.declared.number.NKey.{NKey}
 use Rattle.cc_names.specs.declared.kind.Walked.TheVariants.{Waiting, Given}
-use Rattle.cc_walk.specs.Walks.{Walk, no_walk, members, with_member, gone_on, with_state, entered, NoneWaits}
-use Rattle.cc_walk.proofs.Sets.{member-came, member-given, states-with_member, states-gone_on, states-first, states-none, gone_on-none}
+use Rattle.cc_walk.specs.Walks.{Walk, no_walk, members, with_member, without_first, gone_on, with_state, entered, NoneWaits}
+use Rattle.cc_walk.proofs.Sets.{member-came, member-given, states-with_member, states-gone_on, states-first, states-none, gone_on-none, fewer-members, first-none, no_members}
 use Rattle.cc_counted.specs.Counts.{Counts, number_at, with_walks}
 use Rattle.cc_counted.specs.Lists.{Placed, Lists, cell_at, counts_of, IsPlaced}
+use Rattle.cc_counted.specs.Stored.{Stored, with_walk}
 use Rattle.cc_counted.proofs.Places.{number_at-cell}
 
 module _ (l : Lists) (p : IsPlaced l) where
@@ -54,3 +55,21 @@ module _ (l : Lists) (p : IsPlaced l) where
 pub counts-entered : (l : Lists) (key : ℕ) → counts_of (record l { walk = with_member key l.walk }) ≡
     with_walks (counts_of l) (with_state (counts_of l).walks key (entered ((counts_of l).walks key)))
 counts-entered l key = ap (with_walks (counts_of l)) (states-with_member key l.walk)
+
+-- THE WALK EMPTIED, one native after another: nothing but the walk changed
+pub dropped-more : (start s new : Stored) → s ≡ with_walk (λ w. s.lists.walk) start → new ≡ with_walk without_first s → new ≡ with_walk (λ w. new.lists.walk) start
+dropped-more start s new i e = e ∙ (ap (with_walk without_first) i ∙ ap (λ (v : Walk). with_walk (λ w. v) start) (sym (ap (λ (t : Stored). t.lists.walk) e)))
+
+-- each time by one
+pub dropped-fewer : (s new : Stored) (o : Option NKey) → is_some o ≡ true → option_map (λ (k : NKey). k.0) o ≡ first_of (members s.lists.walk) → new ≡ with_walk without_first s →
+    length (members new.lists.walk) < length (members s.lists.walk)
+dropped-fewer s new None t f e = absurd (cc)
+dropped-fewer s new (Some key) t f e =
+    subst (λ (n : Stored). length (members n.lists.walk) < length (members s.lists.walk)) (sym e) (fewer-members s.lists.walk key.0 (sym f))
+
+-- until none is left
+pub dropped-all : (start s new : Stored) (o : Option NKey) → is_some o ≡ false → option_map (λ (k : NKey). k.0) o ≡ first_of (members s.lists.walk) →
+    s ≡ with_walk (λ w. s.lists.walk) start → new ≡ with_walk without_first s → new ≡ with_walk (λ w. no_walk) start
+dropped-all start s new (Some key) t f i e = absurd (cc)
+dropped-all start s new None t f i e =
+    e ∙ (ap (with_walk without_first) i ∙ ap (λ (v : Walk). with_walk (λ w. v) start) (first-none s.lists.walk (sym f) ∙ no_members s.lists.walk (sym f)))
