@@ -33,11 +33,11 @@ or-none false b e = (refl, e)
 
 pub has-append : (xs ys : List ℕ) (k : ℕ) → has ◌==◌ (xs ++ ys) k ≡ (has ◌==◌ xs k || has ◌==◌ ys k)
 has-append [] ys k = refl
-has-append (x ∷ xs) ys k = go (x == k)
+has-append (x ∷ xs) ys k = go (has-append xs ys k) (x == k)
   where
-    go : (b : Bool) → (b || has ◌==◌ (xs ++ ys) k) ≡ ((b || has ◌==◌ xs k) || has ◌==◌ ys k)
-    go true = refl
-    go false = has-append xs ys k
+    go : has ◌==◌ (xs ++ ys) k ≡ (has ◌==◌ xs k || has ◌==◌ ys k) → (b : Bool) → (b || has ◌==◌ (xs ++ ys) k) ≡ ((b || has ◌==◌ xs k) || has ◌==◌ ys k)
+    go ih true = refl
+    go ih false = ih
 
 has-without : (key : ℕ) (xs : List ℕ) (k : ℕ) → has ◌==◌ (without ◌==◌ key xs) k ≡ (if key == k then false else has ◌==◌ xs k)
 has-without key [] k = grind arith
@@ -198,12 +198,17 @@ no_members w e = go w.given w.waiting e
     go [] (x ∷ xs) e = absurd (cc)
     go (x ∷ xs) waiting e = absurd (cc)
 
--- a set of which the first left has a member fewer
+-- a set of which the first left is without that one
+pub first-left : (w : Walk) (key : ℕ) → first_of (members w) ≡ Some key → without_first w ≡ without_member key w
+first-left w key e = ap (λ (o : Option ℕ). elim o [ None ↦ w | Some k ↦ without_member k w ]) e
+
+-- so it has a member fewer
 pub fewer-members : (w : Walk) (key : ℕ) → first_of (members w) ≡ Some key → length (members (without_first w)) < length (members w)
 fewer-members w key e =
-    rw (e) (subst (λ xs. length xs < length (members w)) (sym (members-without key w))
+    subst (λ (v : Walk). length (members v) < length (members w)) (sym (first-left w key e))
+    (subst (λ xs. length xs < length (members w)) (sym (members-without key w))
     (length-filter-less (λ k. not (k == key)) (members w) key (first-among (members w) key e) (ap not (eq-eqb key key refl))))
 
 -- and where there is none, the set stays
 pub first-none : (w : Walk) → first_of (members w) ≡ None → without_first w ≡ w
-first-none w e = rw (e) refl
+first-none w e = ap (λ (o : Option ℕ). elim o [ None ↦ w | Some k ↦ without_member k w ]) e

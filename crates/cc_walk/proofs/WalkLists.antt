@@ -1,7 +1,8 @@
 -- A list for a walk after each call: what its store has then is the set that the call leaves.
 use Rattle.std.proofs.Common.{◌≡◌, ◌≢◌, ℕ, Bool, true, false, List, [], ◌∷◌, ◌++◌, Option, Some, None, refl, sym, ◌∙◌, ap, subst, inl, inr, ⊎_elim}
 use Rattle.std.specs.Prelude.{◌==◌, IsTrue}
-use Rattle.std.proofs.lemmas.Bool.{true≢false, eq-eqb, ne_eqb, false_from_ne_true}
+use Rattle.std.specs.Option.{option_eq}
+use Rattle.std.proofs.lemmas.Bool.{true≢false, eqb-true, eq-eqb, ne_eqb, false_from_ne_true}
 use Rattle.cc_lists.specs.Members.{Among, has, without}
 use Rattle.cc_lists.specs.Walks.{first_of}
 use Rattle.cc_lists.proofs.Members.{has-there, Among-left, Among-right}
@@ -11,12 +12,12 @@ use Rattle.cc_chain.specs.Links.{AreBelow, Links, is_key, is_live, is_linked, Is
 use Rattle.cc_chain.specs.Chains.{AllDiffer, IsChain, behind, walked}
 use Rattle.cc_chain.specs.declared.chain.Chain.{Chain}
 use Rattle.cc_chain.proofs.Rows.{without-absent, without-first, first_is-among}
-use Rattle.cc_chain.proofs.Chains.{chain-bounded}
+use Rattle.cc_chain.proofs.Chains.{chain-bounded, chain-live}
 use Rattle.cc_chain.proofs.Slots.{among-linked, absent-free}
 use Rattle.cc_walk.specs.declared.walk_list.WalkList.{WalkList}
 use Rattle.cc_walk.specs.Walks.{Walk, walk_of, members, with_member, without_member, without_first, gone_on, split_at}
 use Rattle.cc_walk.specs.WalkLists.{IsWalk}
-use Rattle.cc_walk.proofs.Sets.{members-push, members-given, members-without}
+use Rattle.cc_walk.proofs.Sets.{members-push, members-given, members-without, first-left, first-none}
 
 -- A key goes last: the first that waits is the one that was, or that key
 first-push : (waiting : List ℕ) (key : ℕ) → first_of (waiting ++ key ∷ []) ≡ (elim (first_of waiting) [ None ↦ Some key | Some k ↦ Some k ])
@@ -76,14 +77,14 @@ module _ {R : Type 0} (links : Links) (list : WalkList R) (w : Walk) (i : IsWalk
   member-linked key e = among-linked links list.chain (members w) i.chain key
       (Among-right key w.given w.waiting (first-among w.waiting key (sym i.next ∙ e)))
 
-  pub first-live : (key : ℕ) → first_of (members w) ≡ Some key → IsTrue (is_linked links key)
-  first-live key e = among-linked links list.chain (members w) i.chain key (first-among (members w) key e)
-
-  pub stranger-free : (key : ℕ) → has ◌==◌ (members w) key ≡ false → IsTrue (is_live links key) → IsFree links key
-  stranger-free key e live = absent-free links list.chain (members w) i.chain key (absent key e) live
+  pub first-live : (key : ℕ) → first_of (members w) ≡ Some key → IsTrue (is_live links key)
+  first-live key e = chain-live links list.chain (members w) i.chain key (first-among (members w) key e)
 
   absent : (key : ℕ) → has ◌==◌ (members w) key ≡ false → ¬ (Among key (members w))
   absent key e m = true≢false (sym (has-there ◌==◌ number-exact (members w) key m) ∙ e)
+
+  pub stranger-free : (key : ℕ) → has ◌==◌ (members w) key ≡ false → IsTrue (is_live links key) → IsFree links key
+  stranger-free key e live = absent-free links list.chain (members w) i.chain key (absent key e) live
 
   -- a member stays as it stands where it is added
   pub walk-known : (key : ℕ) → has ◌==◌ (members w) key ≡ true → IsWalk links list (with_member key w)
@@ -137,7 +138,19 @@ module _ {R : Type 0} (links : Links) (list : WalkList R) (w : Walk) (i : IsWalk
 
   -- the first of all leaves
   pub walk-first : (key : ℕ) → first_of (members w) ≡ Some key → (new : Links) (left : WalkList R) → IsWalk new left (without_member key w) → IsWalk new left (without_first w)
-  walk-first key e new left l = rw e l
+  walk-first key e new left l = subst (IsWalk new left) (sym (first-left w key e)) l
 
   pub walk-empty : first_of (members w) ≡ None → IsWalk links list (without_first w)
-  walk-empty e = rw e i
+  walk-empty e = subst (IsWalk links list) (sym (first-none w e)) i
+
+-- a key is compared with the first that waits
+pub is-next : (next : Option ℕ) (key : ℕ) → option_eq ◌==◌ next (Some key) ≡ true → next ≡ Some key
+is-next None key e = absurd (true≢false (sym e))
+is-next (Some k) key e = ap Some (eqb-true k key e)
+
+pub is-not-next : (next : Option ℕ) (key : ℕ) → option_eq ◌==◌ next (Some key) ≡ false → next ≢ Some key
+is-not-next next key e s = true≢false (sym (ap (λ o. option_eq ◌==◌ o (Some key)) s ∙ eq-eqb key key refl) ∙ e)
+
+-- a list that was passed on has the chain that it had
+pub chain-passed : {R : Type 0} (links : Links) (old mid now : WalkList R) (keys : List ℕ) → mid.chain ≡ old.chain → now ≡ mid → IsChain links old.chain keys → IsChain links now.chain keys
+chain-passed links old mid now keys same is c = subst (λ (l : WalkList _). IsChain links l.chain keys) (sym is) (subst (λ ch. IsChain links ch keys) (sym same) c)
