@@ -4,20 +4,20 @@ use Rattle.std.proofs.Math.ListN.{set}
 use Rattle.cc_model.specs.Heap as heap
 use Rattle.cc_model.specs.Heap.{HeapNative, Buffered}
 use Rattle.cc_model.specs.Cascade.{add_ref}
-use Rattle.cc_walk.specs.Walks.{Walks}
+use Rattle.cc_names.specs.declared.kind.Walked.{Walked}
 use Rattle.cc_purple.specs.Marks.{with_mark}
 use Rattle.cc_counted.specs.Counts.{Counts, the_number, heap_of, with_heap}
 use Rattle.cc_counted.specs.Lists.{Placed, Lists, cell_at, with_one_more, marked_number, counts_of, IsPlaced}
 use Rattle.cc_counted.proofs.Places.{the_number-cell}
-use Rattle.cc_counted.proofs.Changing.{keyed-changed, reflectors-changed, IsPlaced-changed, natives-changed}
+use Rattle.cc_counted.proofs.Changing.{keyed-changed, reflectors-changed, walks-changed, IsPlaced-changed, natives-changed}
 use Rattle.cc_counted.proofs.Marking.{buffer-with_mark, with_mark-there}
 
 -- these natives, this buffer, these keys, these reflectors and this walk
-abbrev pub counts_with : List HeapNative → List Buffered → List (Option ℕ) → List (Option ℕ) → Walks → Counts
+abbrev pub counts_with : List HeapNative → List Buffered → List (Option ℕ) → List (Option ℕ) → List Walked → Counts
 counts_with ns bs ks rs ws = record { natives = ns; buffer = bs; keys = ks; reflectors = rs; walks = ws }
 
 -- counts are the same where their parts are
-pub counts-same : (ns ms : List HeapNative) (bs cs : List Buffered) (ks js rs ss : List (Option ℕ)) (ws us : Walks) → ns ≡ ms → bs ≡ cs → ks ≡ js → rs ≡ ss → ws ≡ us →
+pub counts-same : (ns ms : List HeapNative) (bs cs : List Buffered) (ks js rs ss : List (Option ℕ)) (ws us : List Walked) → ns ≡ ms → bs ≡ cs → ks ≡ js → rs ≡ ss → ws ≡ us →
     counts_with ns bs ks rs ws ≡ counts_with ms cs js ss us
 counts-same ns ms bs cs ks js rs ss ws us n b k r w = rw (n, b, k, r, w) refl
 
@@ -38,7 +38,7 @@ module _ (l : Lists) (p : IsPlaced l) (key : ℕ) (c : Placed) (at : cell_at l.c
       (ap (λ n. map (marked_number n) (with_mark false key l.marks)) (keyed-changed l p key c (with_one_more c) at refl)
       ∙ buffer-with_mark l p key c at false l.marks p.marked)
       (ap (λ (n : Counts). n.keys) (keyed-changed l p key c (with_one_more c) at refl))
-      (reflectors-changed l p key c (with_one_more c) at refl refl) refl
+      (reflectors-changed l p key c (with_one_more c) at refl refl) (walks-changed l p key c (with_one_more c) at refl)
       ∙ ap (λ k. with_heap (counts_of l) (add_ref (heap_of (counts_of l)) k)) (sym same_number))
 
   pub placed-added : (cells : List (Option Placed)) → cells ≡ set l.cells key (Some (with_one_more c)) →

@@ -1,17 +1,17 @@
 -- KEYS THAT COME TO HOLD NOTHING as natives leave: those of the natives that are no more.
-use Rattle.std.proofs.Common.{◌≡◌, ℕ, zero, suc, List, [], ◌∷◌, map, length, get_or, Option, Some, None, option_map, is_some, if◌then◌else◌, refl, sym, ◌∙◌, ap, subst, ⊎_elim, inl, inr}
+use Rattle.std.proofs.Common.{◌≡◌, ℕ, zero, suc, List, [], ◌∷◌, map, length, get_or, Option, Some, None, option_map, is_some, if◌then◌else◌, refl, sym, ◌∙◌, ap, subst, ⊎_elim, inl, inr, ◌<◌, arith}
 use Rattle.std.proofs.Math.ListN.{get_or-map}
-use Rattle.std.proofs.Math.Path.{fun_ext}
 use Rattle.std.proofs.lemmas.List.{ext_get_or, length-map}
 use Rattle.cc_model.specs.Heap.{Heap, HeapNative, native_at}
 use Rattle.cc_laws_heap.proofs.Face.{native_at-number, native_at-there}
 use Rattle.cc_counted.specs.Counts.{number_at, heap_of, key_left, reflectors_left, state_left, walks_left, left_with}
-use Rattle.cc_counted.specs.Lists.{Placed, Lists, cell_at, reflector_placed, without_count, keyed, shown, counts_of, IsPlaced, LeavesCells, LeavesKeys}
+use Rattle.cc_counted.specs.Lists.{Placed, Lists, cell_at, reflector_placed, without_count, keyed, shown, counts_of, states_below, IsPlaced, LeavesCells, LeavesKeys}
 use Rattle.cc_names.specs.declared.kind.Walked.TheVariants.{Out}
 use Rattle.cc_walk.specs.Walks.{states_of}
 use Rattle.cc_walk.proofs.Sets.{states-absent}
 use Rattle.cc_counted.proofs.Places.{cell_number, number_at-cells, number_at-cell, number_at-found, one_key, native_at-cell, native-key}
 use Rattle.cc_counted.proofs.Adding.{counts-same}
+use Rattle.cc_counted.proofs.States.{states-length, states-at, walks_left-length, walks_left-at}
 
 pub LeavesKeys-kept : (old new : Lists) → length new.cells ≡ length old.cells → keyed new.cells ≡ keyed old.cells →
     map reflector_placed new.cells ≡ map reflector_placed old.cells → new.walk ≡ old.walk → LeavesKeys old new
@@ -153,8 +153,18 @@ module _ (old new : Lists) (p : IsPlaced old) (q : IsPlaced new) (left : LeavesK
       (λ i l. key-left i ∙ sym (get_or-map (key_left heap) (map cell_number old.cells) i None))
 
   -- a native that left is in no walk, and the others stand there as they did
-  walks-left : states_of new.walk ≡ walks_left heap (map cell_number old.cells) (states_of old.walk)
-  walks-left = fun_ext (λ key. at key (number_at (keyed old.cells) key) refl)
+  walks-left : states_below (length new.cells) (states_of new.walk) ≡ walks_left heap (map cell_number old.cells) (states_below (length old.cells) (states_of old.walk))
+  walks-left =
+      ap (λ n. states_below n (states_of new.walk)) left.as_many
+      ∙ ext_get_or Out (states_below (length old.cells) (states_of new.walk)) (walks_left heap (map cell_number old.cells) (states_below (length old.cells) (states_of old.walk)))
+      (states-length (length old.cells) (states_of new.walk)
+      ∙ sym (walks_left-length heap (map cell_number old.cells) (states_below (length old.cells) (states_of old.walk)) ∙ states-length (length old.cells) (states_of old.walk)))
+      (λ i l.
+      let within : i < length old.cells = omega (arith, l, states-length (length old.cells) (states_of new.walk)) in
+      states-at (length old.cells) (states_of new.walk) i within
+      ∙ (at i (number_at (keyed old.cells) i) refl
+      ∙ sym (walks_left-at heap (map cell_number old.cells) (states_below (length old.cells) (states_of old.walk)) i
+      ∙ ap (state_left heap (get_or (map cell_number old.cells) i None)) (states-at (length old.cells) (states_of old.walk) i within))))
     where
       -- a key that holds nothing is in no walk
       out : (l : Lists) → IsPlaced l → (key : ℕ) → number_at (keyed l.cells) key ≡ None → states_of l.walk key ≡ Out

@@ -1,6 +1,7 @@
 pub mod Nodes
 pub mod Places
 pub mod Changing
+pub mod States
 pub mod Marking
 pub mod GivingUp
 pub mod Holding

@@ -1,5 +1,5 @@
 -- A NATIVE MADE at a key that held nothing.
-use Rattle.std.proofs.Common.{◌≡◌, ◌≢◌, ◌<◌, ◌≤◌, ℕ, zero, suc, List, [], ◌∷◌, ◌++◌, map, length, replicate, Option, Some, None, true, false, refl, sym, ◌∙◌, ap, subst, ⊎_elim, ◌⊎◌, inl, inr, arith}
+use Rattle.std.proofs.Common.{◌≡◌, ◌≢◌, ◌<◌, ◌≤◌, ℕ, zero, suc, List, [], ◌∷◌, ◌++◌, map, length, replicate, Option, Some, None, true, false, sym, ◌∙◌, ap, subst, ⊎_elim, ◌⊎◌, inl, inr, arith}
 use Rattle.std.proofs.lemmas.Bool.Decides.{eqb_tells}
 use Rattle.std.proofs.lemmas.List.{map-append, length-map, length-replicate}
 use Rattle.cc_lists.proofs.Held.{map-replicate}
@@ -17,6 +17,7 @@ use Rattle.cc_counted.specs.Lists.{Placed, Lists, cell_at, reflector_placed, key
 use Rattle.cc_counted.proofs.Places.{cell_number, number_at-cells, reflector_at-cells, number_at-cell, number_at-found, the_number-cell, natives-numbers, natives-rising, native_at-cell, native-key, one_key}
 use Rattle.cc_lists.proofs.ListWrites.{map-agree}
 use Rattle.cc_names.specs.Sizes.{most_slots}
+use Rattle.cc_counted.proofs.States.{states-shown}
 use Rattle.cc_counted.proofs.Marking.{buffer-with_mark, with_mark-there}
 use Rattle.cc_counted.proofs.Each.{live-cell}
 use Rattle.cc_counted.proofs.Holding.{held-same, names-same}
@@ -167,5 +168,5 @@ module _ (l : Lists) (p : IsPlaced l) (key : ℕ) (d : Placed) (cells : List (Op
     reflector = reflector_at-cells (made l cells key) key ∙ (ap reflector_placed at ∙ bare);
     other_reflectors = λ k o. reflector_at-cells (made l cells key) k ∙ (ap reflector_placed (others k o) ∙ sym (reflector_at-cells l k));
     as_many = length-map cells reflector_placed ∙ sym (length-map cells cell_number);
-    walks = refl;
+    walks = λ q. states-shown (made l cells key) (placed-made few) q ∙ sym (states-shown l p q);
   }

@@ -20,9 +20,9 @@ use Rattle.cc_model.specs.WellFormed.{native_names}
 use Rattle.cc_model.specs.Counts.{slots_of_natives, times}
 use Rattle.cc_laws_heap.specs.Balance.{waiting, living, IsBalanced, has_place, places}
 use Rattle.cc_laws_heap.proofs.Face.{HasDistinctNumbers-change, IsCounted-add_ref, above-one_at_zero, changed_at, contents-empty, living-one, native_at-change_other, native_at-change_same, native_at-named, native_names-change, one_above_zero-above, one_at_zero-above, places-with_mark, places-with_mark_other, places-with_mark_same, raise_native, times-among, times-cons_other, times-cons_same, with_mark-cases}
-use Rattle.cc_walk.specs.Walks.{Walks}
+use Rattle.cc_names.specs.declared.kind.Walked.{Walked}
 use Rattle.cc_counted.specs.declared.held.Held.{Held}
-use Rattle.cc_counted.specs.Counts.{Counts, number_at, the_number, is_live, numbers_held, heap_of, with_heap, with_reflector, with_walks}
+use Rattle.cc_counted.specs.Counts.{Counts, number_at, the_number, is_live, numbers_held, heap_of, with_heap, with_reflector}
 use Rattle.cc_counted.specs.Owning.{AreOwned, Transfers, Makes}
 use Rattle.cc_counted.specs.Lists.{Placed, Lists, cell_at, with_slot, keyed, shown, counts_of, IsPlaced}
 use Rattle.cc_counted.proofs.Places.{the_number-cell, native_at-cell, natives-distinct}
@@ -149,7 +149,7 @@ pub owned-reflected : (c : Counts) (key : ℕ) (to : Option ℕ) → Transfers [
 owned-reflected c key to others o = search
 
 -- Nor does how keys stand in a walk.
-pub owned-walked : (c : Counts) (walks : Walks) → Transfers [] [] c (with_walks c walks)
+pub owned-walked : (c : Counts) (walks : List Walked) → Transfers [] [] c (record c { walks = walks })
 owned-walked c walks others o = search
 
 -- the front of the buffer leaves

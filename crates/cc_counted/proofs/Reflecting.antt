@@ -1,7 +1,6 @@
 -- THE REFLECTOR OF A NATIVE: where it stands and whether it is preserved, as they are written and read.
 use Rattle.std.proofs.Common.{◌≡◌, ◌<◌, ℕ, Bool, List, map, length, get_or, Option, Some, None, option_map, refl, sym, ◌∙◌, ap, subst, arith}
 use Rattle.std.proofs.Math.ListN.{set}
-use Rattle.std.proofs.Math.Path.{fun_ext}
 use Rattle.cc_names.specs.declared.kind.Walked.{Walked}
 use Rattle.std.proofs.lemmas.Bool.Decides.{eqb_tells}
 use Rattle.std.proofs.lemmas.List.{map-set, get_or_push, get_or_append_left}
@@ -11,8 +10,9 @@ use Rattle.cc_laws_heap.proofs.Face.{native_at-change_other, native_at-change_sa
 use Rattle.cc_counted.specs.Counts.{Counts, the_number, heap_of, with_heap, key_left, reflectors_left, state_left, left_with, with_reflector, preserved_at, preserved_of, preserved_reflector, reflector_at, references_of, slots_of}
 use Rattle.cc_counted.specs.Lists.{Placed, Lists, cell_at, with_flag, reflected_by, reflector_placed, marked_number, counts_of, IsPlaced}
 use Rattle.cc_counted.proofs.Places.{reflector_at-cells, the_number-cell, native_at-cell}
-use Rattle.cc_counted.proofs.Changing.{keyed-changed, reflectors-changed, IsPlaced-changed, natives-changed, natives-kept}
+use Rattle.cc_counted.proofs.Changing.{keyed-changed, reflectors-changed, walks-changed, IsPlaced-changed, natives-changed, natives-kept}
 use Rattle.cc_counted.proofs.Adding.{counts-same}
+use Rattle.cc_counted.proofs.States.{walks_left-agree}
 
 -- a native preserved or not
 abbrev pub flagged : Bool → HeapNative → HeapNative
@@ -28,7 +28,7 @@ state_left-flagged h k on o state = grind (arith, native_at-change_same, native_
 -- so it says nothing of which keys are left, nor of what stands at them
 pub left-flagged : (c : Counts) (h : Heap) (k : ℕ) (on : Bool) → with_heap (left_with c h) (set_preserved h k on) ≡ left_with c (set_preserved h k on)
 left-flagged c h k on = counts-same _ _ _ _ _ _ _ _ _ _ refl refl keys (ap (λ ks. reflectors_left ks c.reflectors) keys)
-    (fun_ext (λ key. sym (state_left-flagged h k on (get_or c.keys key None) (c.walks key))))
+    (walks_left-agree h (set_preserved h k on) (λ o state. sym (state_left-flagged h k on o state)) c.keys c.walks)
   where
     keys : map (key_left h) c.keys ≡ map (key_left (set_preserved h k on)) c.keys
     keys = sym (map-agree (key_left (set_preserved h k on)) (key_left h) c.keys (λ o m. key_left-flagged h k on o))
@@ -47,7 +47,7 @@ module _ (l : Lists) (p : IsPlaced l) (key : ℕ) (c : Placed) (at : cell_at l.c
         (natives-changed l p key c (with_flag on c) at refl (flagged on) refl)
         (ap (λ n. map (marked_number n) l.marks) (keyed-changed l p key c (with_flag on c) at refl))
         (ap (λ (n : Counts). n.keys) (keyed-changed l p key c (with_flag on c) at refl))
-        (reflectors-changed l p key c (with_flag on c) at refl refl) refl
+        (reflectors-changed l p key c (with_flag on c) at refl refl) (walks-changed l p key c (with_flag on c) at refl)
         ∙ ap (λ k. with_heap (counts_of l) (set_preserved (heap_of (counts_of l)) k on)) (sym (the_number-cell l.cells key c at)))
 
     pub placed-flagged : IsPlaced (record l { cells = cells })
@@ -60,7 +60,7 @@ module _ (l : Lists) (p : IsPlaced l) (key : ℕ) (c : Placed) (at : cell_at l.c
     reflector-written = e ∙ ap (λ o. set l.cells key (option_map (reflected_by to) o)) at
 
     pub counts-reflected : counts_of (record l { cells = cells }) ≡ with_reflector (counts_of l) key to
-    counts-reflected = grind (arith, reflector-written, counts-same, natives-kept, keyed-changed, map-set)
+    counts-reflected = grind (arith, reflector-written, counts-same, natives-kept, keyed-changed, map-set, walks-changed)
 
     pub placed-reflected : IsPlaced (record l { cells = cells })
     placed-reflected =

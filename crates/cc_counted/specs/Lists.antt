@@ -1,5 +1,5 @@
 -- THE PARTS OF A COUNTED HEAP AS LISTS, by keys, and what they show by numbers.
-use Rattle.std.specs.Prelude.{◌≡◌, ◌⊎◌, ℕ, ◌+◌, ◌-◌, ◌≤◌, ◌==◌, Bool, true, false, List, [], ◌++◌, length, replicate, ◌∷◌, map, flat_map, Option, Some, None, option_map, option_and_then, slice_index_or, slice_set}
+use Rattle.std.specs.Prelude.{◌≡◌, ◌⊎◌, ℕ, zero, suc, ◌+◌, ◌-◌, ◌≤◌, ◌==◌, Bool, true, false, List, [], ◌++◌, length, replicate, ◌∷◌, map, flat_map, Option, Some, None, option_map, option_and_then, slice_index_or, slice_set}
 use Rattle.cc_lists.specs.Members.{Among, without}
 use Rattle.cc_names.specs.Sizes.{most_slots}
 use Rattle.cc_model.specs.declared.item.Event.{Event}
@@ -7,7 +7,8 @@ use Rattle.cc_model.specs.Slots.{Slots}
 use Rattle.cc_model.specs.Heap.{HeapNative, Buffered, buffered_as, new_native}
 use Rattle.cc_model.specs.Cascade.{Draining, draining_at}
 use Rattle.cc_model.specs.WellFormed.{IsRising}
-use Rattle.cc_walk.specs.Walks.{Walk, members, states_of, without_member}
+use Rattle.cc_names.specs.declared.kind.Walked.{Walked}
+use Rattle.cc_walk.specs.Walks.{Walk, Walks, members, states_of, without_member}
 use Rattle.cc_purple.specs.Marks.{Marked, with_mark, without_key}
 use Rattle.cc_counted.specs.declared.held.Held.{Held}
 use Rattle.cc_counted.specs.Counts.{Counts, no_counts, number_at, the_number, name_of, is_live, numbers_held, heap_of}
@@ -100,6 +101,11 @@ shown_at cells key = shown (keyed cells) (cell_at cells key)
 abbrev pub marked_number : Counts → Marked → Buffered
 marked_number c m = buffered_as (the_number c m.key) m.purple
 
+-- how the keys below n stand in a walk
+abbrev pub states_below : ℕ → Walks → List Walked
+states_below zero walks = []
+states_below (suc n) walks = walks zero ∷ states_below n (λ key. walks (suc key))
+
 -- WHAT THE LISTS SHOW
 abbrev pub counts_of : Lists → Counts
 counts_of l = record {
@@ -107,7 +113,7 @@ counts_of l = record {
   buffer = map (marked_number (keyed l.cells)) l.marks;
   keys = map (option_map (λ c. c.number)) l.cells;
   reflectors = map (option_and_then (λ c. c.reflector)) l.cells;
-  walks = states_of l.walk;
+  walks = states_below (length l.cells) (states_of l.walk);
 }
 
 -- and while natives are deleted

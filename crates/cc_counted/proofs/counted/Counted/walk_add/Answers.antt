@@ -1,6 +1,6 @@
 use Rattle.std.proofs.Common.{◌≡◌, [], true, Some, ap, sym, subst, ◌∙◌, is_some}
-use Rattle.cc_walk.specs.Walks.{with_state, entered}
-use Rattle.cc_counted.specs.Counts.{Counts, number_at, with_walks}
+use Rattle.cc_walk.specs.Walks.{entered}
+use Rattle.cc_counted.specs.Counts.{Counts, number_at, state_of, with_state_of}
 use Rattle.cc_counted.specs.Lists.{Placed, cell_at, counts_of}
 use Rattle.cc_counted.specs.Owning.{Transfers}
 use Rattle.cc_counted.specs.Resting.{IsAtRest}
@@ -14,11 +14,11 @@ found : (c : goal.After-walk_add) → (p : Placed) × (cell_at c.self.inside.nat
 found c = live-found c.self.inside.natives.lists c.args.key.0 (subst (λ (v : Counts). is_some (number_at v c.args.key.0) ≡ true) (sym c.self.view_is) c.requires.live)
 
 came : (c : goal.After-walk_add) → counts_of c.walk_add.new.self.lists ≡
-    with_walks (counts_of c.self.inside.natives.lists) (with_state (counts_of c.self.inside.natives.lists).walks c.args.key.0 (entered ((counts_of c.self.inside.natives.lists).walks c.args.key.0)))
-came c = ap (λ (s : Stored). counts_of s.lists) c.walk_add.ensures ∙ counts-entered c.self.inside.natives.lists c.args.key.0
+    with_state_of (counts_of c.self.inside.natives.lists) c.args.key.0 (entered (state_of (counts_of c.self.inside.natives.lists) c.args.key.0))
+came c = ap (λ (s : Stored). counts_of s.lists) c.walk_add.ensures ∙ counts-entered c.self.inside.natives.lists c.self.invariant.placed c.args.key.0 (found c).0 (found c).1
 
 pub returns-clause-walks : goal.returns-clause-walks
-returns-clause-walks c = subst (λ (v : Counts). counts_of c.walk_add.new.self.lists ≡ with_walks v (with_state v.walks c.args.key.0 (entered (v.walks c.args.key.0)))) c.self.view_is (came c)
+returns-clause-walks c = subst (λ (v : Counts). counts_of c.walk_add.new.self.lists ≡ with_state_of v c.args.key.0 (entered (state_of v c.args.key.0))) c.self.view_is (came c)
 
 pub returns-clause-owned : goal.returns-clause-owned
 returns-clause-owned c =

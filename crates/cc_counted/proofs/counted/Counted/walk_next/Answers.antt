@@ -1,7 +1,6 @@
 use Rattle.std.proofs.Common.{◌≡◌, [], true, ap, sym, subst, is_some, MatchOption}
 use Rattle.cc_names.specs.declared.kind.Walked.TheVariants.{Waiting, Given}
-use Rattle.cc_walk.specs.Walks.{with_state, NoneWaits}
-use Rattle.cc_counted.specs.Counts.{Counts, number_at, with_walks}
+use Rattle.cc_counted.specs.Counts.{Counts, number_at, state_of, with_state_of, NoneWaits}
 use Rattle.cc_counted.specs.Lists.{counts_of}
 use Rattle.cc_counted.specs.Owning.{Transfers}
 use Rattle.cc_counted.specs.Resting.{IsAtRest}
@@ -13,7 +12,7 @@ use Rattle.cc_counted.proofs.counted.Counted.walk_next.Goals as goal
 pub returns-clause-next : goal.returns-clause-next
 returns-clause-next c =
     subst (λ (v : Counts). MatchOption c.walk_next.result (NoneWaits v.walks × (counts_of c.walk_next.new.self.lists ≡ v))
-    (λ key. (v.walks key.0 ≡ Waiting) × (counts_of c.walk_next.new.self.lists ≡ with_walks v (with_state v.walks key.0 Given)) × (is_some (number_at v key.0) ≡ true))) c.self.view_is
+    (λ key. (state_of v key.0 ≡ Waiting) × (counts_of c.walk_next.new.self.lists ≡ with_state_of v key.0 Given) × (is_some (number_at v key.0) ≡ true))) c.self.view_is
     (walked-next c.self.inside.natives.lists c.self.invariant.placed c.walk_next.result c.walk_next.ensures.first c.walk_next.ensures.new
     c.walk_next.new.self.lists (ap (λ (s : Stored). s.lists) c.walk_next.ensures.lists))
 
