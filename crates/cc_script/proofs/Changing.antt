@@ -39,5 +39,5 @@ module _ (l : Lists) (p : IsPlaced l) (key : ℕ) (c d : Placed) (at : cell_at l
   }
 
   -- what is shown of it
-  pub objects-changed : (f : Object → Object) → f (with_key key c) ≡ with_key key d → objects_of (with_cell l key (Some d)) ≡ change_object (objects_of l) key f
+  pub objects-changed : (f : Object → Object) → f (with_key key (l.walks key) c) ≡ with_key key (l.walks key) d → objects_of (with_cell l key (Some d)) ≡ change_object (objects_of l) key f
   objects-changed f e = grind (arith, map-agree, changed_at, map-map, eq-eqb, ne_eqb, same, other, eqb_tells)

@@ -1,5 +1,6 @@
 -- WHAT STANDS AT A KEY, label, content and colour: what is read there, and what a write of each changes.
 use Rattle.std.proofs.Common.{◌≡◌, ◌≢◌, ◌≤◌, Bool, false, ℕ, ◌<◌, zero, suc, List, [], ◌∷◌, map, length, drop, get_or, replicate, Option, Some, None, option_map, is_some, refl, sym, ◌∙◌, ap, subst, arith}
+use Rattle.std.specs.Prelude.{IsTrue}
 use Rattle.std.proofs.Math.ListN.{set, get_or-map, length-set}
 use Rattle.std.proofs.Math.Path.{fun_ext}
 use Rattle.std.proofs.lemmas.Bool.{cases_lt, false≢true}
@@ -12,35 +13,31 @@ use Rattle.cc_lists.proofs.ListWrites.{map-agree}
 use Rattle.cc_names.specs.declared.kind.Colour.{Colour}
 use Rattle.cc_names.specs.declared.kind.Colour.TheVariants.{White, Gray}
 use Rattle.cc_chain.specs.declared.link.Link.{Link}
-use Rattle.cc_chain.specs.Stores.{slot_at, with_value}
-use Rattle.cc_chain.proofs.Stores.{slot_at-kept, slot_at-live, slot_at-set}
-use Rattle.cc_chain.proofs.Slots.{parts-kept}
+use Rattle.cc_chain.specs.Links.{is_live}
 use Rattle.cc_script.specs.Lists.{Placed, cell_at, painted}
 use Rattle.cc_script.specs.Paired.{Reaches, paired}
-use Rattle.cc_script.specs.Cells.{AreGrayNoted, Bare, Changes, Content, HasColourAt, HaveAll, Label, Linked, Whitens, cells_of, coloured_slab, filled, filled_slab, in_colour, nothing}
-use Rattle.cc_script.proofs.Linking.{cell-held, cell-read, changes-written}
+use Rattle.cc_script.specs.Threads.{Thread, same_thread}
+use Rattle.cc_script.specs.Cells.{AreGrayNoted, Changes, Content, HasColourAt, HaveAll, Label, Linked, Whitens, cells_of, coloured_slab, filled, filled_slab, in_colour, link_of, links_in, nothing}
+use Rattle.cc_script.proofs.Linking.{Relinks, cell-held, cell-read, changes-written, relinks-written}
 use Rattle.cc_script.proofs.Paired.{held-in, paired-at, paired-same, paired-set, paired-written, read-at, updates-made, updates-taken, vacant-at}
 
 -- the labels and contents with their colours
-abbrev coloured : List (Option Bare) → List Colour → List (Option Linked)
+abbrev coloured : List (Option Linked) → List Colour → List (Option Linked)
 coloured slots colours = paired in_colour White slots colours
 
 -- all colours white
 next-white : (colours : List Colour) (key : ℕ) → get_or (drop 1 colours) key White ≡ get_or colours (suc key) White
 next-white colours key = grind arith
 
-abbrev pub white_cell : Linked → Linked
-white_cell z = record z { placed = painted White z.placed }
-
-pub coloured-white : (slots : List (Option Bare)) (whites colours : List Colour) → ((key : ℕ) → get_or whites key White ≡ White) →
-    coloured slots whites ≡ map (option_map white_cell) (coloured slots colours)
+pub coloured-white : (slots : List (Option Linked)) (whites colours : List Colour) → ((key : ℕ) → get_or whites key White ≡ White) →
+    coloured slots whites ≡ map (option_map (in_colour White)) (coloured slots colours)
 coloured-white [] whites colours white = refl
 coloured-white (o ∷ slots) whites colours white =
     ap (λ x. x ∷ coloured slots (drop 1 whites)) (ap (λ c. option_map (in_colour c) o) (white 0) ∙ go o)
-    ∙ ap (λ rest. option_map white_cell (option_map (in_colour (get_or colours 0 White)) o) ∷ rest)
+    ∙ ap (λ rest. option_map (in_colour White) (option_map (in_colour (get_or colours 0 White)) o) ∷ rest)
     (coloured-white slots (drop 1 whites) (drop 1 colours) (λ key. next-white whites key ∙ white (suc key)))
   where
-    go : (o : Option Bare) → option_map (in_colour White) o ≡ option_map white_cell (option_map (in_colour (get_or colours 0 White)) o)
+    go : (o : Option Linked) → option_map (in_colour White) o ≡ option_map (in_colour White) (option_map (in_colour (get_or colours 0 White)) o)
     go None = refl
     go (Some b) = refl
 
@@ -50,103 +47,88 @@ replicate-white (suc n) zero = refl
 replicate-white (suc n) (suc key) = replicate-white n key
 
 -- links stay
-links-white : (part : Linked → Option Link) → ((z : Linked) → part (white_cell z) ≡ part z) → (slots : List (Option Linked)) → slot_at part (map (option_map white_cell) slots) ≡ slot_at part slots
-links-white part same slots = fun_ext (λ key. ap (option_map part) (get_or-map (option_map white_cell) slots key None) ∙ go (get_or slots key None))
+links-white : (t : Thread) (slots : List (Option Linked)) → links_in t (map (option_map (in_colour White)) slots) ≡ links_in t slots
+links-white t slots = fun_ext (λ key. ap (option_map (link_of t)) (get_or-map (option_map (in_colour White)) slots key None) ∙ go (get_or slots key None))
   where
-    go : (o : Option Linked) → option_map part (option_map white_cell o) ≡ option_map part o
+    go : (o : Option Linked) → option_map (link_of t) (option_map (in_colour White) o) ≡ option_map (link_of t) o
     go None = refl
-    go (Some z) = ap Some (same z)
+    go (Some z) = refl
 
-pub whitens-all : {room : ℕ} (s : Slab Bare) (colours : List Colour) (n : ℕ) → Whitens (coloured_slab room s colours) (coloured_slab room s (replicate n White))
+pub whitens-all : {room : ℕ} (s : Slab Linked) (colours : List Colour) (n : ℕ) → Whitens (coloured_slab room s colours) (coloured_slab room s (replicate n White))
 whitens-all {room} s colours n =
     let old = coloured s.slots colours in
     let all = coloured-white s.slots (replicate n White) colours (replicate-white n) in
     record {
       cells = ap cells_of all
-          ∙ (map-map (option_map (λ (z : Linked). z.placed)) (option_map white_cell) old
-          ∙ (map-agree (λ o. option_map (λ (z : Linked). z.placed) (option_map white_cell o)) (λ o. option_map (painted White) (option_map (λ (z : Linked). z.placed) o)) old (λ o m. go o)
+          ∙ (map-map (option_map (λ (z : Linked). z.placed)) (option_map (in_colour White)) old
+          ∙ (map-agree (λ o. option_map (λ (z : Linked). z.placed) (option_map (in_colour White) o)) (λ o. option_map (painted White) (option_map (λ (z : Linked). z.placed) o)) old (λ o m. go o)
           ∙ sym (map-map (option_map (painted White)) (option_map (λ (z : Linked). z.placed)) old)));
-      order = ap (λ slots. slot_at (λ (z : Linked). z.order) slots) all ∙ links-white (λ z. z.order) (λ z. refl) old;
-      waiting = ap (λ slots. slot_at (λ (z : Linked). z.waiting) slots) all ∙ links-white (λ z. z.waiting) (λ z. refl) old;
+      links = λ t. ap (links_in t) all ∙ links-white t old;
       capacity = refl;
     }
   where
-    go : (o : Option Linked) → option_map (λ (z : Linked). z.placed) (option_map white_cell o) ≡ option_map (painted White) (option_map (λ (z : Linked). z.placed) o)
+    go : (o : Option Linked) → option_map (λ (z : Linked). z.placed) (option_map (in_colour White) o) ≡ option_map (painted White) (option_map (λ (z : Linked). z.placed) o)
     go None = refl
     go (Some z) = refl
 
 -- one object given a colour
-pub changes-painted : {room : ℕ} (s : Slab Bare) (colours : List Colour) (key : ℕ) (colour : Colour) (b : Bare) → key < length colours → get s key ≡ Some b →
+pub changes-painted : {room : ℕ} (s : Slab Linked) (colours : List Colour) (key : ℕ) (colour : Colour) (b : Linked) → key < length colours → get s key ≡ Some b →
     Changes (coloured_slab room s colours) (coloured_slab room s (set colours key colour)) key (painted colour)
 changes-painted {room} s colours key colour b l at =
     subst (λ slots. Changes (coloured_slab room s colours) (record (coloured_slab room s colours) { slots = slots }) key (painted colour)) (sym (paired-written in_colour White s.slots colours key colour b l at))
     (changes-written (coloured_slab room s colours) key (in_colour (get_or colours key White) b) (in_colour colour b) (painted colour)
-    (paired-at in_colour White s.slots colours key ∙ ap (option_map (in_colour (get_or colours key White))) at) refl refl refl)
+    (paired-at in_colour White s.slots colours key ∙ ap (option_map (in_colour (get_or colours key White))) at) refl (λ t. refl))
 
 -- a label and its content written, where an object stood
-pub changes-bare : {room : ℕ} (s : Slab Bare) (colours : List Colour) (key : ℕ) (b d : Bare) (change : Placed → Placed) → get s key ≡ Some b →
-    (in_colour (get_or colours key White) d).placed ≡ change (in_colour (get_or colours key White) b).placed → d.order ≡ b.order → d.waiting ≡ b.waiting →
+pub changes-bare : {room : ℕ} (s : Slab Linked) (colours : List Colour) (key : ℕ) (b d : Linked) (change : Placed → Placed) → get s key ≡ Some b →
+    (in_colour (get_or colours key White) d).placed ≡ change (in_colour (get_or colours key White) b).placed → ((t : Thread) → link_of t d ≡ link_of t b) →
     Changes (coloured_slab room s colours) (coloured_slab room (record s { slots = set s.slots key (Some d) }) colours) key change
-changes-bare {room} s colours key b d change at e order waiting =
+changes-bare {room} s colours key b d change at e links =
     let colour = get_or colours key White in
     subst (λ slots. Changes (coloured_slab room s colours) (record (coloured_slab room s colours) { slots = slots }) key change) (sym (paired-set in_colour White s.slots colours key (Some d)))
-    (changes-written (coloured_slab room s colours) key (in_colour colour b) (in_colour colour d) change (read-at in_colour White s colours key b at) e order waiting)
+    (changes-written (coloured_slab room s colours) key (in_colour colour b) (in_colour colour d) change (read-at in_colour White s colours key b at) e links)
 
 -- The same of what a contract sees
 
-module _ {room : ℕ} (s : Slab Bare) (colours : List Colour) (now : Slab Linked) (same : coloured_slab room s colours ≡ now) (key : ℕ) where
+module _ {room : ℕ} (s : Slab Linked) (colours : List Colour) (now : Slab Linked) (same : coloured_slab room s colours ≡ now) (key : ℕ) where
   pub held-bare : ContainsKey now key → ContainsKey s key
   held-bare h = held-in in_colour White s colours key (ap (λ (z : Slab Linked). is_some (get z key)) same ∙ h)
 
-  pub read-coloured : (b : Bare) → get s key ≡ Some b → get now key ≡ Some (in_colour (get_or colours key White) b)
+  pub read-coloured : (b : Linked) → get s key ≡ Some b → get now key ≡ Some (in_colour (get_or colours key White) b)
   read-coloured b at = sym (ap (λ (z : Slab Linked). get z key) same) ∙ read-at in_colour White s colours key b at
 
   pub vacant-coloured : get s key ≡ None → get now key ≡ None
   vacant-coloured none = sym (ap (λ (z : Slab Linked). get z key) same) ∙ vacant-at in_colour White s colours key none
 
   -- the colour of what stands there; where something has a colour, something stands
-  pub colour-coloured : (b : Bare) → get s key ≡ Some b → option_map (λ (c : Placed). c.colour) (cell_at (cells_of now.slots) key) ≡ Some (get_or colours key White)
+  pub colour-coloured : (b : Linked) → get s key ≡ Some b → option_map (λ (c : Placed). c.colour) (cell_at (cells_of now.slots) key) ≡ Some (get_or colours key White)
   colour-coloured b at = ap (option_map (λ (c : Placed). c.colour)) (cell-read now.slots key (in_colour (get_or colours key White) b) (read-coloured b at))
 
   pub held-coloured : {colour : Colour} → option_map (λ (c : Placed). c.colour) (cell_at (cells_of now.slots) key) ≡ Some colour → ContainsKey s key
   held-coloured e = held-bare (cell-held now.slots key (sym (is_some-map (λ (c : Placed). c.colour) (cell_at (cells_of now.slots) key)) ∙ ap is_some e))
 
   -- an object made at the key, in a colour
-  pub inserted : {other : ℕ} (mid : Slab Bare) (colours' : List Colour) (b : Bare) (colour : Colour) → Reaches s colours → Updates s mid key (Some b) → get_or colours' key White ≡ colour →
+  pub inserted : {other : ℕ} (mid : Slab Linked) (colours' : List Colour) (b : Linked) (colour : Colour) → Reaches s colours → Updates s mid key (Some b) → get_or colours' key White ≡ colour →
       ((k : ℕ) → k ≢ key → k < length colours → get_or colours' k White ≡ get_or colours k White) → Updates now (coloured_slab other mid colours') key (Some (in_colour colour b))
   inserted {other} mid colours' b colour reaches updates here others =
       let u = updates-made in_colour White s colours key mid colours' b colour reaches updates here others in
       subst (λ z. Updates z (coloured_slab other mid colours') key (Some (in_colour colour b))) same (record { changed = u.changed; others = u.others })
 
   -- the one at the key taken out
-  pub removed : {other : ℕ} (mid : Slab Bare) → Updates s mid key None → Updates now (coloured_slab other mid colours) key None
+  pub removed : {other : ℕ} (mid : Slab Linked) → Updates s mid key None → Updates now (coloured_slab other mid colours) key None
   removed {other} mid updates =
       let u = updates-taken in_colour White s colours key mid updates in
       subst (λ z. Updates z (coloured_slab other mid colours) key None) same (record { changed = u.changed; others = u.others })
 
-  -- links and objects after what stands at the key is written
-  pub link-set : (part : Linked → Option Link) (b d : Bare) → get s key ≡ Some b →
-      slot_at part (coloured (set s.slots key (Some d)) colours) ≡ with_value (slot_at part now.slots) key (part (in_colour (get_or colours key White) d))
-  link-set part b d at =
+  -- the link of one list written
+  relinked : (t : Thread) (link : Option Link) (b d : Linked) → get s key ≡ Some b → (in_colour (get_or colours key White) d).placed ≡ (in_colour (get_or colours key White) b).placed →
+      link_of t d ≡ link → ((u : Thread) → same_thread t u ≡ false → link_of u d ≡ link_of u b) → Relinks t key link now (coloured_slab room (record s { slots = set s.slots key (Some d) }) colours)
+  relinked t link b d at placed here others =
       let colour = get_or colours key White in
-      let there = read-at in_colour White s colours key b at in
-      ap (slot_at part) (paired-set in_colour White s.slots colours key (Some d))
-      ∙ (slot_at-set part (coloured s.slots colours) key (in_colour colour d) (slot_at-live part (coloured s.slots colours) key (ap (λ o. is_some (option_map part o)) there))
-      ∙ ap (λ (z : Slab Linked). with_value (slot_at part z.slots) key (part (in_colour colour d))) same)
-
-  pub link-kept : (part : Linked → Option Link) (b d : Bare) → get s key ≡ Some b → part (in_colour (get_or colours key White) d) ≡ part (in_colour (get_or colours key White) b) →
-      slot_at part (coloured (set s.slots key (Some d)) colours) ≡ slot_at part (coloured s.slots colours)
-  link-kept part b d at e =
-      let colour = get_or colours key White in
-      ap (slot_at part) (paired-set in_colour White s.slots colours key (Some d))
-      ∙ slot_at-kept part (coloured s.slots colours) key (in_colour colour d) (in_colour colour b) (read-at in_colour White s colours key b at) e
-
-  pub object-kept : (b d : Bare) → get s key ≡ Some b → (in_colour (get_or colours key White) d).placed ≡ (in_colour (get_or colours key White) b).placed →
-      cells_of (coloured (set s.slots key (Some d)) colours) ≡ cells_of (coloured s.slots colours)
-  object-kept b d at e =
-      let colour = get_or colours key White in
-      ap cells_of (paired-set in_colour White s.slots colours key (Some d))
-      ∙ parts-kept (λ (z : Linked). z.placed) (coloured s.slots colours) key (in_colour colour d) (in_colour colour b) (read-at in_colour White s colours key b at) e
+      let old = coloured_slab room s colours in
+      subst (λ z. Relinks t key link z (coloured_slab room (record s { slots = set s.slots key (Some d) }) colours)) same
+      (subst (λ slots. Relinks t key link old (record old { slots = slots })) (sym (paired-set in_colour White s.slots colours key (Some d)))
+      (relinks-written old t key (in_colour colour b) (in_colour colour d) link (read-at in_colour White s colours key b at) placed here others))
 
 -- A label with its content
 
@@ -166,12 +148,45 @@ module _ (s : Slab Label) (contents : List Content) (key : ℕ) where
   pub emptied : (content : Content) → get s key ≡ None → filled_slab s (set contents key content) ≡ filled_slab s contents
   emptied content gone = grind (arith, paired-same, set, false≢true, get_or-set_other, eqb_tells)
 
+-- what a list sees of both
+module _ {room : ℕ} (s : Slab Label) (contents : List Content) (colours : List Colour) (now : Slab Linked) (same : coloured_slab room (filled_slab s contents) colours ≡ now) (key : ℕ)
+    (t : Thread) where
+  -- a live key is that of an object
+  pub held-linked : IsTrue (is_live (links_in t now.slots) key) → ContainsKey s key
+  held-linked live = held-label s contents key (held-bare (filled_slab s contents) colours now same key (sym (is_some-map (link_of t) (get now key)) ∙ live))
+
+  module _ (label : Label) (at : get s key ≡ Some label) where
+    abbrev was : Linked
+    was = filled (get_or contents key nothing) label
+
+    -- its link is read,
+    pub read-linked : links_in t now.slots key ≡ Some (link_of t was)
+    read-linked = ap (option_map (link_of t)) (read-coloured (filled_slab s contents) colours now same key was (read-filled s contents key label at))
+
+    -- and written: in a label,
+    pub label-relinked : (link : Option Link) (new : Label) → (filled (get_or contents key nothing) new).placed ≡ was.placed → link_of t (filled (get_or contents key nothing) new) ≡ link →
+        ((u : Thread) → same_thread t u ≡ false → link_of u (filled (get_or contents key nothing) new) ≡ link_of u was) →
+        Relinks t key link now (coloured_slab room (filled_slab (record s { slots = set s.slots key (Some new) }) contents) colours)
+    label-relinked link new placed here others =
+        subst (λ slots. Relinks t key link now (coloured_slab room (record (filled_slab s contents) { slots = slots }) colours)) (sym (paired-set filled nothing s.slots contents key (Some new)))
+        (relinked (filled_slab s contents) colours now same key t link was (filled (get_or contents key nothing) new) (read-filled s contents key label at)
+        (ap (painted (get_or colours key White)) placed) here others)
+
+    -- or in a content
+    pub content-relinked : (link : Option Link) (new : Content) → key < length contents → (filled new label).placed ≡ was.placed → link_of t (filled new label) ≡ link →
+        ((u : Thread) → same_thread t u ≡ false → link_of u (filled new label) ≡ link_of u was) →
+        Relinks t key link now (coloured_slab room (filled_slab s (set contents key new)) colours)
+    content-relinked link new within placed here others =
+        subst (λ z. Relinks t key link now (coloured_slab room z colours)) (sym (content-set s contents key label new within at))
+        (relinked (filled_slab s contents) colours now same key t link was (filled new label) (read-filled s contents key label at)
+        (ap (painted (get_or colours key White)) placed) here others)
+
 -- each that has its content has its colour too
 pub reaches-filled : (s : Slab Label) (contents : List Content) (colours : List Colour) → Reaches s colours → Reaches (filled_slab s contents) colours
 reaches-filled s contents colours reaches key held = reaches key (held-label s contents key held)
 
 -- no object is gray where none may be
-pub gray-nowhere : {room : ℕ} {may_be_gray : Bool} (s : Slab Bare) (colours : List Colour) (now : Slab Linked) (same : coloured_slab room s colours ≡ now) (colour : Colour) → colour ≡ Gray →
+pub gray-nowhere : {room : ℕ} {may_be_gray : Bool} (s : Slab Linked) (colours : List Colour) (now : Slab Linked) (same : coloured_slab room s colours ≡ now) (colour : Colour) → colour ≡ Gray →
     may_be_gray ≡ false → AreGrayNoted may_be_gray colours → (key : ℕ) → ¬ (HasColourAt now colour key)
 gray-nowhere s colours now same colour gray none noted key is =
     let there = is_some-found (get s key) (held-coloured s colours now same key is) in

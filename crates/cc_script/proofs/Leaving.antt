@@ -9,8 +9,10 @@ use Rattle.cc_lists.proofs.Members.{Among-filter, Among-filtered, Among-passes}
 use Rattle.cc_lists.proofs.Filtering.{count_by-filter-le}
 use Rattle.cc_lists.proofs.Searching.{filter-map}
 use Rattle.cc_lists.proofs.ListWrites.{map-agree}
+use Rattle.cc_names.specs.declared.kind.Walked.TheVariants.{Out}
+use Rattle.cc_walk.proofs.Sets.{with_state-other}
 use Rattle.cc_script.specs.Objects.{without_object}
-use Rattle.cc_script.specs.Lists.{Placed, Lists, cell_at, objects_of, taken_out, IsPlaced}
+use Rattle.cc_script.specs.Lists.{Placed, Lists, cell_at, objects_of, placed_or_nothing, shown_at, taken_out, with_key, with_walk, IsPlaced}
 
 module _ (l : Lists) (p : IsPlaced l) (key : ℕ) (c : Placed) (at : cell_at l.cells key ≡ Some c) where
   within : key < length l.cells
@@ -48,5 +50,12 @@ module _ (l : Lists) (p : IsPlaced l) (key : ℕ) (c : Placed) (at : cell_at l.c
     delegated = λ k b e. p.delegated k b (left k b e).1;
   }
 
-  pub objects-left : objects_of (taken_out l key) ≡ without_object (objects_of l) key
+  objects-left : objects_of (taken_out l key) ≡ without_object (objects_of l) key
   objects-left = search (map-agree, other, stayed, filter-map)
+
+  -- however it stood in a walk
+  pub objects-left_out : objects_of (taken_out (with_walk l key Out) key) ≡ without_object (objects_of l) key
+  objects-left_out =
+      map-agree (shown_at (taken_out (with_walk l key Out) key)) (shown_at after) after.order
+      (λ k m. ap (λ walked. with_key k walked (placed_or_nothing (cell_at after.cells k))) (with_state-other l.walks key Out k (stayed k m)))
+      ∙ objects-left

@@ -13,6 +13,7 @@ pub mod Linking
 pub mod Paired
 pub mod Coloured
 pub mod Chained
+pub mod Walked
 pub mod Joining
 pub mod Parting
 pub mod Ordering

@@ -9,12 +9,13 @@ use Rattle.cc_lists.proofs.Counting.{count_by-append, count_by-cons}
 use Rattle.cc_lists.proofs.CountsOf.{count_by-none}
 use Rattle.cc_lists.proofs.ListWrites.{map-agree}
 use Rattle.cc_names.specs.Sizes.{most_slots}
+use Rattle.cc_walk.specs.Walks.{nowhere}
 use Rattle.cc_script.specs.Objects.{FitsKind, FitsDelegate}
 use Rattle.cc_script.specs.Lists.{Placed, Lists, cell_at, with_key, objects_of, made, IsPlaced}
 
 -- no object
 abbrev pub no_lists : Lists
-no_lists = record { cells = []; order = [] }
+no_lists = record { cells = []; order = []; walks = nowhere }
 
 pub IsPlaced-none : IsPlaced no_lists
 IsPlaced-none = grind arith
@@ -55,5 +56,5 @@ module _ (l : Lists) (p : IsPlaced l) (key : ℕ) (d : Placed) (cells : List (Op
     delegated = λ k c e. ⊎_elim (λ t. subst (λ (b : Placed). FitsDelegate b.kind b.delegate) (sym t.1) stands) (λ t. p.delegated k c t) (cases k c e);
   }
 
-  pub objects-made : objects_of (made l cells key) ≡ objects_of l ++ with_key key d ∷ []
+  pub objects-made : objects_of (made l cells key) ≡ objects_of l ++ with_key key (l.walks key) d ∷ []
   objects-made = grind (arith, map-append, map-agree, other)

@@ -10,8 +10,8 @@ module _ (l : Lists) (p : IsPlaced l) (colour : Colour) where
   pub coloured-object : (key : ℕ) → option_map (λ (c : Placed). c.colour) (cell_at l.cells key) ≡ Some colour → (o : Object) × (Among o (objects_of l) × (o.colour ≡ colour))
   coloured-object key e =
       let f = read (cell_at l.cells key) e in
-      let here : shown_at l.cells key ≡ with_key key f.0 = ap (λ c. with_key key (placed_or_nothing c)) f.1.0 in
-      (shown_at l.cells key, (Among-map (shown_at l.cells) key l.order (p.ordered key f.0 f.1.0), ap (λ (z : Object). z.colour) here ∙ f.1.1))
+      let here : shown_at l key ≡ with_key key (l.walks key) f.0 = ap (λ c. with_key key (l.walks key) (placed_or_nothing c)) f.1.0 in
+      (shown_at l key, (Among-map (shown_at l) key l.order (p.ordered key f.0 f.1.0), ap (λ (z : Object). z.colour) here ∙ f.1.1))
     where
       read : (o : Option Placed) → option_map (λ (c : Placed). c.colour) o ≡ Some colour → (c : Placed) × ((o ≡ Some c) × (c.colour ≡ colour))
       read None f = absurd (cc)
@@ -19,7 +19,7 @@ module _ (l : Lists) (p : IsPlaced l) (colour : Colour) where
 
   pub coloured-key : (o : Object) → Among o (objects_of l) → o.colour ≡ colour → (key : ℕ) × (option_map (λ (c : Placed). c.colour) (cell_at l.cells key) ≡ Some colour)
   coloured-key o m is =
-      let k = Among-map_cases (shown_at l.cells) l.order o m in
+      let k = Among-map_cases (shown_at l) l.order o m in
       let f = p.in_order k.0 k.1 in
-      let shown = ap (λ c. (with_key k.0 (placed_or_nothing c)).colour) (sym f.1) ∙ (ap (λ (z : Object). z.colour) k.2 ∙ is) in
+      let shown = ap (λ c. (with_key k.0 (l.walks k.0) (placed_or_nothing c)).colour) (sym f.1) ∙ (ap (λ (z : Object). z.colour) k.2 ∙ is) in
       (k.0, ap (option_map (λ (c : Placed). c.colour)) f.1 ∙ ap Some shown)

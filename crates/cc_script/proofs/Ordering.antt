@@ -13,10 +13,10 @@ use Rattle.cc_script.specs.Lists.{Lists, shown_at, objects_of}
 
 -- they are those of the order,
 pub first-shown : (l : Lists) → first_key (objects_of l) ≡ first_of l.order
-first-shown l = first_key-map (λ (o : Object). o.key) (shown_at l.cells) l.order ∙ first_key-of l.order
+first-shown l = first_key-map (λ (o : Object). o.key) (shown_at l) l.order ∙ first_key-of l.order
 
 pub behind-shown : (l : Lists) (key : ℕ) → key_after (objects_of l) key ≡ first_of (behind key l.order)
-behind-shown l key = next_key-map (λ (o : Object). o.key) (shown_at l.cells) l.order key ∙ next_key-behind l.order key
+behind-shown l key = next_key-map (λ (o : Object). o.key) (shown_at l) l.order key ∙ next_key-behind l.order key
 
 -- and of objects that are there
 stands : (objects : List Object) (key : ℕ) → (o : Object) × Among o objects × (o.key ≡ key) → is_there objects key ≡ true

@@ -20,10 +20,10 @@ module _ (l : Lists) (cells : List (Option Placed)) (e : cells ≡ all_white l.c
   was : (key : ℕ) (c : Placed) → cell_at cells key ≡ Some c → (d : Placed) × ((cell_at l.cells key ≡ Some d) × (c ≡ painted White d))
   was key c f = grind (arith, at)
 
-  pub objects-whitened : objects_of (record { cells = cells; order = l.order }) ≡ whitened (objects_of l)
+  pub objects-whitened : objects_of (record l { cells = cells }) ≡ whitened (objects_of l)
   objects-whitened = grind (arith, map-agree, at, map-map)
 
-  pub IsPlaced-whitened : IsPlaced l → IsPlaced (record { cells = cells; order = l.order })
+  pub IsPlaced-whitened : IsPlaced l → IsPlaced (record l { cells = cells })
   IsPlaced-whitened p = record {
     in_order = λ key m. let f = p.in_order key m in (painted White f.0, at key ∙ ap (option_map (painted White)) f.1);
     ordered = λ key c f. let w = was key c f in p.ordered key w.0 w.1.0;

@@ -11,13 +11,13 @@ use Rattle.cc_script.proofs.Reading.{held_key}
 
 module _ (l : Lists) (p : IsPlaced l) (key : ℕ) (c : Placed) (at : cell_at l.cells key ≡ Some c) (i : ℕ) (x : Option ℕ) (cells : List (Option Placed))
     (e : cells ≡ set l.cells key (option_map (written i x) (cell_at l.cells key))) where
-  lists : with_cell l key (Some (written i x c)) ≡ record { cells = cells; order = l.order }
-  lists = ap (λ cs. record { cells = cs; order = l.order }) (sym (e ∙ ap (λ o. set l.cells key (option_map (written i x) o)) at))
+  lists : with_cell l key (Some (written i x c)) ≡ record l { cells = cells }
+  lists = ap (λ cs. record l { cells = cs }) (sym (e ∙ ap (λ o. set l.cells key (option_map (written i x) o)) at))
 
-  pub IsPlaced-written : IsPlaced (record { cells = cells; order = l.order })
+  pub IsPlaced-written : IsPlaced (record l { cells = cells })
   IsPlaced-written = subst IsPlaced lists (IsPlaced-changed l p key c (written i x c) at (subst (λ n. n ≤ most_slots) (sym (length-set c.slots i x)) (p.small key c at)) (p.reflected key c at) (p.delegated key c at))
 
-  pub objects-written : objects_of (record { cells = cells; order = l.order }) ≡ change_object (objects_of l) key (with_slot i x)
+  pub objects-written : objects_of (record l { cells = cells }) ≡ change_object (objects_of l) key (with_slot i x)
   objects-written = ap objects_of (sym lists) ∙ objects-changed l p key c (written i x c) at (with_slot i x) refl
 
 -- what holds of an item holds of the key that it is

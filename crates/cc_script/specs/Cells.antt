@@ -1,6 +1,5 @@
--- AN OBJECT AT ITS KEY, with its neighbours in two lists: all objects in order of making, and those that a walk has yet to
--- look into. What a walk looks at, and the colour, stand apart, at the same key.
-use Rattle.std.specs.Prelude.{◌≡◌, ◌≢◌, Bool, false, ℕ, List, [], get_or, map, Option, Some, None, option_map, slice_set}
+-- AN OBJECT AT ITS KEY, with its neighbours in each list. What a walk looks at, and the colour, stand apart, at the same key.
+use Rattle.std.specs.Prelude.{◌≡◌, ◌≢◌, Bool, true, false, ℕ, List, [], get_or, map, Option, Some, None, option_map, slice_set}
 use Rattle.slab.specs.Slab.{Slab, get}
 use Rattle.cc_names.specs.declared.name.Name.{Name}
 use Rattle.cc_names.specs.declared.kind.Kind.{Kind}
@@ -12,21 +11,17 @@ use Rattle.cc_chain.specs.Links.{Links}
 use Rattle.cc_chain.specs.Stores.{slot_at}
 use Rattle.cc_script.specs.Lists.{Placed, cell_at, painted}
 use Rattle.cc_script.specs.Paired.{Reaches, paired_slab}
+use Rattle.cc_script.specs.Threads.{Thread, same_thread, threaded}
 
 pub record Linked : Type 0 where
   pub placed : Placed
   pub order : Option Link
   pub waiting : Option Link
+  pub walk : Option Link
 
--- the same without the colour
-pub record Bare : Type 0 where
-  pub name : Name
-  pub kind : Kind
-  pub native : Option ℕ
-  pub delegate : Option ℕ
-  pub slots : List (Option ℕ)
-  pub order : Option Link
-  pub waiting : Option Link
+-- its links, by list
+abbrev pub link_of : Thread → Linked → Option Link
+link_of t c = threaded c.order c.waiting c.walk t
 
 -- what stands in the slab, and what a walk looks at, which stands apart
 pub record Label : Type 0 where
@@ -35,6 +30,7 @@ pub record Label : Type 0 where
   pub native : Option ℕ
   pub delegate : Option ℕ
   pub order : Option Link
+  pub walk : Option Link
 
 pub record Content : Type 0 where
   pub slots : List (Option ℕ)
@@ -44,31 +40,31 @@ pub record Content : Type 0 where
 abbrev pub nothing : Content
 nothing = record { slots = []; is_proxy = false; waiting = None }
 
--- the delegate stands with the label, and counts where the content says so
-abbrev pub filled : Content → Label → Bare
+-- both as one, without a colour yet. The delegate stands with the label, and counts where the content says so
+abbrev pub filled : Content → Label → Linked
 filled content label = record {
-  name = label.name;
-  kind = label.kind;
-  native = label.native;
-  delegate = where_set content.is_proxy label.delegate;
-  slots = content.slots;
+  placed = record {
+    name = label.name;
+    kind = label.kind;
+    native = label.native;
+    delegate = where_set content.is_proxy label.delegate;
+    slots = content.slots;
+    colour = White;
+  };
   order = label.order;
   waiting = content.waiting;
+  walk = label.walk;
 }
 
-abbrev pub in_colour : Colour → Bare → Linked
-in_colour colour b = record {
-  placed = record { name = b.name; kind = b.kind; native = b.native; delegate = b.delegate; slots = b.slots; colour = colour };
-  order = b.order;
-  waiting = b.waiting;
-}
+abbrev pub in_colour : Colour → Linked → Linked
+in_colour colour z = record z { placed = painted colour z.placed }
 
 -- the labels with their contents
-abbrev pub filled_slab : Slab Label → List Content → Slab Bare
+abbrev pub filled_slab : Slab Label → List Content → Slab Linked
 filled_slab s contents = paired_slab filled nothing s contents
 
 -- and with their colours; `room` is what all three parts can hold together, without memory
-abbrev pub coloured_slab : ℕ → Slab Bare → List Colour → Slab Linked
+abbrev pub coloured_slab : ℕ → Slab Linked → List Colour → Slab Linked
 coloured_slab room s colours = record (paired_slab in_colour White s colours) { capacity = room }
 
 -- none of these colours is gray, where none may be
@@ -86,37 +82,36 @@ pub record HaveAll (s : Slab Label) (contents : List Content) (colours : List Co
 abbrev pub cells_of : List (Option Linked) → List (Option Placed)
 cells_of slots = map (option_map (λ c. c.placed)) slots
 
--- the links of each list
-abbrev pub order_links : List (Option Linked) → Links
-order_links slots = slot_at (λ c. c.order) slots
+-- the links of a list
+abbrev pub links_in : Thread → List (Option Linked) → Links
+links_in t slots = slot_at (link_of t) slots
 
-abbrev pub waiting_links : List (Option Linked) → Links
-waiting_links slots = slot_at (λ c. c.waiting) slots
+abbrev pub no_links : Links
+no_links key = None
 
--- WHAT THE SLAB HOLDS BESIDE the links of one list
+abbrev pub unless : Bool → Links → Links
+unless true links = no_links
+unless false links = links
+
+-- WHAT THE SLAB HOLDS BESIDE the links of one list: the objects, and the links of every other list
 pub record Beside : Type 0 where
   pub cells : List (Option Placed)
-  pub other : Links
+  pub others : Thread → Links
   pub capacity : ℕ
 
-abbrev pub beside_order : Slab Linked → Beside
-beside_order s = record { cells = cells_of s.slots; other = waiting_links s.slots; capacity = s.capacity }
-
-abbrev pub beside_waiting : Slab Linked → Beside
-beside_waiting s = record { cells = cells_of s.slots; other = order_links s.slots; capacity = s.capacity }
+abbrev pub beside : Thread → Slab Linked → Beside
+beside t s = record { cells = cells_of s.slots; others = λ u. unless (same_thread t u) (links_in u s.slots); capacity = s.capacity }
 
 -- THE OBJECT AT A KEY CHANGED, and nothing else
 pub record Changes (old new : Slab Linked) (key : ℕ) (change : Placed → Placed) : Type 0 where
   pub cells : cells_of new.slots ≡ slice_set (cells_of old.slots) key (option_map change (cell_at (cells_of old.slots) key))
-  pub order : order_links new.slots ≡ order_links old.slots
-  pub waiting : waiting_links new.slots ≡ waiting_links old.slots
+  pub links : (t : Thread) → links_in t new.slots ≡ links_in t old.slots
   pub capacity : new.capacity ≡ old.capacity
 
 -- ALL OBJECTS MADE WHITE, and nothing else
 pub record Whitens (old new : Slab Linked) : Type 0 where
   pub cells : cells_of new.slots ≡ map (option_map (painted White)) (cells_of old.slots)
-  pub order : order_links new.slots ≡ order_links old.slots
-  pub waiting : waiting_links new.slots ≡ waiting_links old.slots
+  pub links : (t : Thread) → links_in t new.slots ≡ links_in t old.slots
   pub capacity : new.capacity ≡ old.capacity
 
 -- an object of a colour stands at a key

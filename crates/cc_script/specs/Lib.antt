@@ -5,6 +5,7 @@ pub mod Lists
 pub mod ColourOrder
 pub mod Marking
 pub mod Paired
+pub mod Threads
 pub mod Cells
 pub mod Parts
 pub mod Staying

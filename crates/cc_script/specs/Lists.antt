@@ -6,8 +6,10 @@ use Rattle.cc_names.specs.declared.kind.Kind.{Kind}
 use Rattle.cc_names.specs.declared.kind.Kind.TheVariants.{Plain}
 use Rattle.cc_names.specs.declared.kind.Colour.{Colour}
 use Rattle.cc_names.specs.declared.kind.Colour.TheVariants.{White}
+use Rattle.cc_names.specs.declared.kind.Walked.{Walked}
 use Rattle.cc_names.specs.Names.{object}
 use Rattle.cc_names.specs.Sizes.{most_slots}
+use Rattle.cc_walk.specs.Walks.{Walks, with_state}
 use Rattle.cc_script.specs.Objects.{Object, FitsKind, FitsDelegate}
 
 -- an object as it stands at its key: what its slots hold, and its delegate, by keys
@@ -19,10 +21,11 @@ pub record Placed : Type 0 where
   pub slots : List (Option ℕ)
   pub colour : Colour
 
--- the objects by key, and their keys in order of making
+-- the objects by key, their keys in order of making, and how each key stands in a walk over both heaps
 pub record Lists : Type 0 where
   pub cells : List (Option Placed)
   pub order : List ℕ
+  pub walks : Walks
 
 -- the object at a key
 abbrev pub cell_at : List (Option Placed) → ℕ → Option Placed
@@ -48,16 +51,25 @@ placed_or_nothing (Some c) = c
 abbrev pub slots_placed : Option Placed → List (Option ℕ)
 slots_placed o = (placed_or_nothing o).slots
 
--- an object with its key
-abbrev pub with_key : ℕ → Placed → Object
-with_key key c = record { key = key; name = c.name; kind = c.kind; native = c.native; delegate = c.delegate; slots = c.slots; colour = c.colour }
+-- an object with its key, and how it stands in a walk
+abbrev pub with_key : ℕ → Walked → Placed → Object
+with_key key walked c = record {
+  key = key;
+  name = c.name;
+  kind = c.kind;
+  native = c.native;
+  delegate = c.delegate;
+  slots = c.slots;
+  colour = c.colour;
+  walked = walked;
+}
 
-abbrev pub shown_at : List (Option Placed) → ℕ → Object
-shown_at cells key = with_key key (placed_or_nothing (cell_at cells key))
+abbrev pub shown_at : Lists → ℕ → Object
+shown_at l key = with_key key (l.walks key) (placed_or_nothing (cell_at l.cells key))
 
 -- WHAT THE LISTS SHOW
 abbrev pub objects_of : Lists → List Object
-objects_of l = map (shown_at l.cells) l.order
+objects_of l = map (shown_at l) l.order
 
 -- THE LISTS FIT TOGETHER: the order has the keys of the objects, each once, no object has more slots than are allowed, exactly
 -- reflectors have a native, and exactly proxies have a delegate
@@ -71,12 +83,16 @@ pub record IsPlaced (l : Lists) : Type 0 where
 
 -- the lists with the object at a key changed
 abbrev pub with_cell : Lists → ℕ → Option Placed → Lists
-with_cell l key o = record { cells = slice_set l.cells key o; order = l.order }
+with_cell l key o = record l { cells = slice_set l.cells key o }
 
 -- with the object at a key made, which stands in these cells
 abbrev pub made : Lists → List (Option Placed) → ℕ → Lists
-made l cells key = record { cells = cells; order = l.order ++ key ∷ [] }
+made l cells key = record l { cells = cells; order = l.order ++ key ∷ [] }
 
 -- with the object at a key taken out
 abbrev pub taken_out : Lists → ℕ → Lists
-taken_out l key = record { cells = slice_set l.cells key None; order = without ◌==◌ key l.order }
+taken_out l key = record l { cells = slice_set l.cells key None; order = without ◌==◌ key l.order }
+
+-- with the key standing otherwise in a walk
+abbrev pub with_walk : Lists → ℕ → Walked → Lists
+with_walk l key state = record l { walks = with_state l.walks key state }

@@ -1,14 +1,17 @@
 -- THE SCRIPT OBJECTS AS A LIST, in order of making; each stands at a key, and its slots hold keys. A reflector has the
 -- key of its native, which stands in a heap of its own, and a proxy has the key of its delegate, a script object.
-use Rattle.std.specs.Prelude.{◌≡◌, ◌↔◌, IsSome, IsTrue, ℕ, ◌==◌, Bool, true, false, not, List, [], map, filter, find, replicate, Option, Some, None, is_some, option_map, option_and_then, slice_set, if◌then◌else◌}
+use Rattle.std.specs.Prelude.{◌≡◌, ◌≢◌, ◌↔◌, IsSome, IsTrue, ℕ, ◌==◌, Bool, true, false, not, List, [], map, filter, find, replicate, Option, Some, None, is_some, option_map, option_and_then, slice_set, if◌then◌else◌}
 use Rattle.cc_names.specs.Places.{script_places}
 use Rattle.cc_lists.specs.Members.{Among, has}
 use Rattle.cc_lists.specs.Walks as walks
+use Rattle.cc_walk.specs.Walks.{entered}
 use Rattle.cc_names.specs.declared.name.Name.{Name}
 use Rattle.cc_names.specs.declared.kind.Kind.{Kind}
 use Rattle.cc_names.specs.declared.kind.Kind.TheVariants.{Plain, Reflector, Map, Proxy}
 use Rattle.cc_names.specs.declared.kind.Colour.{Colour}
 use Rattle.cc_names.specs.declared.kind.Colour.TheVariants.{White, Gray, Black}
+use Rattle.cc_names.specs.declared.kind.Walked.{Walked}
+use Rattle.cc_names.specs.declared.kind.Walked.TheVariants.{Out, Waiting}
 use Rattle.cc_names.specs.Names.{object, reflector}
 use Rattle.cc_names.specs.Places.{script_places}
 
@@ -20,6 +23,7 @@ pub record Object : Type 0 where
   pub delegate : Option ℕ
   pub slots : List (Option ℕ)
   pub colour : Colour
+  pub walked : Walked
 
 -- EXACTLY A REFLECTOR has a native
 abbrev pub FitsKind : Kind → Option ℕ → Type 0
@@ -29,9 +33,9 @@ FitsKind kind native = IsSome native ↔ (kind ≡ Reflector)
 abbrev pub FitsDelegate : Kind → Option ℕ → Type 0
 FitsDelegate kind delegate = IsSome delegate ↔ (kind ≡ Proxy)
 
--- an object as it is made: black, so many slots empty
+-- an object as it is made: black, so many slots empty, and in no walk
 abbrev pub new_object : ℕ → Name → Kind → Option ℕ → Option ℕ → ℕ → Object
-new_object key name kind native delegate slots = record { key = key; name = name; kind = kind; native = native; delegate = delegate; slots = replicate slots None; colour = Black }
+new_object key name kind native delegate slots = record { key = key; name = name; kind = kind; native = native; delegate = delegate; slots = replicate slots None; colour = Black; walked = Out }
 
 -- a plain object with its number
 abbrev pub plain_object : ℕ → ℕ → ℕ → Object
@@ -69,6 +73,10 @@ kind_at objects key = option_map (λ o. o.kind) (object_at objects key)
 
 abbrev pub colour_at : List Object → ℕ → Option Colour
 colour_at objects key = option_map (λ o. o.colour) (object_at objects key)
+
+-- how it stands in a walk over both heaps
+abbrev pub walked_at : List Object → ℕ → Option Walked
+walked_at objects key = option_map (λ o. o.walked) (object_at objects key)
 
 -- the key of the native of a reflector
 abbrev pub native_at : List Object → ℕ → Option ℕ
@@ -125,6 +133,22 @@ with_slot i x o = record o { slots = slice_set o.slots i x }
 
 abbrev pub with_colour : Colour → Object → Object
 with_colour colour o = record o { colour = colour }
+
+-- it stands otherwise in a walk
+abbrev pub with_walked : Walked → Object → Object
+with_walked state o = record o { walked = state }
+
+-- it comes into the walk and waits, where it was not in it
+abbrev pub entering : Object → Object
+entering o = with_walked (entered o.walked) o
+
+-- none is in a walk
+abbrev pub unwalked : List Object → List Object
+unwalked objects = map (with_walked Out) objects
+
+-- none waits in it
+abbrev pub NoObjectWaits : List Object → Type 0
+NoObjectWaits objects = (o : Object) → Among o objects → o.walked ≢ Waiting
 
 -- the object at a key taken out
 abbrev pub without_object : List Object → ℕ → List Object

@@ -16,10 +16,12 @@ pub(crate) struct Cell {
     pub(crate) being: Being,
     /// Its neighbours in order of making.
     pub(crate) order: Neighbours,
+    /// Its neighbours in a walk over both heaps, while it is in it.
+    pub(crate) walk: Neighbours,
 }
 
 // the slab adds 8 bytes to each
-const _: () = prove!(size_of::<Cell>() == 24);
+const _: () = prove!(size_of::<Cell>() == 36);
 
 impl Model for Cell {
     ghost use Rattle.cc_script.specs.Beings.{delegate_key_of, kind_of, name_of, native_key_of};
@@ -33,6 +35,7 @@ impl Model for Cell {
       native = native_key_of c.being;
       delegate = delegate_key_of c.being;
       order = c.order;
+      walk = c.walk;
     } };
 }
 
@@ -43,7 +46,7 @@ pub(crate) struct Body {
     pub(crate) slots: Vec<Option<SKey>>,
     /// Whether it is a proxy, which leads to its delegate too: so a walk asks of no other object what it is.
     pub(crate) is_proxy: bool,
-    /// Its neighbours among those that a walk has yet to look into, while it is one of them.
+    /// Its neighbours among those that marking has yet to look into, while it is one of them.
     pub(crate) waiting: Neighbours,
 }
 

@@ -1,6 +1,6 @@
 //! The objects by key: what they are, and apart from that what a walk looks at, and their colours.
 //!
-//! A marking reads and writes bodies and colours alone, at 41 bytes an object, and what else is known of it, at 32, stays
+//! A marking reads and writes bodies and colours alone, at 41 bytes an object, and what else is known of it, at 44, stays
 //! where it is. Making all white, and the look for objects of a colour, go over the colours alone, which stand
 //! together, a byte each: so a heap that lives is marked without a walk over its objects before and after.
 ghost use Rattle.std.specs.Prelude.{◌≡◌, ◌≢◌, ◌↔◌, ◌<◌, ◌≤◌, ℕ, [], Some, get_or, is_some, length, option_map, slice_set, IfOk, IsSome, IsTrue, false, OnErr, OnOk};

@@ -14,8 +14,9 @@
 //! No object that isn't white holds one of a lower colour. So a walk may stop at each object that has the colour to which
 //! it raises.
 //!
-//! Each object has its neighbours in order of making and in the list of those that a walk has yet to look into. So a
-//! call that makes an object takes the object's own memory, and no other call takes any, at any depth; and an object
+//! Each object has its neighbours in order of making, in the list of those that marking has yet to look into, and in a
+//! set for walks over both heaps (`walk_clear`, `walk_add`, `walk_next`, `walked`), which it leaves as it leaves this heap.
+//! So a call that makes an object takes the object's own memory, and no other call takes any, at any depth; and an object
 //! leaves, and the next one is found, by a look at its neighbours alone.
 #![tactic(auto)]
 

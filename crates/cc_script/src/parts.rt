@@ -1,11 +1,13 @@
 //! The parts of the script heap, and the walk that raises colours.
-ghost use Rattle.std.specs.Prelude.{◌≡◌, ◌↔◌, ℕ, ◌<◌, ◌≤◌, false, List, [], ◌∷◌, ◌++◌, length, Some, None, IfOk, IfSome, IsTrue, OnErr, option_map, replicate, slice_index_or, vec_capacity};
+ghost use Rattle.std.specs.Prelude.{◌≡◌, ◌↔◌, ℕ, ◌<◌, ◌≤◌, false, List, [], ◌∷◌, ◌++◌, length, Some, None, IfNone, IfOk, IfSome, IsTrue, OnErr, option_map, replicate, slice_index_or, vec_capacity};
 ghost use Rattle.cc_lists.specs.Members.{Among};
 ghost use Rattle.cc_names.specs.declared.kind.Colour.{Colour};
 ghost use Rattle.cc_names.specs.declared.kind.Colour.TheVariants.{White, Black};
+ghost use Rattle.cc_names.specs.declared.kind.Walked.TheVariants.{Given, Waiting as WaitingState};
 ghost use Rattle.cc_names.specs.Sizes.{most_slots};
+ghost use Rattle.cc_walk.specs.Walks.{is_walked};
 ghost use Rattle.cc_script.specs.Beings.{delegate_key_of, kind_of, name_of, native_key_of};
-ghost use Rattle.cc_script.specs.Objects.{Object, AreWhole, IsNotBelow, change_object, colour_at, first_key, is_there, key_after, new_object, places_at, raised_among, slots_at, whitened, with_slot, without_object};
+ghost use Rattle.cc_script.specs.Objects.{Object, AreWhole, IsNotBelow, NoObjectWaits, change_object, colour_at, entering, first_key, is_there, key_after, new_object, places_at, raised_among, slots_at, unwalked, walked_at, whitened, with_slot, with_walked, without_object};
 ghost use Rattle.cc_lists.specs.Walks.{first_of};
 ghost use Rattle.cc_script.specs.Underway.{with_first_looked_into};
 ghost use Rattle.cc_script.specs.Walking.{keys_reached};
@@ -16,19 +18,22 @@ ghost use Rattle.cc_script.specs.Marking.{raise_each, raise_key, raise_slot};
 use crate::being::Being;
 use crate::cell::{Body, Cell, is_below};
 use crate::cells::Cells;
-use crate::links::{Order, Waiting};
+use crate::links::{Order, Waiting, Walking};
 use cc_chain::{Chain, Neighbours};
 use cc_names::{Colour, NoMemory, SKey, SlotNo};
+use cc_walk::WalkList;
 use std::alloc::Global;
 
-/// The objects by key, their list in order of making, and the list of those that a walk raised and has not looked into.
+/// The objects by key, their list in order of making, the list of those that a marking raised and has not looked into, and
+/// those that a walk over both heaps came to.
 ///
-/// Both lists go through the objects, so the objects alone take memory.
+/// Each list goes through the objects, so the objects alone take memory.
 #[derive(Drop)]
 pub(crate) struct ScriptParts {
     cells: Cells,
     order: Chain<Order>,
     waiting: Chain<Waiting>,
+    walk: WalkList<Walking>,
 }
 
 impl ScriptParts {
@@ -43,6 +48,7 @@ impl ScriptParts {
             cells: Cells::new(alloc),
             order: Chain::new(),
             waiting: Chain::new(),
+            walk: WalkList::new(),
         }
     }
 
@@ -66,6 +72,7 @@ impl ScriptParts {
         let cell = Cell {
             being,
             order: Neighbours::of(None),
+            walk: Neighbours::of(None),
         };
         let body = Body {
             slots: empty,
@@ -187,8 +194,48 @@ impl ScriptParts {
         ensures shows { shows self.new ≡ without_object (shows self.old) key.0 }
         ensures at_rest { IsAtRest self.new }
     {
+        self.walk.leave(&mut self.cells, key.0);
         self.order.unlink_at(&mut self.cells, key.0);
         self.cells.remove(key.0);
+    }
+
+    /// No object is in the walk then.
+    pub(crate) fn walk_clear(&mut self)
+        requires at_rest { IsAtRest self.old }
+        ensures shows { shows self.new ≡ unwalked (shows self.old) }
+        ensures at_rest { IsAtRest self.new }
+    {
+        while self.walk.take_first(&mut self.cells).is_some() {}
+    }
+
+    /// The object at a key comes into the walk and waits, where it was not in it.
+    pub(crate) fn walk_add(&mut self, key: SKey)
+        requires at_rest { IsAtRest self.old }
+        requires live { IsTrue (is_there (shows self.old) key.0) }
+        ensures shows { shows self.new ≡ change_object (shows self.old) key.0 entering }
+        ensures at_rest { IsAtRest self.new }
+    {
+        self.walk.add(&mut self.cells, key.0);
+    }
+
+    /// One that waits, which is given from then on; none exactly where none waits.
+    pub(crate) fn walk_next(&mut self) -> Option<SKey>
+        requires at_rest { IsAtRest self.old }
+        ensures some { IfSome result (λ k. (walked_at (shows self.old) k.0 ≡ Some WaitingState) × (shows self.new ≡ change_object (shows self.old) k.0 (with_walked Given))) }
+        ensures none { IfNone result (NoObjectWaits (shows self.old) × (shows self.new ≡ shows self.old)) }
+        ensures at_rest { IsAtRest self.new }
+    {
+        let key = self.walk.give(&self.cells)?;
+        Some(SKey(key))
+    }
+
+    /// Whether the object at a key is in the walk.
+    pub(crate) fn walked(&self, key: SKey) -> bool
+        requires at_rest { IsAtRest self.now }
+        requires live { IsTrue (is_there (shows self.now) key.0) }
+        ensures { option_map is_walked (walked_at (shows self.now) key.0) ≡ Some result }
+    {
+        self.walk.holds(&self.cells, key.0)
     }
 
     /// Raises the object at a key where it is below `to`; it waits last then.

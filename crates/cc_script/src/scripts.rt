@@ -1,10 +1,12 @@
 //! The script heap as callers see it.
-ghost use Rattle.std.specs.Prelude.{◌≡◌, ◌↔◌, ◌<◌, ◌≤◌, false, List, [], ◌∷◌, ◌++◌, length, Some, None, option_map, slice_index_or, IsSome, IsTrue, IfSome, IfOk, OnOk, OnErr};
+ghost use Rattle.std.specs.Prelude.{◌≡◌, ◌↔◌, ◌<◌, ◌≤◌, false, List, [], ◌∷◌, ◌++◌, length, Some, None, option_map, slice_index_or, IsSome, IsTrue, IfNone, IfSome, IfOk, OnOk, OnErr};
 ghost use Rattle.cc_lists.specs.Members.{Among};
 ghost use Rattle.cc_names.specs.declared.kind.Colour.TheVariants.{White, Black};
 ghost use Rattle.cc_names.specs.declared.kind.Kind.TheVariants.{Proxy, Reflector};
+ghost use Rattle.cc_names.specs.declared.kind.Walked.TheVariants.{Given, Waiting};
 ghost use Rattle.cc_names.specs.Sizes.{most_slots};
-ghost use Rattle.cc_script.specs.Objects.{Object, AreWhole, HaveOwnKeys, change_object, colour_at, delegate_at, first_key, is_there, key_after, kind_at, map_object, name_at, native_at, plain_object, proxy_object, reflector_object, raised_among, slots_at, whitened, with_slot, without_object, IsNotBelow};
+ghost use Rattle.cc_walk.specs.Walks.{is_walked};
+ghost use Rattle.cc_script.specs.Objects.{Object, AreWhole, HaveOwnKeys, NoObjectWaits, change_object, colour_at, delegate_at, entering, first_key, is_there, key_after, kind_at, map_object, name_at, native_at, plain_object, proxy_object, reflector_object, raised_among, slots_at, unwalked, walked_at, whitened, with_slot, with_walked, without_object, IsNotBelow};
 ghost use Rattle.cc_script.specs.Walking.{keys_reached};
 
 use crate::being::Being;
@@ -252,6 +254,37 @@ impl Scripts {
         ensures { self.new ≡ raised_among (keys_reached self.old (key.0 ∷ [])) Black self.old }
     {
         self.parts.mark_from(key, Colour::Black);
+    }
+
+    /// Empties the walk: no object is in it then. Takes time by those that were.
+    pub fn walk_clear(&mut self)
+        ensures { self.new ≡ unwalked self.old }
+    {
+        self.parts.walk_clear();
+    }
+
+    /// An object is in the walk: it stays as it stands there, or comes in and waits to be given.
+    pub fn walk_add(&mut self, key: SKey)
+        requires live { IsTrue (is_there self.old key.0) }
+        ensures { self.new ≡ change_object self.old key.0 entering }
+    {
+        self.parts.walk_add(key);
+    }
+
+    /// An object of the walk that was not given yet, and is from then on; none exactly where there is none.
+    pub fn walk_next(&mut self) -> Option<SKey>
+        ensures some { IfSome result (λ k. (walked_at self.old k.0 ≡ Some Waiting) × (self.new ≡ change_object self.old k.0 (with_walked Given))) }
+        ensures none { IfNone result (NoObjectWaits self.old × (self.new ≡ self.old)) }
+    {
+        self.parts.walk_next()
+    }
+
+    /// Whether an object is in the walk, given or not.
+    pub fn walked(&self, key: SKey) -> bool
+        requires live { IsTrue (is_there self.now key.0) }
+        ensures { option_map is_walked (walked_at self.now key.0) ≡ Some result }
+    {
+        self.parts.walked(key)
     }
 
     /// Takes out an object that is white. White objects that hold it hold its key still, which is then that of none.

@@ -16,4 +16,6 @@ mod pages;
 #[cfg(test)]
 mod pool;
 #[cfg(test)]
+mod scripts;
+#[cfg(test)]
 mod weakmaps;

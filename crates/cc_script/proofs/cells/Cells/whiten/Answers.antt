@@ -16,7 +16,6 @@ returns c =
     (whitens-all s c.self.inside.colours.items _)) in
     record {
       cells = whitens.cells;
-      order = whitens.order;
-      waiting = whitens.waiting;
+      links = whitens.links;
       capacity = ap (λ n. others + n) c.fill.ensures.capacity ∙ ap (λ (z : Slab Linked). z.capacity) c.self.view_is;
     }

@@ -1,4 +1,4 @@
-use Rattle.std.proofs.Common.{◌+◌, List, Option, length, map, get_or, refl, ap, sym, subst, ◌∙◌, arith}
+use Rattle.std.proofs.Common.{◌+◌, List, Option, length, map, get_or, ap, sym, subst, ◌∙◌, arith}
 use Rattle.std.specs.Prelude.{vec_capacity}
 use Rattle.std.proofs.Math.ListN.{set}
 use Rattle.std.proofs.lemmas.List.{get_or_default, length-map, map-set}
@@ -6,7 +6,8 @@ use Rattle.cc_lists.proofs.Held.{is_some-found}
 use Rattle.slab.specs.Slab.{Slab, get}
 use Rattle.cc_names.specs.declared.kind.Colour.TheVariants.{White}
 use Rattle.cc_script.specs.Lists.{slots_placed, written}
-use Rattle.cc_script.specs.Cells.{Bare, Changes, Content, Linked, coloured_slab, filled, filled_slab, in_colour, nothing}
+use Rattle.cc_script.specs.Threads.{threaded}
+use Rattle.cc_script.specs.Cells.{Changes, Content, Linked, coloured_slab, filled, filled_slab, in_colour, nothing}
 use Rattle.cc_script.proofs.Reading.{held_key}
 use Rattle.cc_script.proofs.Linking.{cell-held, cell-read}
 use Rattle.cc_script.proofs.Coloured.{changes-bare, content-set, held-bare, held-label, read-coloured, read-filled}
@@ -61,10 +62,9 @@ returns c =
     let seen = c.body.view_is ∙ (c.index_mut-body.ensures.value ∙ get_or_default contents c.args.key.0 c.index_mut-body.result.now nothing within) in
     record {
       changes = subst (λ (z : Slab Linked). Changes z (coloured_slab room (filled_slab s (set contents c.args.key.0 new)) colours) c.args.key.0 (written c.args.i x)) c.self.view_is
-          (subst (λ (z : Slab Bare). Changes (coloured_slab room f colours) (coloured_slab room z colours) c.args.key.0 (written c.args.i x)) (sym (content-set s contents c.args.key.0 there.0 new within there.1))
+          (subst (λ (z : Slab Linked). Changes (coloured_slab room f colours) (coloured_slab room z colours) c.args.key.0 (written c.args.i x)) (sym (content-set s contents c.args.key.0 there.0 new within there.1))
           (changes-bare f colours c.args.key.0 b d (written c.args.i x) (read-filled s contents c.args.key.0 there.0 there.1)
           (ap (λ ys. (in_colour colour (filled (content ys) there.0)).placed) (map-set held_key c.body.inside.slots.items c.args.i c.args.item)
           ∙ ap (λ (w : Content). written c.args.i x (in_colour colour (filled w there.0)).placed) seen)
-          refl
-          (ap (λ (w : Content). w.waiting) seen)));
+          (λ t. ap (λ (w : Content). threaded there.0.order w.waiting there.0.walk t) seen)));
     }

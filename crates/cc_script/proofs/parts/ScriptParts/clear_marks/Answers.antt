@@ -11,14 +11,14 @@ pub returns-clause-shows : goal.returns-clause-shows
 returns-clause-shows c =
     let p = c.args.self.now in
     let whitens = c.whiten.ensures in
-    ap objects_of (lists-kept p c.requires.at_rest.chained c.whiten.new.self whitens.order whitens.waiting).lists
+    ap objects_of (lists-kept p c.requires.at_rest.chained c.whiten.new.self whitens.links).lists
     ∙ objects-whitened (lists_of p) _ whitens.cells
 
 pub returns-clause-at_rest : goal.returns-clause-at_rest
 returns-clause-at_rest c =
     let p = c.args.self.now in
     let whitens = c.whiten.ensures in
-    let a = lists-kept p c.requires.at_rest.chained c.whiten.new.self whitens.order whitens.waiting in
+    let a = lists-kept p c.requires.at_rest.chained c.whiten.new.self whitens.links in
     record {
       placed = subst IsPlaced (sym a.lists) (IsPlaced-whitened (lists_of p) _ whitens.cells c.requires.at_rest.placed);
       chained = a.chained;

@@ -13,5 +13,5 @@ returns c =
     let key = c.args.key.0 in
     c.contains.ensures
     ∙ (sym (parts-held (λ (z : Linked). z.placed) c.args.self.now.cells.slots key)
-    ∙ (sym (is_some-map (with_key key) (cell_at l.cells key))
+    ∙ (sym (is_some-map (with_key key (l.walks key)) (cell_at l.cells key))
     ∙ sym (ap is_some (object_at-cell l c.requires.placed key))))

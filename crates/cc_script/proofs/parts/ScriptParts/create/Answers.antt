@@ -16,7 +16,8 @@ use Rattle.cc_script.proofs.Places.{is_there-none}
 use Rattle.cc_script.proofs.Making.{IsPlaced-made, objects-made}
 use Rattle.cc_script.proofs.InOrder.{HasColourOrder-made}
 use Rattle.cc_script.proofs.Reading.{held_key}
-use Rattle.cc_script.proofs.Joining.{joined, order-joined, vacant-joined, at-joined, others-joined, lists-joined}
+use Rattle.cc_script.proofs.Linking.{threaded-none}
+use Rattle.cc_script.proofs.Joining.{joined, order-joined, vacant-joined, at-joined, others-joined, out-joined, lists-joined}
 use Rattle.cc_script.proofs.parts.ScriptParts.create.Goals as goal
 
 -- an empty slot, and some
@@ -60,7 +61,7 @@ new_placed name kind native delegate slots = record { name = name; kind = kind; 
 pub push_back-requires-clause-chain : goal.push_back-requires-clause-chain
 push_back-requires-clause-chain c =
     let p = c.args.self.now in
-    let j = joined p _ _ _ _ refl c.in_ok-key.ensures.was_vacant c.in_ok-key.ensures.updates c.of.ensures c.of-2.ensures in
+    let j = joined p _ _ _ c.in_ok-key.ensures.was_vacant c.in_ok-key.ensures.updates (threaded-none _ _ _ c.of.ensures c.of-3.ensures c.of-2.ensures) in
     ((lists_of p).order, order-joined p c.requires.at_rest.chained _ _ _ j)
 
 pub returns-clause-made : goal.returns-clause-made
@@ -68,19 +69,20 @@ returns-clause-made c =
     let p = c.args.self.now in
     let l = lists_of p in
     let h = c.requires.at_rest.chained in
-    let j = joined p _ _ _ _ refl c.in_ok-key.ensures.was_vacant c.in_ok-key.ensures.updates c.of.ensures c.of-2.ensures in
+    let j = joined p _ _ _ c.in_ok-key.ensures.was_vacant c.in_ok-key.ensures.updates (threaded-none _ _ _ c.of.ensures c.of-3.ensures c.of-2.ensures) in
     let pushed = c.push_back.ensures.keys l.order (order-joined p h _ _ _ j) in
     let being = c.args.being in
     let empty = ap (map held_key) c.in_ok-empty.ensures.items ∙ empty-slots c.args.slots in
     let stands = told being _ (c.is_some-is_proxy.ensures ∙ ap is_some c.delegate.ensures) in
-    ap objects_of (lists-joined p h _ _ _ j c.push_back.new.store c.push_back.new.self _ pushed c.push_back.ensures.rest).lists
+    let out = out-joined p h _ _ _ j in
+    ap objects_of (lists-joined p h _ _ _ j c.push_back.new.store c.push_back.new.self pushed c.push_back.ensures.rest).lists
     ∙ (objects-made l c.requires.at_rest.placed _ _ _ (vacant-joined p h _ _ _ j) (at-joined p h _ _ _ j) (others-joined p h _ _ _ j)
-    ∙ (λ i. shows p ++ with_key c.in_ok-key.key (new_placed (name_of being) (kind_of being) (native_key_of being) (stands i) (empty i)) ∷ []))
+    ∙ (λ i. shows p ++ with_key c.in_ok-key.key (out i) (new_placed (name_of being) (kind_of being) (native_key_of being) (stands i) (empty i)) ∷ []))
 
 pub returns-clause-vacant : goal.returns-clause-vacant
 returns-clause-vacant c =
     let p = c.args.self.now in
-    let j = joined p _ _ _ _ refl c.in_ok-key.ensures.was_vacant c.in_ok-key.ensures.updates c.of.ensures c.of-2.ensures in
+    let j = joined p _ _ _ c.in_ok-key.ensures.was_vacant c.in_ok-key.ensures.updates (threaded-none _ _ _ c.of.ensures c.of-3.ensures c.of-2.ensures) in
     is_there-none (lists_of p) c.requires.at_rest.placed c.in_ok-key.key (vacant-joined p c.requires.at_rest.chained _ _ _ j)
 
 pub returns-clause-at_rest : goal.returns-clause-at_rest
@@ -88,12 +90,12 @@ returns-clause-at_rest c =
     let p = c.args.self.now in
     let l = lists_of p in
     let h = c.requires.at_rest.chained in
-    let j = joined p _ _ _ _ refl c.in_ok-key.ensures.was_vacant c.in_ok-key.ensures.updates c.of.ensures c.of-2.ensures in
+    let j = joined p _ _ _ c.in_ok-key.ensures.was_vacant c.in_ok-key.ensures.updates (threaded-none _ _ _ c.of.ensures c.of-3.ensures c.of-2.ensures) in
     let pushed = c.push_back.ensures.keys l.order (order-joined p h _ _ _ j) in
     let being = c.args.being in
     let empty : map held_key c.in_ok-empty.empty.items ≡ replicate c.args.slots None = ap (map held_key) c.in_ok-empty.ensures.items ∙ empty-slots c.args.slots in
     let few : length (map held_key c.in_ok-empty.empty.items) ≤ most_slots = omega (arith, ap length empty, length-replicate c.args.slots nothing, c.requires.slots) in
-    let a = lists-joined p h _ _ _ j c.push_back.new.store c.push_back.new.self _ pushed c.push_back.ensures.rest in
+    let a = lists-joined p h _ _ _ j c.push_back.new.store c.push_back.new.self pushed c.push_back.ensures.rest in
     record {
       placed = subst IsPlaced (sym a.lists)
           (IsPlaced-made l c.requires.at_rest.placed _ _ _ (vacant-joined p h _ _ _ j) (at-joined p h _ _ _ j) (others-joined p h _ _ _ j) few (fits-kind c.args.being) (subst (FitsDelegate (kind_of being)) (sym (told being _ (c.is_some-is_proxy.ensures ∙ ap is_some c.delegate.ensures))) (fits-delegate being)));

@@ -10,11 +10,25 @@ use Rattle.cc_script.proofs.Keys.{object_at-among, coloured-there}
 use Rattle.cc_script.proofs.Raising.{raised-front, raised-none}
 use Rattle.cc_script.proofs.Popping.{front-popped, none-popped}
 use Rattle.cc_script.proofs.Chained.{lists-waiting, marking-is}
-use Rattle.cc_script.proofs.Underway.{first-looked, looked-marked, places-there, there-some}
+use Rattle.cc_script.proofs.Underway.{first-looked, looked-marked, looked-none, places-there, there-some}
 use Rattle.cc_script.proofs.parts.ScriptParts.look_into_first.Goals as goal
 
 pub pop_front-requires : goal.pop_front-requires
 pop_front-requires c = ((marking_of c.args.self.now).waiting, c.requires.begun.under_way.chained.waiting)
+
+-- objects, and those that wait
+abbrev marking : List Object → List ℕ → Marking
+marking objects waiting = record { objects = objects; waiting = waiting }
+
+pub returns-in_err-key-clause-looked : goal.returns-in_err-key-clause-looked
+returns-in_err-key-clause-looked c =
+    let p = c.args.self.now in
+    let m = marking_of p in
+    let u = c.requires.begun.under_way in
+    let popped = c.pop_front.ensures.keys m.waiting u.chained.waiting in
+    let a = lists-waiting p u.chained c.pop_front.new.store c.pop_front.new.self _ popped c.pop_front.ensures.rest in
+    let emptied = none-popped m.waiting (sym c.in_err-key.was ∙ c.pop_front.ensures.first m.waiting u.chained.waiting) in
+    marking-is _ _ _ a ∙ (ap (marking (shows p)) (ap (drop 1) emptied ∙ sym emptied) ∙ sym (looked-none c.args.to m emptied))
 
 pub returns-in_err-key-clause-begun : goal.returns-in_err-key-clause-begun
 returns-in_err-key-clause-begun c =

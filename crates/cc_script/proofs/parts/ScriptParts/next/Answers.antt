@@ -1,7 +1,8 @@
 use Rattle.std.proofs.Common.{sym, ◌∙◌, ap, option_map}
 use Rattle.cc_names.specs.declared.number.SKey.{SKey}
 use Rattle.cc_chain.proofs.Slots.{among-linked}
-use Rattle.cc_script.specs.Cells.{order_links}
+use Rattle.cc_script.specs.Threads.{of_order}
+use Rattle.cc_script.specs.Cells.{links_in}
 use Rattle.cc_script.specs.Parts.{lists_of, shows}
 use Rattle.cc_script.proofs.Places.{live-cell}
 use Rattle.cc_script.proofs.Ordering.{behind-shown, live-after}
@@ -12,7 +13,7 @@ next-requires c =
     let p = c.args.self.now in
     let l = lists_of p in
     let f = live-cell l c.requires.at_rest.placed c.args.key.0 c.requires.live in
-    among-linked (order_links p.cells.slots) p.order l.order c.requires.at_rest.chained.order c.args.key.0 (c.requires.at_rest.placed.ordered c.args.key.0 f.0 f.1)
+    among-linked (links_in of_order p.cells.slots) p.order l.order c.requires.at_rest.chained.order c.args.key.0 (c.requires.at_rest.placed.ordered c.args.key.0 f.0 f.1)
 
 pub returns-in_err-next-clause-key : goal.returns-in_err-next-clause-key
 returns-in_err-next-clause-key c =

@@ -26,7 +26,7 @@ returns-clause-shows c =
     let l = lists_of p in
     let changes = c.write.ensures.changes in
     let f = live-cell l c.requires.at_rest.placed c.args.key.0 c.requires.live in
-    ap objects_of (lists-kept p c.requires.at_rest.chained c.write.new.self changes.order changes.waiting).lists
+    ap objects_of (lists-kept p c.requires.at_rest.chained c.write.new.self changes.links).lists
     ∙ objects-written l c.requires.at_rest.placed c.args.key.0 f.0 f.1 c.args.i (held_key c.args.item) (cells_of c.write.new.self.slots) changes.cells
 
 pub returns-clause-at_rest : goal.returns-clause-at_rest
@@ -36,7 +36,7 @@ returns-clause-at_rest c =
     let objects = shows p in
     let changes = c.write.ensures.changes in
     let f = live-cell l c.requires.at_rest.placed c.args.key.0 c.requires.live in
-    let a = lists-kept p c.requires.at_rest.chained c.write.new.self changes.order changes.waiting in
+    let a = lists-kept p c.requires.at_rest.chained c.write.new.self changes.links in
     record {
       placed = subst IsPlaced (sym a.lists)
           (IsPlaced-written l c.requires.at_rest.placed c.args.key.0 f.0 f.1 c.args.i (held_key c.args.item) (cells_of c.write.new.self.slots) changes.cells);
