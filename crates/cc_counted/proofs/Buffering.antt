@@ -112,6 +112,7 @@ placed-front old new p e = subst IsPlaced (sym e) (record {
   held = p.held;
   queued = p.queued;
   marked = λ m n. p.marked m (later old.marks m n);
+  walking = p.walking;
 })
   where
     later : (ms : List Marked) (m : Marked) → Among m (drop 1 ms) → Among m ms

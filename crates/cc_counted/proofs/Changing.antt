@@ -4,18 +4,19 @@ use Rattle.std.proofs.Math.ListN.{set}
 use Rattle.std.proofs.Math.Seq.{map-set_same}
 use Rattle.std.proofs.lemmas.Bool.{eq-eqb, ne_eqb, cases_lt}
 use Rattle.std.proofs.lemmas.Bool.Decides.{eqb_tells}
-use Rattle.std.proofs.lemmas.List.{get_or-set_same, get_or-set_other, get_or_past}
+use Rattle.std.proofs.lemmas.List.{get_or-set_same, get_or-set_other, get_or_past, length-set}
 use Rattle.std.proofs.lemmas.Simd.{map-map}
 use Rattle.cc_lists.specs.Members.{Among}
 use Rattle.cc_model.specs.Heap.{HeapNative}
 use Rattle.cc_lists.proofs.ListWrites.{map-agree}
 use Rattle.cc_names.specs.Sizes.{most_slots}
 use Rattle.cc_laws_heap.proofs.Face.{changed_at}
+use Rattle.cc_walk.specs.Walks.{states_of}
 use Rattle.cc_purple.specs.Marks.{Marked}
 use Rattle.cc_counted.specs.declared.held.Held.{Held}
 use Rattle.cc_counted.specs.Counts.{no_counts, the_number, is_live}
 use Rattle.cc_model.specs.WellFormed.{IsRising}
-use Rattle.cc_counted.specs.Lists.{Placed, Lists, cell_at, reflector_placed, without_count, keyed, shown, shown_at, IsPlaced}
+use Rattle.cc_counted.specs.Lists.{Placed, Lists, cell_at, reflector_placed, without_count, keyed, shown, shown_at, states_below, IsPlaced}
 use Rattle.cc_counted.proofs.Places.{cell_number, one_key}
 
 -- a key of a native is one of the list
@@ -37,6 +38,10 @@ module _ (l : Lists) (p : IsPlaced l) (key : ℕ) (c d : Placed) (at : cell_at l
   -- the reflector at each key is the same where the native keeps its own
   pub reflectors-changed : d.reflector ≡ c.reflector → map reflector_placed changed_cells ≡ map reflector_placed l.cells
   reflectors-changed e = map-set_same reflector_placed l.cells key (Some d) None (e ∙ sym (ap reflector_placed at))
+
+  -- each key stands in a walk as it did
+  pub walks-changed : states_below (length changed_cells) (states_of l.walk) ≡ states_below (length l.cells) (states_of l.walk)
+  walks-changed = ap (λ n. states_below n (states_of l.walk)) (length-set l.cells key (Some d))
 
   -- what stands at the key
   pub changed-same : cell_at changed_cells key ≡ Some d
@@ -67,7 +72,7 @@ module _ (l : Lists) (p : IsPlaced l) (key : ℕ) (c d : Placed) (at : cell_at l
   -- the lists fit together where the new slots hold what is there, and so do the queue and the buffer
   pub IsPlaced-changed : length d.slots ≤ most_slots → ((x : Option Held) → Among x d.slots → is_live (keyed l.cells) x ≡ true) → (queue : List ℕ) (marks : List Marked) →
       ((k : ℕ) → Among k queue → (b : Placed) × (cell_at l.cells k ≡ Some b)) → ((m : Marked) → Among m marks → (b : Placed) × (cell_at l.cells m.key ≡ Some b)) →
-      IsPlaced (record { cells = changed_cells; order = l.order; queue = queue; marks = marks })
+      IsPlaced (record l { cells = changed_cells; queue = queue; marks = marks })
   IsPlaced-changed few live queue marks q ms = record {
     in_order = λ k m. changed-there k (p.in_order k m);
     ordered = λ k b e. ⊎_elim (λ t. p.ordered k c (ap (cell_at l.cells) t.0 ∙ at)) (λ t. p.ordered k b t) (changed-cases k b e);
@@ -78,6 +83,7 @@ module _ (l : Lists) (p : IsPlaced l) (key : ℕ) (c d : Placed) (at : cell_at l
         (λ t. p.held k b x t m) (changed-cases k b e));
     queued = λ k m. changed-there k (q k m);
     marked = λ m n. changed-there m.key (ms m n);
+    walking = λ k m. changed-there k (p.walking k m);
   }
 
   -- what is shown of the native

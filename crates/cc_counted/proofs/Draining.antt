@@ -11,6 +11,7 @@ use Rattle.cc_model.proofs.Tellings.{Tells-nil, TellsEvents-trans}
 use Rattle.cc_model.proofs.Draining.{drain-done}
 use Rattle.cc_laws_heap.specs.Balance.{IsBalanced}
 use Rattle.cc_laws_heap.proofs.Face.{IsBalanced-free_front, free_front-fewer}
+use Rattle.cc_walk.specs.Walks.{states_of}
 use Rattle.cc_counted.specs.Counts.{the_number, heap_of, left_with}
 use Rattle.cc_counted.specs.Lists.{Lists, keyed, counts_of, draining_of, IsPlaced, with_front, LeavesCells}
 use Rattle.cc_counted.specs.Stored.{Stored, with_queue}
@@ -32,7 +33,7 @@ pub record DrainsSoFar (start now : Lists) (before after : Telling) : Type 0 whe
   pub enough : length now.order ≤ steps
   pub rest : drain steps (draining_of now events) ≡ drain (length start.order) (draining_of start [])
   pub placed : IsPlaced now
-  pub leaves : LeavesCells start.cells now.cells
+  pub leaves : LeavesCells start now
   pub balanced : (owned : List ℕ) × IsBalanced owned (draining_of now [])
   pub told : TellsEvents before after events
 
@@ -43,7 +44,7 @@ DrainsSoFar-start start before p b = record {
   enough = omega arith;
   rest = refl;
   placed = p;
-  leaves = LeavesCells-same start.cells;
+  leaves = LeavesCells-same start;
   balanced = b;
   told = Tells-nil before;
 }
@@ -79,7 +80,7 @@ module _ (start now next : Lists) (before middle after : Telling) (s : DrainsSoF
     enough = omega (arith, fewer, s.enough);
     rest = ap (drain (s.steps - 1)) (f.draining s.events) ∙ (sym (drain-step (s.steps - 1) d f.number f.behind f.front) ∙ (ap (λ n. drain n d) whole ∙ s.rest));
     placed = f.placed;
-    leaves = LeavesCells-then start.cells now.cells next.cells s.leaves f.leaves;
+    leaves = LeavesCells-then start now next s.leaves f.leaves;
     balanced = (
       owned,
       IsBalanced-events owned (draining_of next (s.events ++ Freed (native f.number) ∷ [])) []
@@ -98,7 +99,7 @@ Drains-none l before p e = record {
   draining = sym (drain-done (length l.order) (draining_of l []) (ap (map (the_number (keyed l.cells))) e));
   emptied = e;
   placed = p;
-  leaves = LeavesCells-same l.cells;
+  leaves = LeavesCells-same l;
   told = Tells-nil before;
 }
 
@@ -119,9 +120,10 @@ ComesTo-cascade old mid new before after k p none g r =
     let long : length mid.order ≡ length (counts_of old).natives = ap length g.order ∙ sym (length-natives old) in
     let all : draining_of new r.events ≡ drain (length (counts_of old).natives) (give_up (at_rest (heap_of (counts_of old))) k) =
     r.draining ∙ (ap (λ n. drain n (draining_of mid [])) long ∙ ap (drain (length (counts_of old).natives)) first) in
-    let left : LeavesCells old.cells new.cells = LeavesCells-then old.cells mid.cells new.cells (record { as_many = g.as_many; each = λ k. inr (g.cells k) }) r.leaves in
+    let first_left : LeavesCells old mid = record { as_many = g.as_many; each = λ k. inr (g.cells k); walk = λ k c at. ap (λ w. states_of w k) g.walk } in
+    let left : LeavesCells old new = LeavesCells-then old mid new first_left r.leaves in
     record {
-      counts = counts-left old new p r.placed (LeavesKeys-cells old.cells new.cells left)
+      counts = counts-left old new p r.placed (LeavesKeys-cells old new left)
           ∙ ap (λ (d : Draining). left_with (counts_of old) d.heap) all;
       heap = sym (ap (λ (d : Draining). d.heap) all);
       emptied = r.emptied;

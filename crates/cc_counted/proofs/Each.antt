@@ -35,6 +35,7 @@ pub record GivesUpRest (start now : Lists) (slots : List (Option Held)) (i : ℕ
   pub placed : IsPlaced now
   pub keys : keyed now.cells ≡ keyed start.cells
   pub order : now.order ≡ start.order
+  pub walk : now.walk ≡ start.walk
   pub as_many : length now.cells ≡ length start.cells
   pub cells : (key : ℕ) → option_map without_count (cell_at now.cells key) ≡ option_map without_count (cell_at start.cells key)
   pub balanced : (owned : List ℕ) × IsBalanced (numbers_in (keyed start.cells) (drop i slots) ++ owned) (draining_of now [])
@@ -58,6 +59,7 @@ module _ (start : Lists) (slots : List (Option Held)) where
           placed = r.placed;
           keys = r.keys;
           order = r.order;
+          walk = r.walk;
           as_many = r.as_many;
           cells = r.cells;
           balanced = (r.balanced.0, subst (λ ks. IsBalanced (ks ++ r.balanced.0) (draining_of now [])) same r.balanced.1);
@@ -94,6 +96,7 @@ module _ (start : Lists) (slots : List (Option Held)) where
             placed = g.placed;
             keys = g.keys ∙ r.keys;
             order = g.order ∙ r.order;
+            walk = g.walk ∙ r.walk;
             as_many = g.as_many ∙ r.as_many;
             cells = λ k. g.cells k ∙ r.cells k;
             balanced = (

@@ -41,7 +41,7 @@ balanced-cascade old new before after k owned none t b =
     (done.1 ∙ sym (ap (map (the_number (keyed new.cells))) t.emptied))
 
 -- A native that is owned stays at its key.
-pub owned-stays : (old new : Lists) → IsPlaced old → IsPlaced new → LeavesCells old.cells new.cells → (key : ℕ) (c : Placed) → cell_at old.cells key ≡ Some c →
+pub owned-stays : (old new : Lists) → IsPlaced old → IsPlaced new → LeavesCells old new → (key : ℕ) (c : Placed) → cell_at old.cells key ≡ Some c →
     (others : List ℕ) → IsBalanced (c.number ∷ others) (draining_of new []) → (d : Placed) × (cell_at new.cells key ≡ Some d) × (without_count d ≡ without_count c)
 owned-stays old new p q left key c at others b = ⊎_elim (λ none. absurd (not-gone none)) (λ same. stays (cell_at new.cells key) refl same) (left.each key)
   where
@@ -117,7 +117,7 @@ module _ (l : Lists) (p : IsPlaced l) (key : ℕ) (c : Placed) (at : cell_at l.c
       there = cell-emptied;
       same = refl;
       placed = placed-emptied;
-      leaves = LeavesKeys-kept l.cells cells (ap length e ∙ length-set l.cells key (Some (with_slot i None c))) keyed-emptied reflectors-emptied;
+      leaves = LeavesKeys-kept l emptied_lists (ap length e ∙ length-set l.cells key (Some (with_slot i None c))) keyed-emptied reflectors-emptied refl;
       balanced = λ more f.
           subst (λ ks. IsBalanced (ks ++ c.number ∷ more) (draining_of emptied_lists [])) (numbers-none (keyed l.cells) content none) (IsBalanced-emptied (c.number ∷ more) f);
       events = [];
@@ -155,9 +155,9 @@ module _ (l : Lists) (p : IsPlaced l) (key : ℕ) (c : Placed) (at : cell_at l.c
         there = stays.1;
         same = stays.2;
         placed = t.placed;
-        leaves = LeavesKeys-then l.cells cells new.cells
-            (LeavesKeys-kept l.cells cells (ap length e ∙ length-set l.cells key (Some (with_slot i None c))) keyed-emptied reflectors-emptied)
-            (LeavesKeys-cells cells new.cells t.leaves);
+        leaves = LeavesKeys-then l emptied_lists new
+            (LeavesKeys-kept l emptied_lists (ap length e ∙ length-set l.cells key (Some (with_slot i None c))) keyed-emptied reflectors-emptied refl)
+            (LeavesKeys-cells emptied_lists new t.leaves);
         balanced = balanced;
         events = (cascade (heap_of (counts_of emptied_lists)) (the_number (keyed cells) j)).events;
         outcome = ap (empty_slot h c.number i) name-held

@@ -13,6 +13,9 @@ use Rattle.cc_model.specs.Cascade.{Draining, give_up_each, natives_of_slots, tol
 use Rattle.cc_model.specs.Counts.{times}
 use Rattle.cc_laws_heap.proofs.Face.{IsBalanced-removed, refs_to-removed, without_native-give_up_each}
 use Rattle.cc_laws_heap.specs.Balance.{IsBalanced, count_of}
+use Rattle.cc_names.specs.declared.kind.Walked.TheVariants.{Out}
+use Rattle.cc_walk.specs.Walks.{Walks, states_of}
+use Rattle.cc_walk.proofs.Sets.{states-without, with_state-other}
 use Rattle.cc_counted.specs.declared.held.Held.{Held}
 use Rattle.cc_counted.specs.Counts.{the_number, is_live}
 use Rattle.cc_counted.specs.Lists.{Placed, Lists, cell_at, without_count, keyed, shown, numbers_in, draining_of, IsPlaced, taken_out, LeavesCells}
@@ -83,7 +86,7 @@ module _ (l : Lists) (p : IsPlaced l) (owned : List ℕ) (b : IsBalanced owned (
         ∙ (sym (without_native-give_up_each (told_free d number behind) freed_numbers number none-held)
         ∙ ap (λ js. without_native (give_up_each (told_free d number behind) js) number) (sym held_by)))
 
-    freed-leaves : LeavesCells l.cells after.cells
+    freed-leaves : LeavesCells l after
     freed-leaves = record {
       as_many = g.as_many ∙ length-set l.cells key None;
       each = λ k. ⊎_elim
@@ -91,6 +94,14 @@ module _ (l : Lists) (p : IsPlaced l) (owned : List ℕ) (b : IsBalanced owned (
           (g.cells k ∙ ap (option_map without_count) (ap (cell_at left.cells) t.1 ∙ cell-gone owned l [] p b key ks c at front))))
           (λ t. inr (g.cells k ∙ ap (option_map without_count) (cell-other owned l [] p b key ks c at front k t.1)))
           (eqb_tells k key);
+      walk = λ k a e.
+          ap (λ w. states_of w k) g.walk
+          ∙ (ap (λ (ws : Walks). ws k) (states-without key l.walk)
+          ∙ with_state-other (states_of l.walk) key Out k (λ s.
+          let gone : cell_at after.cells k ≡ None = stays-gone (cell_at after.cells k)
+          (g.cells k ∙ ap (option_map without_count) (ap (cell_at left.cells) s ∙ cell-gone owned l [] p b key ks c at front)) in
+          let bad : None ≡ Some a = sym gone ∙ e in
+          absurd (cc)));
     }
 
     pub FreesFront-freed : (before now : Telling) → TellsEvents before now (Freed (native c.number) ∷ []) → FreesFront l after before now

@@ -1,6 +1,7 @@
 pub mod Nodes
 pub mod Places
 pub mod Changing
+pub mod States
 pub mod Marking
 pub mod GivingUp
 pub mod Holding
@@ -24,3 +25,4 @@ pub mod Emptying
 pub mod Unlinking
 pub mod Scripts
 pub mod Threading
+pub mod Walking

@@ -17,6 +17,7 @@ use Rattle.cc_counted.specs.Lists.{Placed, Lists, cell_at, reflector_placed, key
 use Rattle.cc_counted.proofs.Places.{cell_number, number_at-cells, reflector_at-cells, number_at-cell, number_at-found, the_number-cell, natives-numbers, natives-rising, native_at-cell, native-key, one_key}
 use Rattle.cc_lists.proofs.ListWrites.{map-agree}
 use Rattle.cc_names.specs.Sizes.{most_slots}
+use Rattle.cc_counted.proofs.States.{states-shown}
 use Rattle.cc_counted.proofs.Marking.{buffer-with_mark, with_mark-there}
 use Rattle.cc_counted.proofs.Each.{live-cell}
 use Rattle.cc_counted.proofs.Holding.{held-same, names-same}
@@ -74,7 +75,7 @@ module _ (l : Lists) (p : IsPlaced l) (key : ℕ) (d : Placed) (cells : List (Op
 
   -- the lists with the native, which is not in the buffer yet
   abbrev unmarked : Lists
-  unmarked = record { cells = cells; order = l.order ++ key ∷ []; queue = l.queue; marks = l.marks }
+  unmarked = record l { cells = cells; order = l.order ++ key ∷ [] }
 
   numbers-made : map (the_number (keyed cells)) (l.order ++ key ∷ []) ≡ map (the_number (keyed l.cells)) l.order ++ d.number ∷ []
   numbers-made =
@@ -102,6 +103,7 @@ module _ (l : Lists) (p : IsPlaced l) (key : ℕ) (d : Placed) (cells : List (Op
         (λ t. (slot-same x (p.held k c x t m)).1 ∙ p.held k c x t m) (cell-cases k c e);
     queued = λ k m. there k (p.queued k m);
     marked = λ m n. there m.key (p.marked m n);
+    walking = λ k m. there k (p.walking k m);
   }
 
   pub placed-made : size ≤ most_slots → IsPlaced (made l cells key)
@@ -113,6 +115,7 @@ module _ (l : Lists) (p : IsPlaced l) (key : ℕ) (d : Placed) (cells : List (Op
     held = q.held;
     queued = q.queued;
     marked = λ m n. with_mark-there unmarked q key d at false l.marks q.marked m n;
+    walking = q.walking;
   }
 
   pub natives-made : (counts_of (made l cells key)).natives ≡ (counts_of l).natives ++ shown_with (empty_slots size) d ∷ []
@@ -167,4 +170,5 @@ module _ (l : Lists) (p : IsPlaced l) (key : ℕ) (d : Placed) (cells : List (Op
     reflector = reflector_at-cells (made l cells key) key ∙ (ap reflector_placed at ∙ bare);
     other_reflectors = λ k o. reflector_at-cells (made l cells key) k ∙ (ap reflector_placed (others k o) ∙ sym (reflector_at-cells l k));
     as_many = length-map cells reflector_placed ∙ sym (length-map cells cell_number);
+    walks = λ q. states-shown (made l cells key) (placed-made few) q ∙ sym (states-shown l p q);
   }

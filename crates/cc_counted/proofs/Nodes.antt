@@ -13,19 +13,22 @@ use Rattle.cc_chain.specs.Stores.{slot_at}
 use Rattle.cc_chain.proofs.Links.{SameLinks-at}
 use Rattle.cc_chain.proofs.Stores.{slot_at-kept}
 use Rattle.cc_chain.proofs.Chains.{chain-kept}
+use Rattle.cc_walk.specs.declared.walk_list.WalkList.{WalkList}
+use Rattle.cc_walk.specs.Walks.{Walk, members}
+use Rattle.cc_walk.specs.WalkLists.{IsWalk}
 use Rattle.cc_purple.specs.declared.buffer.Buffer.{Buffer}
 use Rattle.cc_purple.specs.Stores.{Marks}
 use Rattle.cc_purple.specs.Marks.{Marked, holds_key}
 use Rattle.cc_purple.specs.Buffers.{IsBuffer}
 use Rattle.cc_counted.specs.declared.node.Node.{Node}
 use Rattle.cc_counted.specs.Lists.{Placed, cell_at}
-use Rattle.cc_counted.specs.Nodes.{Threads, cells_of, suspect_links, marks_in}
+use Rattle.cc_counted.specs.Nodes.{Threads, cells_of, suspect_links, walk_links, marks_in}
 
 -- what is read is the same where each part is
-pub threads-same : (c d : List (Option Placed)) (o p q r s t : Links) (m n : Marks) (k : ℕ) → c ≡ d → o ≡ p → q ≡ r → s ≡ t → m ≡ n →
-    ◌≡◌ {A = Threads} (record { cells = c; order = o; queue = q; suspects = s; marks = m; capacity = k })
-    (record { cells = d; order = p; queue = r; suspects = t; marks = n; capacity = k })
-threads-same c d o p q r s t m n k e f g h i = rw (e, f, g, h, i) refl
+pub threads-same : (c d : List (Option Placed)) (o p q r s t u v : Links) (m n : Marks) (k : ℕ) → c ≡ d → o ≡ p → q ≡ r → s ≡ t → u ≡ v → m ≡ n →
+    ◌≡◌ {A = Threads} (record { cells = c; order = o; queue = q; suspects = s; walk = u; marks = m; capacity = k })
+    (record { cells = d; order = p; queue = r; suspects = t; walk = v; marks = n; capacity = k })
+threads-same c d o p q r s t u v m n k e f g h w i = rw (e, f, g, h, w, i) refl
 
 -- the native at a key
 pub cell_at-node : (slots : List (Option Node)) (key : ℕ) → cell_at (cells_of slots) key ≡ option_map (λ (n : Node). n.cell) (get_or slots key None)
@@ -66,6 +69,10 @@ module _ (slots after : List (Option Node)) (key : ℕ) (others : (k : ℕ) → 
       option_flatten (slot_at part after key) ≡ option_flatten (slot_at part slots key) → IsChain (slot_at part slots) chain keys → IsChain (slot_at part after) chain keys
   chain-beside part chain keys same c = chain-kept (slot_at part slots) (slot_at part after) chain keys
       (SameLinks-at (slot_at part slots) (slot_at part after) key same (λ k o. ap (option_map part) (others k o))) c
+
+  pub walk-beside : {R : Type 0} (list : WalkList R) (w : Walk) → option_flatten (walk_links after key) ≡ option_flatten (walk_links slots key) →
+      IsWalk (walk_links slots) list w → IsWalk (walk_links after) list w
+  walk-beside list w same i = record { chain = chain-beside (λ (n : Node). n.walk) list.chain (members w) same i.chain; next = i.next }
 
   pub buffer-beside : (buffer : Buffer) (ms : List Marked) → option_flatten (suspect_links after key) ≡ option_flatten (suspect_links slots key) →
       ((j : ℕ) → holds_key ms j ≡ true → j ≢ key) → IsBuffer (suspect_links slots) (marks_in slots) buffer ms → IsBuffer (suspect_links after) (marks_in after) buffer ms

@@ -20,6 +20,7 @@ use Rattle.cc_model.specs.WellFormed.{native_names}
 use Rattle.cc_model.specs.Counts.{slots_of_natives, times}
 use Rattle.cc_laws_heap.specs.Balance.{waiting, living, IsBalanced, has_place, places}
 use Rattle.cc_laws_heap.proofs.Face.{HasDistinctNumbers-change, IsCounted-add_ref, above-one_at_zero, changed_at, contents-empty, living-one, native_at-change_other, native_at-change_same, native_at-named, native_names-change, one_above_zero-above, one_at_zero-above, places-with_mark, places-with_mark_other, places-with_mark_same, raise_native, times-among, times-cons_other, times-cons_same, with_mark-cases}
+use Rattle.cc_names.specs.declared.kind.Walked.{Walked}
 use Rattle.cc_counted.specs.declared.held.Held.{Held}
 use Rattle.cc_counted.specs.Counts.{Counts, number_at, the_number, is_live, numbers_held, heap_of, with_heap, with_reflector}
 use Rattle.cc_counted.specs.Owning.{AreOwned, Transfers, Makes}
@@ -147,6 +148,10 @@ owned-flagged change after flags c k others o = record {
 -- Nor does where it stands.
 pub owned-reflected : (c : Counts) (key : ℕ) (to : Option ℕ) → Transfers [] [] c (with_reflector c key to)
 owned-reflected c key to others o = search
+
+-- Nor does how keys stand in a walk.
+pub owned-walked : (c : Counts) (walks : List Walked) → Transfers [] [] c (record c { walks = walks })
+owned-walked c walks others o = search
 
 -- the front of the buffer leaves
 owned-front : (old new : Counts) (b : Buffered) → old.buffer ≡ b ∷ new.buffer → new ≡ record old { buffer = new.buffer } → Transfers [] [] old new

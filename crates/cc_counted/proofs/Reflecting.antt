@@ -2,6 +2,8 @@
 -- reflector stands, as they are written and read.
 use Rattle.std.proofs.Common.{◌≡◌, ◌<◌, ◌≤◌, ℕ, Bool, List, map, length, get_or, Option, Some, None, is_some, option_map, refl, sym, ◌∙◌, ap, subst, arith, ⊎_elim, if◌then◌else◌}
 use Rattle.std.proofs.Math.ListN.{set}
+use Rattle.cc_names.specs.declared.kind.Walked.{Walked}
+use Rattle.cc_names.specs.declared.kind.Walked.TheVariants.{Out}
 use Rattle.std.proofs.lemmas.Bool.Decides.{eqb_tells}
 use Rattle.std.proofs.lemmas.List.{map-set, get_or_push, get_or_append_left}
 use Rattle.cc_lists.specs.Members.{Among}
@@ -10,11 +12,12 @@ use Rattle.cc_names.specs.Sizes.{most_slots}
 use Rattle.cc_model.specs.Slots.{Slots}
 use Rattle.cc_model.specs.Heap.{Heap, HeapNative, native_at, change_native, as_unlinked}
 use Rattle.cc_laws_heap.proofs.Face.{native_at-change_other, native_at-change_same}
-use Rattle.cc_counted.specs.Counts.{Counts, the_number, heap_of, with_heap, key_left, reflectors_left, left_with, with_reflector, preserved_at, preserved_of, unlinked_at, unlinked_of, preserved_reflector, reflector_at, references_of, slots_of}
+use Rattle.cc_counted.specs.Counts.{Counts, the_number, heap_of, with_heap, key_left, reflectors_left, state_left, left_with, with_reflector, preserved_at, preserved_of, unlinked_at, unlinked_of, preserved_reflector, reflector_at, references_of, slots_of}
 use Rattle.cc_counted.specs.Lists.{Placed, Lists, cell_at, with_flag, placed_unlinked, reflected_by, reflector_placed, keyed, names_in, shown, shown_with, marked_number, counts_of, IsPlaced}
 use Rattle.cc_counted.proofs.Places.{reflector_at-cells, the_number-cell, native_at-cell}
-use Rattle.cc_counted.proofs.Changing.{keyed-changed, reflectors-changed, IsPlaced-changed, natives-changed, natives-kept}
+use Rattle.cc_counted.proofs.Changing.{keyed-changed, reflectors-changed, walks-changed, IsPlaced-changed, natives-changed, natives-kept}
 use Rattle.cc_counted.proofs.Adding.{counts-same}
+use Rattle.cc_counted.proofs.States.{walks_left-agree}
 
 -- A FLAG OF A NATIVE CHANGED, by the lists and by what they show: it keeps its number, its slots, its reflector and its count
 pub record ChangesFlags (change : Placed → Placed) (after : HeapNative → HeapNative) : Type 0 where
@@ -54,26 +57,34 @@ flags-unlinked = record {
 }
 
 module _ (change : Placed → Placed) (after : HeapNative → HeapNative) (flags : ChangesFlags change after) where
-  -- a native that is there stays there
-  key_left-flagged : (h : Heap) (k : ℕ) (o : Option ℕ) → key_left (change_native h k after) o ≡ key_left h o
-  key_left-flagged h k None = refl
-  key_left-flagged h k (Some j) = ap (λ b. if b then Some j else None) (⊎_elim
+  -- a native that is there stays there, and none comes
+  there-flagged : (h : Heap) (k j : ℕ) → is_some (native_at (change_native h k after) j) ≡ is_some (native_at h j)
+  there-flagged h k j = ⊎_elim
       (λ t. ap (λ i. is_some (native_at (change_native h k after) i)) t.1
       ∙ (ap is_some (native_at-change_same h k after flags.same_number)
       ∙ (some-after (native_at h k) ∙ ap (λ i. is_some (native_at h i)) (sym t.1))))
       (λ t. ap is_some (native_at-change_other h k after flags.same_number j t.1))
-      (eqb_tells j k))
+      (eqb_tells j k)
     where
       some-after : (o : Option HeapNative) → is_some (option_map after o) ≡ is_some o
       some-after None = refl
       some-after (Some n) = refl
 
-  -- so it says nothing of which keys and reflectors are left
+  key_left-flagged : (h : Heap) (k : ℕ) (o : Option ℕ) → key_left (change_native h k after) o ≡ key_left h o
+  key_left-flagged h k None = refl
+  key_left-flagged h k (Some j) = ap (λ b. if b then Some j else None) (there-flagged h k j)
+
+  state_left-flagged : (h : Heap) (k : ℕ) (o : Option ℕ) (state : Walked) → state_left (change_native h k after) o state ≡ state_left h o state
+  state_left-flagged h k None state = refl
+  state_left-flagged h k (Some j) state = ap (λ b. if b then state else Out) (there-flagged h k j)
+
+  -- so it says nothing of which keys are left, nor of what stands at them
   pub left-flagged : (c : Counts) (h : Heap) (k : ℕ) → with_heap (left_with c h) (change_native h k after) ≡ left_with c (change_native h k after)
-  left-flagged c h k =
-      let flag : Heap = change_native h k after in
-      ap (λ ks. record { natives = flag.natives; buffer = flag.buffer; keys = ks; reflectors = reflectors_left ks c.reflectors })
-      (sym (map-agree (key_left flag) (key_left h) c.keys (λ o m. key_left-flagged h k o)))
+  left-flagged c h k = counts-same _ _ _ _ _ _ _ _ _ _ refl refl keys (ap (λ ks. reflectors_left ks c.reflectors) keys)
+      (walks_left-agree h (change_native h k after) (λ o state. sym (state_left-flagged h k o state)) c.keys c.walks)
+    where
+      keys : map (key_left h) c.keys ≡ map (key_left (change_native h k after)) c.keys
+      keys = sym (map-agree (key_left (change_native h k after)) (key_left h) c.keys (λ o m. key_left-flagged h k o))
 
 module _ (l : Lists) (p : IsPlaced l) (key : ℕ) (c : Placed) (at : cell_at l.cells key ≡ Some c) where
   -- Written
@@ -89,11 +100,11 @@ module _ (l : Lists) (p : IsPlaced l) (key : ℕ) (c : Placed) (at : cell_at l.c
     pub counts-flagged : counts_of (record l { cells = cells }) ≡ with_heap (counts_of l) (change_native (heap_of (counts_of l)) (the_number (counts_of l) key) after)
     counts-flagged =
         ap (λ cs. counts_of (record l { cells = cs })) flag-written
-        ∙ (counts-same _ _ _ _ _ _ _ _
+        ∙ (counts-same _ _ _ _ _ _ _ _ _ _
         (natives-changed l p key c (change c) at (flags.number c) after shows-changed)
         (ap (λ n. map (marked_number n) l.marks) (keyed-changed l p key c (change c) at (flags.number c)))
         (ap (λ (n : Counts). n.keys) (keyed-changed l p key c (change c) at (flags.number c)))
-        (reflectors-changed l p key c (change c) at (flags.number c) (flags.reflector c))
+        (reflectors-changed l p key c (change c) at (flags.number c) (flags.reflector c)) (walks-changed l p key c (change c) at (flags.number c))
         ∙ ap (λ k. with_heap (counts_of l) (change_native (heap_of (counts_of l)) k after)) (sym (the_number-cell l.cells key c at)))
 
     pub placed-flagged : IsPlaced (record l { cells = cells })
@@ -108,7 +119,7 @@ module _ (l : Lists) (p : IsPlaced l) (key : ℕ) (c : Placed) (at : cell_at l.c
     reflector-written = e ∙ ap (λ o. set l.cells key (option_map (reflected_by to) o)) at
 
     pub counts-reflected : counts_of (record l { cells = cells }) ≡ with_reflector (counts_of l) key to
-    counts-reflected = grind (arith, reflector-written, counts-same, natives-kept, keyed-changed, map-set)
+    counts-reflected = grind (arith, reflector-written, counts-same, natives-kept, keyed-changed, map-set, walks-changed)
 
     pub placed-reflected : IsPlaced (record l { cells = cells })
     placed-reflected =

@@ -35,6 +35,7 @@ module _ (l : Lists) (p : IsPlaced l) (key : ℕ) (c : Placed) (at : cell_at l.c
         placed = IsPlaced-suspected l p key c at;
         keys = keyed-changed l p key c (with_one_less c) at refl;
         order = refl;
+        walk = refl;
         as_many = length-set l.cells key (Some (with_one_less c));
         cells = cells-changed l p key c (with_one_less c) at refl refl;
       })
@@ -50,6 +51,7 @@ module _ (l : Lists) (p : IsPlaced l) (key : ℕ) (c : Placed) (at : cell_at l.c
         placed = IsPlaced-waiting l p key c at;
         keys = keyed-changed l p key c (with_one_less c) at refl;
         order = refl;
+        walk = refl;
         as_many = length-set l.cells key (Some (with_one_less c));
         cells = cells-changed l p key c (with_one_less c) at refl refl;
       })

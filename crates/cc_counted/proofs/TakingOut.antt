@@ -17,6 +17,7 @@ use Rattle.cc_model.specs.Counts.{times, refs_to}
 use Rattle.cc_model.specs.WellFormed.{IsRising}
 use Rattle.cc_laws_heap.proofs.Face.{IsRising-filter, refs_to-slot, times-cons_same, times-some}
 use Rattle.cc_laws_heap.specs.Balance.{one_at_zero, waiting as waits, IsBalanced, count_of}
+use Rattle.cc_walk.proofs.Sets.{member-left}
 use Rattle.cc_purple.specs.Marks.{Marked}
 use Rattle.cc_counted.specs.declared.held.Held.{Held}
 use Rattle.cc_counted.specs.declared.held.Held.TheVariants as held
@@ -169,6 +170,7 @@ module _ (owned : List ℕ) (l : Lists) (es : List Event) (p : IsPlaced l) (b : 
     held = λ k a x e m. let f = cell-left k a e in (slot-same k a x f.1 m).1 ∙ p.held k a x f.1 m;
     queued = λ k m. still_there k (not_behind k m) (p.queued k (subst (λ ks. Among k ks) (sym front) (inr m)));
     marked = λ m n. still_there m.key (not_marked m n) (p.marked m n);
+    walking = λ k m. let f = member-left key l.walk k m in still_there k f.1 (p.walking k f.0);
   }
     where
       rising : IsRising (map (the_number (keyed left.cells)) (without ◌==◌ key l.order))

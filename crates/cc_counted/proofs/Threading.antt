@@ -14,6 +14,10 @@ use Rattle.cc_chain.specs.Chains.{AllDiffer, IsChain}
 use Rattle.cc_chain.specs.Stores.{slot_at}
 use Rattle.cc_chain.proofs.Rows.{without-leaves, link_from-absent}
 use Rattle.cc_chain.proofs.Chains.{chain-bounded, chain-live}
+use Rattle.cc_walk.specs.declared.walk_list.WalkList.{WalkList}
+use Rattle.cc_walk.specs.Walks.{Walk, no_walk, members}
+use Rattle.cc_walk.specs.WalkLists.{IsWalk}
+use Rattle.cc_walk.proofs.WalkLists.{walk-bounded}
 use Rattle.cc_purple.specs.declared.buffer.Buffer.{Buffer}
 use Rattle.cc_purple.specs.Stores.{Marks}
 use Rattle.cc_purple.specs.Marks.{Marked, marked_as, holds_key, is_purple, keys_of}
@@ -23,10 +27,11 @@ use Rattle.cc_counted.specs.declared.node.Node.{Node}
 use Rattle.cc_counted.specs.declared.node.Nodes.{Nodes}
 use Rattle.cc_counted.specs.declared.node.Order.{Order}
 use Rattle.cc_counted.specs.declared.node.Queue.{Queue}
+use Rattle.cc_counted.specs.declared.node.Members.{Members}
 use Rattle.cc_counted.specs.declared.natives.Natives.TheInside.{Inside}
 use Rattle.cc_counted.specs.Lists.{Placed, cell_at}
-use Rattle.cc_counted.specs.Stored.{Stored, Inserts, with_cell, with_queue, with_marks, without_cell}
-use Rattle.cc_counted.specs.Nodes.{Threads, beside_order, beside_queue, beside_suspects, without_marks, cells_of, order_links, queue_links, suspect_links, marks_in}
+use Rattle.cc_counted.specs.Stored.{Stored, Inserts, with_cell, with_queue, with_marks, with_walk, without_cell}
+use Rattle.cc_counted.specs.Nodes.{Threads, beside_order, beside_queue, beside_suspects, beside_walk, without_marks, cells_of, order_links, queue_links, suspect_links, walk_links, marks_in}
 use Rattle.cc_counted.specs.Natives.{slots_in, lists_of, stored_of, IsChained, IsKept}
 use Rattle.cc_holders.specs.declared.entry.Entry.TheVariants.{Unknown, Known}
 use Rattle.cc_holders.specs.declared.holders.Holders.{Holders}
@@ -35,7 +40,7 @@ use Rattle.cc_holders.specs.Known.{entry_at}
 use Rattle.cc_names.specs.Sizes.{most_slots}
 use Rattle.cc_counted.specs.Scripts.{AreKnown, recounted, scripts_of}
 use Rattle.cc_counted.proofs.Scripts.{known-room, known-same, known-counted, known-recounted, known-inserted, known-removed}
-use Rattle.cc_counted.proofs.Nodes.{cell_at-node, cells-written, cells-gone, links-kept, marks-kept, chain-beside, buffer-beside, vacated}
+use Rattle.cc_counted.proofs.Nodes.{cell_at-node, cells-written, cells-gone, links-kept, marks-kept, chain-beside, walk-beside, buffer-beside, vacated}
 
 -- the marks of distinct keys
 marks-read : (marks : Marks) (ms : List Marked) → AllDiffer (keys_of ms) → ((key : ℕ) → holds_key ms key ≡ true → marks key ≡ is_purple ms key) →
@@ -51,20 +56,22 @@ marks-read marks (m ∷ ms) d agree =
         let other : (m.key == key) ≡ false = ne_eqb m.key key (λ s. d.0 (subst (λ k. Among k (keys_of ms)) (sym s) (holds-among ms key h))) in
         agree key (rw (holds_key, other) h) ∙ rw (is_purple, other) refl
 
-stored-same : (c d : List (Option Placed)) (o p q r : List ℕ) (m n : List Marked) (j k : ℕ) → c ≡ d → o ≡ p → q ≡ r → m ≡ n → j ≡ k →
-    ◌≡◌ {A = Stored} (record { lists = record { cells = c; order = o; queue = q; marks = m }; capacity = j }) (record { lists = record { cells = d; order = p; queue = r; marks = n }; capacity = k })
-stored-same c d o p q r m n j k e f g h i = rw (e, f, g, h, i) refl
+stored-same : (c d : List (Option Placed)) (o p q r : List ℕ) (m n : List Marked) (v w : Walk) (j k : ℕ) → c ≡ d → o ≡ p → q ≡ r → m ≡ n → v ≡ w → j ≡ k →
+    ◌≡◌ {A = Stored} (record { lists = record { cells = c; order = o; queue = q; marks = m; walk = v }; capacity = j })
+    (record { lists = record { cells = d; order = p; queue = r; marks = n; walk = w }; capacity = k })
+stored-same c d o p q r m n v w j k e f g h x i = rw (e, f, g, h, x, i) refl
 
 -- WHERE THE NODES HAVE THE LINKS OF SOME LISTS, they stand for these
 pub stored-are : (n : Inside) (s : Stored) → cells_of (slots_in n) ≡ s.lists.cells → IsChain (order_links (slots_in n)) n.order s.lists.order →
     IsChain (queue_links (slots_in n)) n.queue s.lists.queue → IsBuffer (suspect_links (slots_in n)) (marks_in (slots_in n)) n.buffer s.lists.marks →
-    n.nodes.slab.capacity ≡ s.capacity → (stored_of n ≡ s) × IsChained n
-stored-are n s cells o q b capacity = (
-  stored-same _ _ _ _ _ _ _ _ _ _ cells order queue marks capacity,
+    IsWalk (walk_links (slots_in n)) n.walk s.lists.walk → n.nodes.slab.capacity ≡ s.capacity → (stored_of n ≡ s) × IsChained n
+stored-are n s cells o q b w capacity = (
+  stored-same _ _ _ _ _ _ _ _ _ _ _ _ cells order queue marks walk capacity,
   record {
     order = subst (λ l. IsChain (order_links (slots_in n)) n.order l) (sym order) o;
     queue = subst (λ l. IsChain (queue_links (slots_in n)) n.queue l) (sym queue) q;
     buffer = subst (λ l. IsBuffer (suspect_links (slots_in n)) (marks_in (slots_in n)) n.buffer l) (sym marks) b;
+    walk = subst (IsWalk (walk_links (slots_in n)) n.walk) (sym walk) w;
   },
 )
   where
@@ -80,10 +87,14 @@ stored-are n s cells o q b capacity = (
         (chain-bounded (suspect_links (slots_in n)) n.buffer.keys (keys_of s.lists.marks) (length (slots_in n)) b.keys (slots-below (λ (n : Node). n.suspects) (slots_in n)))
         ∙ marks-read (marks_in (slots_in n)) s.lists.marks b.keys.differ b.agree
 
+    walk : (lists_of n).walk ≡ s.lists.walk
+    walk = walk-bounded (walk_links (slots_in n)) n.walk s.lists.walk w (length (slots_in n)) (slots-below (λ (n : Node). n.walk) (slots_in n))
+
 -- no natives
 pub chained-none : (n : Inside) → slots_in n ≡ [] → IsChain (order_links (slots_in n)) n.order [] → IsChain (queue_links (slots_in n)) n.queue [] →
-    IsBuffer (suspect_links (slots_in n)) (marks_in (slots_in n)) n.buffer [] → IsChained n
-chained-none n none o q b = grind (arith, stored-are)
+    IsBuffer (suspect_links (slots_in n)) (marks_in (slots_in n)) n.buffer [] → IsWalk (walk_links (slots_in n)) n.walk no_walk → IsChained n
+chained-none n none o q b w = (stored-are n (record { lists = record { cells = []; order = []; queue = []; marks = []; walk = no_walk }; capacity = n.nodes.slab.capacity })
+    (ap cells_of none) o q b w refl).1
 
 -- THE NATIVES n WERE THESE
 module _ (n : Inside) (i : IsKept n) (s : Stored) (was : stored_of n ≡ s) where
@@ -108,6 +119,7 @@ module _ (n : Inside) (i : IsKept n) (s : Stored) (was : stored_of n ≡ s) wher
         (subst (λ l. IsChain l n.queue (lists_of n).queue) (sym (links-kept (slots_in n) key node node_written at (λ (n : Node). n.queue) refl)) i.chained.queue)
         (subst (λ l. IsBuffer l (marks_in (slots_in written)) n.buffer (lists_of n).marks) (sym (links-kept (slots_in n) key node node_written at (λ (n : Node). n.suspects) refl))
         (subst (λ m. IsBuffer (suspect_links (slots_in n)) m n.buffer (lists_of n).marks) (sym (marks-kept (slots_in n) key node node_written at refl)) i.chained.buffer))
+        (subst (λ l. IsWalk l n.walk (lists_of n).walk) (sym (links-kept (slots_in n) key node node_written at (λ (n : Node). n.walk) refl)) i.chained.walk)
         refl
 
     pub stored-written : stored_of written ≡ with_cell key change s
@@ -141,11 +153,14 @@ module _ (n : Inside) (i : IsKept n) (s : Stored) (was : stored_of n ≡ s) wher
     pub buffer-beside_order : IsBuffer (suspect_links v.slab.slots) (marks_in v.slab.slots) n.buffer (lists_of n).marks
     buffer-beside_order = grind arith
 
+    pub walk-beside_order : IsWalk (walk_links v.slab.slots) n.walk (lists_of n).walk
+    walk-beside_order = subst (λ l. IsWalk l n.walk (lists_of n).walk) (sym (ap (λ (t : Threads). t.walk) rest)) i.chained.walk
+
   -- or no native itself,
   kept-beside : (m : Inside) → m.holders ≡ n.holders → cells_of (slots_in m) ≡ cells_of (slots_in n) → IsChained m → IsKept m
   kept-beside m same cells chained = record { chained = chained; known = subst (λ cs. AreKnown cs m.holders) (sym cells) (subst (AreKnown _) (sym same) i.known) }
 
-  -- or the queue,
+  -- the queue,
   pub stored-queue : (v : Nodes) (q : Chain Queue) (change : List ℕ → List ℕ) → beside_queue v.slab ≡ beside_queue n.nodes.slab →
       IsChain (queue_links v.slab.slots) q (change (lists_of n).queue) →
       (stored_of (record n { nodes = v; queue = q }) ≡ with_queue change s) × IsKept (record n { nodes = v; queue = q })
@@ -156,10 +171,11 @@ module _ (n : Inside) (i : IsKept n) (s : Stored) (was : stored_of n ≡ s) wher
       chain
       (subst (λ l. IsBuffer l (marks_in v.slab.slots) n.buffer (lists_of n).marks) (sym (ap (λ (t : Threads). t.suspects) rest))
       (subst (λ m. IsBuffer (suspect_links (slots_in n)) m n.buffer (lists_of n).marks) (sym (ap (λ (t : Threads). t.marks) rest)) i.chained.buffer))
+      (subst (λ l. IsWalk l n.walk (lists_of n).walk) (sym (ap (λ (t : Threads). t.walk) rest)) i.chained.walk)
       (ap (λ (t : Threads). t.capacity) rest) in
       (both.0 ∙ ap (with_queue change) was, kept-beside _ refl (ap (λ (t : Threads). t.cells) rest) both.1)
 
-  -- or the buffer
+  -- the buffer,
   pub stored-buffer : (v : Nodes) (b : Buffer) (change : List Marked → List Marked) → without_marks (beside_suspects v.slab) ≡ without_marks (beside_suspects n.nodes.slab) →
       IsBuffer (suspect_links v.slab.slots) (marks_in v.slab.slots) b (change (lists_of n).marks) →
       (stored_of (record n { nodes = v; buffer = b }) ≡ with_marks change s) × IsKept (record n { nodes = v; buffer = b })
@@ -169,15 +185,31 @@ module _ (n : Inside) (i : IsKept n) (s : Stored) (was : stored_of n ≡ s) wher
       (subst (λ l. IsChain l n.order (lists_of n).order) (sym (ap (λ (t : Threads). t.order) rest)) i.chained.order)
       (subst (λ l. IsChain l n.queue (lists_of n).queue) (sym (ap (λ (t : Threads). t.queue) rest)) i.chained.queue)
       buffer
+      (subst (λ l. IsWalk l n.walk (lists_of n).walk) (sym (ap (λ (t : Threads). t.walk) rest)) i.chained.walk)
       (ap (λ (t : Threads). t.capacity) rest) in
       (both.0 ∙ ap (with_marks change) was, kept-beside _ refl (ap (λ (t : Threads). t.cells) rest) both.1)
+
+  -- or the walk
+  pub stored-walk : (v : Nodes) (list : WalkList Members) (change : Walk → Walk) → beside_walk v.slab ≡ beside_walk n.nodes.slab →
+      IsWalk (walk_links v.slab.slots) list (change (lists_of n).walk) →
+      (stored_of (record n { nodes = v; walk = list }) ≡ with_walk change s) × IsKept (record n { nodes = v; walk = list })
+  stored-walk v list change rest walk =
+      let both = stored-are (record n { nodes = v; walk = list }) (with_walk change (stored_of n))
+      (ap (λ (t : Threads). t.cells) rest)
+      (subst (λ l. IsChain l n.order (lists_of n).order) (sym (ap (λ (t : Threads). t.order) rest)) i.chained.order)
+      (subst (λ l. IsChain l n.queue (lists_of n).queue) (sym (ap (λ (t : Threads). t.queue) rest)) i.chained.queue)
+      (subst (λ l. IsBuffer l (marks_in v.slab.slots) n.buffer (lists_of n).marks) (sym (ap (λ (t : Threads). t.suspects) rest))
+      (subst (λ m. IsBuffer (suspect_links (slots_in n)) m n.buffer (lists_of n).marks) (sym (ap (λ (t : Threads). t.marks) rest)) i.chained.buffer))
+      walk
+      (ap (λ (t : Threads). t.capacity) rest) in
+      (both.0 ∙ ap (with_walk change) was, kept-beside _ refl (ap (λ (t : Threads). t.cells) rest) both.1)
 
 -- the slab took memory, and the table says the same
 pub kept-reserved : (n : Inside) → IsKept n → (t : Slab Node) (j : Holders) → t ≡ record n.nodes.slab { capacity = t.capacity } → ((m : ℕ) → entry_at j m ≡ entry_at n.holders m) →
     IsKept (record n { nodes = record n.nodes { slab = t }; holders = j })
 kept-reserved n i t j e same =
     subst (λ (u : Slab Node). IsKept (record n { nodes = record n.nodes { slab = u }; holders = j })) (sym e)
-    (record { chained = record { order = i.chained.order; queue = i.chained.queue; buffer = i.chained.buffer }; known = known-same (cells_of (slots_in n)) n.holders i.known j same })
+    (record { chained = record { order = i.chained.order; queue = i.chained.queue; buffer = i.chained.buffer; walk = i.chained.walk }; known = known-same (cells_of (slots_in n)) n.holders i.known j same })
 
 -- the natives after the order changed, and the table
 abbrev pub inserted : Inside → Nodes → Chain Order → Holders → Inside
@@ -185,7 +217,7 @@ inserted n v o h = record n { nodes = v; order = o; holders = h }
 
 -- A NATIVE CAME to stand at a key that held nothing, in no list, once there was room,
 module _ (n : Inside) (i : IsKept n) (t u : Slab Node) (reserved : t ≡ record n.nodes.slab { capacity = t.capacity }) (key : ℕ) (cell : Placed) (was_vacant : get_or t.slots key None ≡ None)
-    (there : get_or u.slots key None ≡ Some (record { cell = cell; order = None; queue = None; suspects = None; purple = false }))
+    (there : get_or u.slots key None ≡ Some (record { cell = cell; order = None; queue = None; suspects = None; walk = None; purple = false }))
     (others_stayed : (k : ℕ) → k ≢ key → get_or u.slots k None ≡ get_or t.slots k None) where
   vacant : get_or (slots_in n) key None ≡ None
   vacant = sym (ap (λ (s : Slab Node). get_or s.slots key None) reserved) ∙ was_vacant
@@ -193,7 +225,7 @@ module _ (n : Inside) (i : IsKept n) (t u : Slab Node) (reserved : t ≡ record 
   others : (k : ℕ) → k ≢ key → get_or u.slots k None ≡ get_or (slots_in n) k None
   others k o = others_stayed k o ∙ ap (λ (s : Slab Node). get_or s.slots k None) reserved
 
-  unlinked : (part : Node → Option Link) → part (record { cell = cell; order = None; queue = None; suspects = None; purple = false }) ≡ None →
+  unlinked : (part : Node → Option Link) → part (record { cell = cell; order = None; queue = None; suspects = None; walk = None; purple = false }) ≡ None →
       option_flatten (slot_at part u.slots key) ≡ option_flatten (slot_at part (slots_in n) key)
   unlinked part none = ap (λ o. option_flatten (option_map part o)) there ∙ (none ∙ sym (ap (λ o. option_flatten (option_map part o)) vacant))
 
@@ -219,6 +251,8 @@ module _ (n : Inside) (i : IsKept n) (t u : Slab Node) (reserved : t ≡ record 
         (subst (λ l. IsBuffer l (marks_in v.slab.slots) n.buffer (lists_of n).marks) (sym (ap (λ (t : Threads). t.suspects) rest))
         (subst (λ m. IsBuffer (suspect_links u.slots) m n.buffer (lists_of n).marks) (sym (ap (λ (t : Threads). t.marks) rest))
         (buffer-beside (slots_in n) u.slots key others n.buffer (lists_of n).marks (unlinked (λ (n : Node). n.suspects) refl) elsewhere i.chained.buffer)))
+        (subst (λ l. IsWalk l n.walk (lists_of n).walk) (sym (ap (λ (t : Threads). t.walk) rest))
+        (walk-beside (slots_in n) u.slots key others n.walk (lists_of n).walk (unlinked (λ (n : Node). n.walk) refl) i.chained.walk))
         refl
 
     inserts-here : Inserts (lists_of n) (lists_of (inserted n v o h)) key cell
@@ -242,6 +276,7 @@ module _ (n : Inside) (i : IsKept n) (t u : Slab Node) (reserved : t ≡ record 
 
 -- A NATIVE LEFT the order and its key, and was in no other list
 module _ (n : Inside) (i : IsKept n) (s : Stored) (was : stored_of n ≡ s) (key : ℕ) (idle : ¬ (Among key s.lists.queue)) (unmarked : (m : Marked) → Among m s.lists.marks → m.key ≢ key)
+    (out : ¬ (Among key (members s.lists.walk)))
     (v : Nodes) (o : Chain Order) (rest : beside_order v.slab ≡ beside_order n.nodes.slab) (chain : IsChain (order_links v.slab.slots) o (without ◌==◌ key (lists_of n).order))
     (u : Slab Node) (gone : u.slots ≡ set v.slab.slots key None) (capacity : u.capacity ≡ v.slab.capacity) (h : Holders) where
   abbrev pub removed : Inside
@@ -280,6 +315,8 @@ module _ (n : Inside) (i : IsKept n) (s : Stored) (was : stored_of n ≡ s) (key
       (absent (λ (n : Node). n.queue) n.queue (lists_of n).queue queue (λ m. idle (subst (λ (t : Stored). Among key t.lists.queue) was m))) queue)
       (buffer-beside v.slab.slots u.slots key others_stay n.buffer (lists_of n).marks
       (absent (λ (n : Node). n.suspects) n.buffer.keys (keys_of (lists_of n).marks) buffer.keys not-marked) not-held buffer)
+      (walk-beside v.slab.slots u.slots key others_stay n.walk (lists_of n).walk
+      (absent (λ (n : Node). n.walk) n.walk.chain (members (lists_of n).walk) walk.chain (λ m. out (subst (λ (t : Stored). Among key (members t.lists.walk)) was m))) walk)
       (capacity ∙ ap (λ (t : Threads). t.capacity) rest)
     where
       queue : IsChain (queue_links v.slab.slots) n.queue (lists_of n).queue
@@ -287,6 +324,9 @@ module _ (n : Inside) (i : IsKept n) (s : Stored) (was : stored_of n ≡ s) (key
 
       buffer : IsBuffer (suspect_links v.slab.slots) (marks_in v.slab.slots) n.buffer (lists_of n).marks
       buffer = buffer-beside_order n i s was v rest
+
+      walk : IsWalk (walk_links v.slab.slots) n.walk (lists_of n).walk
+      walk = walk-beside_order n i s was v rest
 
   pub stored-removed : stored_of removed ≡ without_cell key s
   stored-removed = both-removed.0 ∙ ap (without_cell key) was

@@ -34,7 +34,7 @@ pub record EmptiesSoFar (start now : Lists) (key i : ℕ) (before after : Tellin
   pub long : length cell.slots ≡ length was.slots
   pub later : drop i cell.slots ≡ drop i was.slots
   pub placed : IsPlaced now
-  pub leaves : LeavesKeys start.cells now.cells
+  pub leaves : LeavesKeys start now
   pub balanced : (others : List ℕ) × IsBalanced (was.number ∷ others) (draining_of now [])
   pub keeps : (others : List ℕ) → IsBalanced (was.number ∷ others) (draining_of start []) → IsBalanced (was.number ∷ others) (draining_of now [])
   pub events : List Event
@@ -46,7 +46,7 @@ pub EmptiesSoFar-done : (start now : Lists) (key i : ℕ) (before after : Tellin
 EmptiesSoFar-done start now key i before after s past = grind (arith, drop_all)
 
 -- what was held where natives left, and is still there, has the same name
-name-kept : (a b : List (Option Placed)) → LeavesKeys a b → (x : Option Held) → is_live (keyed b) x ≡ true → name_of (keyed b) x ≡ name_of (keyed a) x
+name-kept : (a b : Lists) → LeavesKeys a b → (x : Option Held) → is_live (keyed b.cells) x ≡ true → name_of (keyed b.cells) x ≡ name_of (keyed a.cells) x
 name-kept a b left x live = grind (arith, held-same, live-cell, number_at-cell, left.each)
 
 -- lists that begin alike have the same rest
@@ -84,7 +84,7 @@ module _ (start now next : Lists) (key i : ℕ) (before middle after : Telling) 
   step =
       let at_number : f.was.number ≡ number = ap (λ (c : Placed). c.number) same-cell ∙ s.number in
       let at_content : get_or f.was.slots i None ≡ content = ap (λ (c : Placed). get_or c.slots i None) same-cell ∙ parts.0 in
-      ap (empty_slot (heap_of (counts_of now)) number i) (sym (name-kept start.cells now.cells s.leaves content live-content))
+      ap (empty_slot (heap_of (counts_of now)) number i) (sym (name-kept start now s.leaves content live-content))
       ∙ (ap (λ x. empty_slot (heap_of (counts_of now)) number i (name_of (keyed now.cells) x)) (sym at_content)
       ∙ (ap (λ k. empty_slot (heap_of (counts_of now)) k i (name_of (keyed now.cells) (get_or f.was.slots i None))) (sym at_number)
       ∙ f.outcome))
@@ -108,7 +108,7 @@ module _ (start now next : Lists) (key i : ℕ) (before middle after : Telling) 
     long = ap length slots-after ∙ (length-set s.cell.slots i None ∙ s.long);
     later = ap (drop (i + 1)) slots-after ∙ (drop-set-lt (i + 1) s.cell.slots i None (omega arith) ∙ parts.1);
     placed = f.placed;
-    leaves = LeavesKeys-then start.cells now.cells next.cells s.leaves f.leaves;
+    leaves = LeavesKeys-then start now next s.leaves f.leaves;
     balanced = (s.balanced.0, keeps_balance s.balanced.0 s.balanced.1);
     keeps = λ others b. keeps_balance others (s.keeps others b);
     events = s.events ++ f.events;

@@ -12,7 +12,7 @@ use Rattle.cc_counted.specs.declared.held.Held.{Held}
 use Rattle.cc_counted.specs.Counts.{Counts, the_number, name_of, is_live, heap_of, with_heap}
 use Rattle.cc_counted.specs.Lists.{Placed, Lists, cell_at, with_slot, keyed, names_in, shown, marked_number, counts_of, IsPlaced}
 use Rattle.cc_counted.proofs.Places.{the_number-cell}
-use Rattle.cc_counted.proofs.Changing.{keyed-changed, reflectors-changed, IsPlaced-changed, natives-changed}
+use Rattle.cc_counted.proofs.Changing.{keyed-changed, reflectors-changed, walks-changed, IsPlaced-changed, natives-changed}
 use Rattle.cc_counted.proofs.Reading.{name_of-keyed, is_live-keyed}
 use Rattle.cc_counted.proofs.Adding.{counts-same}
 
@@ -25,13 +25,13 @@ module _ (l : Lists) (p : IsPlaced l) (key : ℕ) (c : Placed) (at : cell_at l.c
     pub counts-written : counts_of (record l { cells = cells }) ≡ with_heap (counts_of l) (set_slot (heap_of (counts_of l)) (Some (native (the_number (counts_of l) key))) i (name_of (counts_of l) x))
     counts-written =
         ap (λ cs. counts_of (record l { cells = cs })) e
-        ∙ (counts-same _ _ _ _ _ _ _ _
+        ∙ (counts-same _ _ _ _ _ _ _ _ _ _
         (natives-changed l p key c (with_slot i x c) at refl (with_native_slot i (name_of (counts_of l) x))
         (ap (λ ys. record (shown (keyed l.cells) (Some c)) { slots = ys })
         (ap (set (names_in (keyed l.cells) c.slots) i) (name_of-keyed l x) ∙ sym (map-set (name_of (keyed l.cells)) c.slots i x))))
         (ap (λ n. map (marked_number n) l.marks) (keyed-changed l p key c (with_slot i x c) at refl))
         (ap (λ (n : Counts). n.keys) (keyed-changed l p key c (with_slot i x c) at refl))
-        (reflectors-changed l p key c (with_slot i x c) at refl refl)
+        (reflectors-changed l p key c (with_slot i x c) at refl refl) (walks-changed l p key c (with_slot i x c) at refl)
         ∙ ap (λ k. with_heap (counts_of l) (set_slot (heap_of (counts_of l)) (Some (native k)) i (name_of (counts_of l) x))) (sym (the_number-cell l.cells key c at)))
 
     pub placed-written : is_live (counts_of l) x ≡ true → IsPlaced (record l { cells = cells })

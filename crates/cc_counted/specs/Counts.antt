@@ -1,5 +1,5 @@
 -- WHAT A COUNTED HEAP SHOWS: its natives and its buffer by names, and which native stands at which key.
-use Rattle.std.specs.Prelude.{ℕ, zero, Bool, true, false, List, [], ◌∷◌, map, filter, Option, Some, None, option_map, slice_index_or, slice_set, nat_lt, is_some, if◌then◌else◌}
+use Rattle.std.specs.Prelude.{◌≢◌, ℕ, zero, Bool, true, false, List, [], ◌∷◌, map, filter, Option, Some, None, option_map, slice_index_or, slice_set, nat_lt, is_some, if◌then◌else◌}
 use Rattle.cc_lists.specs.Walks.{first_key}
 use Rattle.cc_names.specs.Allowance.{Allowance}
 use Rattle.cc_names.specs.declared.name.Name.{Name}
@@ -9,11 +9,14 @@ use Rattle.cc_names.specs.Places.{where_set, native_places}
 use Rattle.cc_model.specs.Slots.{Slots}
 use Rattle.cc_model.specs.Heap.{Heap, HeapNative, Buffered, Outcome, empty_heap, native_at}
 use Rattle.cc_model.specs.Cascade.{cascade}
+use Rattle.cc_names.specs.declared.kind.Walked.{Walked}
+use Rattle.cc_names.specs.declared.kind.Walked.TheVariants.{Out, Waiting}
 use Rattle.cc_counted.specs.declared.held.Held.{Held}
 use Rattle.cc_counted.specs.declared.held.Held.TheVariants as held
 
--- natives by rising number, the buffer in order, at each key the number of the native that stands there, and at each key
--- the key of that native's reflector in the script heap, where it has one.
+-- natives by rising number, the buffer in order, at each key the number of the native that stands there, at each key
+-- the key of that native's reflector in the script heap, where it has one, and how each key stands in a walk: a key that
+-- holds nothing is out of it.
 -- A SCRIPT OBJECT IN A SLOT, which stands at key q of its own heap, is named object q: its key in the place of a number.
 -- This heap knows no other name of it; crates above give it its own name.
 pub record Counts : Type 0 where
@@ -21,9 +24,10 @@ pub record Counts : Type 0 where
   pub buffer : List Buffered
   pub keys : List (Option ℕ)
   pub reflectors : List (Option ℕ)
+  pub walks : List Walked
 
 abbrev pub no_counts : Counts
-no_counts = record { natives = []; buffer = []; keys = []; reflectors = [] }
+no_counts = record { natives = []; buffer = []; keys = []; reflectors = []; walks = [] }
 
 -- the number of the native at a key
 abbrev pub number_at : Counts → ℕ → Option ℕ
@@ -96,6 +100,16 @@ reflectors_left (k ∷ ks) [] = []
 reflectors_left (None ∷ ks) (r ∷ rs) = None ∷ reflectors_left ks rs
 reflectors_left (Some k ∷ ks) (r ∷ rs) = r ∷ reflectors_left ks rs
 
+-- a native that is no more is in no walk
+abbrev pub state_left : Heap → Option ℕ → Walked → Walked
+state_left h None state = state
+state_left h (Some k) state = if is_some (native_at h k) then state else Out
+
+abbrev pub walks_left : Heap → List (Option ℕ) → List Walked → List Walked
+walks_left h [] walks = walks
+walks_left h (k ∷ ks) [] = []
+walks_left h (k ∷ ks) (w ∷ ws) = state_left h k w ∷ walks_left h ks ws
+
 -- some natives are no more
 abbrev pub left_with : Counts → Heap → Counts
 left_with c h = record {
@@ -103,11 +117,34 @@ left_with c h = record {
   buffer = h.buffer;
   keys = map (key_left h) c.keys;
   reflectors = reflectors_left (map (key_left h) c.keys) c.reflectors;
+  walks = walks_left h c.keys c.walks;
 }
 
 -- the native at a key has this reflector, or none
 abbrev pub with_reflector : Counts → ℕ → Option ℕ → Counts
 with_reflector c key reflector = record c { reflectors = slice_set c.reflectors key reflector }
+
+-- how the native at a key stands in a walk
+abbrev pub state_in : List Walked → ℕ → Walked
+state_in walks key = slice_index_or walks key Out
+
+abbrev pub state_of : Counts → ℕ → Walked
+state_of c key = state_in c.walks key
+
+-- it stands so,
+abbrev pub with_state_of : Counts → ℕ → Walked → Counts
+with_state_of c key state = record c { walks = slice_set c.walks key state }
+
+-- none is in it,
+abbrev pub none_walked : List Walked → List Walked
+none_walked walks = map (λ state. Out) walks
+
+abbrev pub unwalked : Counts → Counts
+unwalked c = record c { walks = none_walked c.walks }
+
+-- and none waits
+abbrev pub NoneWaits : List Walked → Type 0
+NoneWaits walks = (key : ℕ) → state_in walks key ≢ Waiting
 
 -- after one reference to native k was given up
 abbrev pub released : Counts → ℕ → Outcome

@@ -22,6 +22,9 @@ queue_links slots = slot_at (λ n. n.queue) slots
 abbrev pub suspect_links : List (Option Node) → Links
 suspect_links slots = slot_at (λ n. n.suspects) slots
 
+abbrev pub walk_links : List (Option Node) → Links
+walk_links slots = slot_at (λ n. n.walk) slots
+
 -- who has the purple mark
 abbrev pub marks_in : List (Option Node) → Marks
 marks_in slots key = unwrap_or (slot_at (λ n. n.purple) slots key) false
@@ -32,6 +35,7 @@ pub record Threads : Type 0 where
   pub order : Links
   pub queue : Links
   pub suspects : Links
+  pub walk : Links
   pub marks : Marks
   pub capacity : ℕ
 
@@ -41,6 +45,7 @@ threads_of s = record {
   order = order_links s.slots;
   queue = queue_links s.slots;
   suspects = suspect_links s.slots;
+  walk = walk_links s.slots;
   marks = marks_in s.slots;
   capacity = s.capacity;
 }
@@ -57,6 +62,9 @@ beside_queue s = record (threads_of s) { queue = no_links }
 
 abbrev pub beside_suspects : Slab Node → Threads
 beside_suspects s = record (threads_of s) { suspects = no_links }
+
+abbrev pub beside_walk : Slab Node → Threads
+beside_walk s = record (threads_of s) { walk = no_links }
 
 abbrev pub without_marks : Threads → Threads
 without_marks t = record t { marks = λ key. false }

@@ -5,7 +5,7 @@ use Rattle.cc_names.specs.Names.{native, same_name}
 use Rattle.cc_model.specs.Heap.{HeapNative, Buffered, with_mark, new_native}
 use Rattle.cc_model.specs.WellFormed.{IsRising, native_names}
 use Rattle.cc_model.specs.Counts.{slots_of_natives, times}
-use Rattle.cc_counted.specs.Counts.{Counts, heap_of, number_at, reflector_at}
+use Rattle.cc_counted.specs.Counts.{Counts, heap_of, number_at, reflector_at, state_of}
 
 -- each native that is there stands at one key, and at each key that holds something a native that is there
 pub record HasKeys (c : Counts) : Type 0 where
@@ -43,3 +43,4 @@ pub record Makes (old new : Counts) (key number slots : ℕ) : Type 0 where
   pub reflector : reflector_at new key ≡ None
   pub other_reflectors : (q : ℕ) → q ≢ key → reflector_at new q ≡ reflector_at old q
   pub as_many : length new.reflectors ≡ length new.keys
+  pub walks : (q : ℕ) → state_of new q ≡ state_of old q

@@ -17,6 +17,7 @@ pub record GivesUp (old new : Lists) (ks : List ℕ) : Type 0 where
   pub placed : IsPlaced new
   pub keys : keyed new.cells ≡ keyed old.cells
   pub order : new.order ≡ old.order
+  pub walk : new.walk ≡ old.walk
   pub as_many : length new.cells ≡ length old.cells
   pub cells : (key : ℕ) → option_map without_count (cell_at new.cells key) ≡ option_map without_count (cell_at old.cells key)
 
@@ -31,7 +32,7 @@ pub record FreesFront (old new : Lists) (before after : Telling) : Type 0 where
   pub front : numbers_waiting old ≡ number ∷ behind
   pub draining : (events : List Event) → draining_of new (events ++ Freed (native number) ∷ []) ≡ free_front (draining_of old events) number behind
   pub placed : IsPlaced new
-  pub leaves : LeavesCells old.cells new.cells
+  pub leaves : LeavesCells old new
   pub told : TellsEvents before after (Freed (native number) ∷ [])
 
 -- the queue was drained
@@ -40,7 +41,7 @@ pub record Drains (old new : Lists) (before after : Telling) : Type 0 where
   pub draining : draining_of new events ≡ drain (length old.order) (draining_of old [])
   pub emptied : new.queue ≡ []
   pub placed : IsPlaced new
-  pub leaves : LeavesCells old.cells new.cells
+  pub leaves : LeavesCells old new
   pub told : TellsEvents before after events
 
 -- something was done that deletes natives, and came to this outcome
@@ -49,7 +50,7 @@ pub record ComesTo (old new : Lists) (before after : Telling) (done : Outcome) :
   pub heap : done.heap ≡ heap_of (counts_of new)
   pub emptied : new.queue ≡ []
   pub placed : IsPlaced new
-  pub leaves : LeavesCells old.cells new.cells
+  pub leaves : LeavesCells old new
   pub told : TellsEvents before after done.events
 
 -- slot i of the native at a key was emptied, and what was in it given up with its cascade; the native stayed
@@ -60,7 +61,7 @@ pub record EmptiesSlot (old new : Lists) (key i : ℕ) (before after : Telling) 
   pub there : cell_at new.cells key ≡ Some cell
   pub same : without_count cell ≡ without_count (with_slot i None was)
   pub placed : IsPlaced new
-  pub leaves : LeavesKeys old.cells new.cells
+  pub leaves : LeavesKeys old new
   pub balanced : (others : List ℕ) → IsBalanced (was.number ∷ others) (draining_of old []) → IsBalanced (was.number ∷ others) (draining_of new [])
   pub events : List Event
   pub outcome : empty_slot (heap_of (counts_of old)) was.number i (name_of (keyed old.cells) (slice_index_or was.slots i None)) ≡ outcome_of (heap_of (counts_of new)) events
@@ -74,7 +75,7 @@ pub record EmptiesEach (old new : Lists) (key : ℕ) (before after : Telling) : 
   pub there : cell_at new.cells key ≡ Some cell
   pub number : cell.number ≡ was.number
   pub placed : IsPlaced new
-  pub leaves : LeavesKeys old.cells new.cells
+  pub leaves : LeavesKeys old new
   pub balanced : (others : List ℕ) → IsBalanced (was.number ∷ others) (draining_of old []) → IsBalanced (was.number ∷ others) (draining_of new [])
   pub events : List Event
   pub outcome : empty_each was.number 0 (names_in (keyed old.cells) was.slots) (silently (heap_of (counts_of old))) ≡ outcome_of (heap_of (counts_of new)) events

@@ -1,6 +1,7 @@
 -- THE NATIVES AS THEY STAND IN MEMORY: their lists, and how many have room at their keys.
 use Rattle.std.specs.Prelude.{◌≡◌, ◌≢◌, ℕ, ◌==◌, List, [], ◌∷◌, ◌++◌, Some, None, option_map, slice_set}
 use Rattle.cc_lists.specs.Members.{without}
+use Rattle.cc_walk.specs.Walks.{Walk}
 use Rattle.cc_purple.specs.Marks.{Marked}
 use Rattle.cc_counted.specs.Lists.{Placed, Lists, cell_at}
 
@@ -16,9 +17,13 @@ with_cell key change s = record s { lists = record s.lists { cells = slice_set s
 abbrev pub with_queue : (List ℕ → List ℕ) → Stored → Stored
 with_queue change s = record s { lists = record s.lists { queue = change s.lists.queue } }
 
--- or the buffer
+-- the buffer,
 abbrev pub with_marks : (List Marked → List Marked) → Stored → Stored
 with_marks change s = record s { lists = record s.lists { marks = change s.lists.marks } }
+
+-- or the walk
+abbrev pub with_walk : (Walk → Walk) → Stored → Stored
+with_walk change s = record s { lists = record s.lists { walk = change s.lists.walk } }
 
 -- the native at a key leaves it and the order
 abbrev pub without_cell : ℕ → Stored → Stored

@@ -53,6 +53,7 @@ impl Natives {
         requires balanced { (owned : List ℕ) × IsBalanced owned (draining_of (with_front key.0 self.old.lists) []) }
         ensures { FreesFront (with_front key.0 self.old.lists) self.new.lists (N.telling out.old) (N.telling out.new) }
     {
+        self.walk_leave(key);
         let cell = self.remove(key);
         out.tell(Item::Event(Event::Freed(Name::Native(cell.number))));
         self.give_up_each(cell.slots.as_slice());

@@ -7,7 +7,9 @@ ghost use Rattle.cc_model.specs.Slots.{empty_slots};
 ghost use Rattle.cc_model.specs.Heap.{HeapNative, set_preserved, set_slot, suspect, touch, with_mark, buffered_as, new_native};
 ghost use Rattle.cc_model.specs.Cascade.{add_ref};
 ghost use Rattle.cc_model.specs.End.{unlink};
-ghost use Rattle.cc_counted.specs.Counts.{no_counts, number_at, reflector_at, the_number, name_of, is_live, numbers_held, heap_of, with_heap, with_reflector, left_with, released, slots_of, count_of, preserved_of, unlinked_of, references_of, first_number, number_after};
+ghost use Rattle.cc_counted.specs.Counts.{no_counts, number_at, reflector_at, the_number, name_of, is_live, numbers_held, heap_of, with_heap, with_reflector, left_with, released, slots_of, count_of, preserved_of, unlinked_of, references_of, first_number, number_after, with_state_of, state_of, unwalked, NoneWaits};
+ghost use Rattle.cc_names.specs.declared.kind.Walked.TheVariants.{Waiting, Given};
+ghost use Rattle.cc_walk.specs.Walks.{entered, is_walked};
 ghost use Rattle.cc_counted.specs.Owning.{CallersOwn, AreOwned, Transfers, HasKeys};
 ghost use Rattle.cc_counted.specs.Scripts.{HasNoHolder, IsNextHolder};
 ghost use Rattle.cc_counted.specs.Suspects.{is_in_buffer, is_purple_in, front_number, number_behind};
@@ -76,6 +78,7 @@ impl Counted {
         ensures reflector { IfOk result (λ key. reflector_at self.new key.0 ≡ None) }
         ensures other_reflectors { IfOk result (λ key. (q : ℕ) → q ≢ key.0 → reflector_at self.new q ≡ reflector_at self.old q) }
         ensures as_many { OnOk result (length self.new.reflectors ≡ length self.new.keys) }
+        ensures walks { OnOk result ((q : ℕ) → state_of self.new q ≡ state_of self.old q) }
         ensures keyed { HasKeys self.old → HasKeys self.new }
         ensures owned { OnOk result (Transfers [] (no.0 ∷ []) self.old self.new) }
         ensures err { OnErr result (self.new ≡ self.old) }
@@ -373,5 +376,39 @@ impl Counted {
         ensures live { IfSome result (λ k. IsSome (number_at self.now k.0)) }
     {
         self.natives.next_suspect(key)
+    }
+
+    /// No native is in the walk. It takes time by how many were.
+    pub fn walk_clear(&mut self)
+        ensures walks { self.new ≡ unwalked self.old }
+        ensures owned { Transfers [] [] self.old self.new }
+    {
+        self.natives.walk_clear();
+    }
+
+    /// A native that is not in the walk comes into it and waits; one that is in it stays as it stands there.
+    pub fn walk_add(&mut self, key: NKey)
+        requires live { IsSome (number_at self.old key.0) }
+        ensures walks { self.new ≡ with_state_of self.old key.0 (entered (state_of self.old key.0)) }
+        ensures owned { Transfers [] [] self.old self.new }
+    {
+        self.natives.walk_add(key);
+    }
+
+    /// A native that waits in the walk, which is given from then on; none exactly where none waits.
+    pub fn walk_next(&mut self) -> Option<NKey>
+        ensures next { MatchOption result (NoneWaits self.old.walks × (self.new ≡ self.old))
+            (λ key. (state_of self.old key.0 ≡ Waiting) × (self.new ≡ with_state_of self.old key.0 Given) × IsSome (number_at self.old key.0)) }
+        ensures owned { Transfers [] [] self.old self.new }
+    {
+        self.natives.walk_next()
+    }
+
+    /// Whether a native is in the walk, given or not.
+    pub fn walked(&self, key: NKey) -> bool
+        requires live { IsSome (number_at self.now key.0) }
+        ensures { result ≡ is_walked (state_of self.now key.0) }
+    {
+        self.natives.walks(key)
     }
 }

@@ -13,8 +13,10 @@
 //! to what its slots hold, until it is unlinked. That it was is known as long as it is there. This heap does not count
 //! reflectors, and a freed native takes its reflector's key along.
 //!
-//! The natives by rising number, the queue and the buffer are chains through the natives themselves: what joins or leaves
-//! one looks at its neighbours alone. `create` takes the native's own memory, and no other call takes any.
+//! A walk over the natives has a set of them: each comes in once and is given once, and one that is freed leaves it.
+//!
+//! The natives by rising number, the queue, the buffer and the walk are chains through the natives themselves: what joins
+//! or leaves one looks at its neighbours alone. `create` takes the native's own memory, and no other call takes any.
 #![tactic(auto)]
 
 mod cascade;

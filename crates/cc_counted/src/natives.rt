@@ -1,6 +1,6 @@
 //! The natives by key, the lists that go through them, and a table of those that refer to script objects.
 ghost use Rattle.std.specs.Prelude.{◌≡◌, ◌≢◌, true, false, ℕ, ◌+◌, ◌<◌, ◌≤◌, ◌==◌, [], ◌∷◌, ◌++◌, length, count_by, drop, Some, None, is_some, option_map, if◌then◌else◌, IsSome, IsTrue, IfNone, IfOk, IfSome, OnErr, replicate, slice_index_or, vec_capacity, vec_len};
-ghost use Rattle.cc_lists.specs.Members.{Among};
+ghost use Rattle.cc_lists.specs.Members.{Among, has};
 ghost use Rattle.cc_lists.specs.Walks.{first_of};
 ghost use Rattle.cc_names.specs.Sizes.{most_slots};
 ghost use Rattle.cc_chain.specs.Chains.{behind};
@@ -8,22 +8,24 @@ ghost use Rattle.cc_holders.specs.Entries.{count_of};
 ghost use Rattle.cc_holders.specs.Known.{entry_at};
 ghost use Rattle.cc_purple.specs.Marks.{Marked, marked_as, first_key, holds_key, is_purple, key_after, with_mark, without_key};
 ghost use Rattle.cc_counted.specs.Lists.{Placed, new_placed, cell_at, count_placed, slots_placed, with_one_less, with_one_more, with_slot, with_flag, placed_unlinked, reflected_by};
-ghost use Rattle.cc_counted.specs.Stored.{Inserts, with_cell, with_queue, with_marks, without_cell};
+ghost use Rattle.cc_counted.specs.Stored.{Inserts, with_cell, with_queue, with_marks, without_cell, with_walk};
+ghost use Rattle.cc_walk.specs.Walks.{members, no_walk, with_member, without_member, without_first, gone_on};
 ghost use Rattle.cc_counted.specs.Scripts.{IsNextPlaced, HasNonePlaced, is_script, recounted, refers_by_reflector};
 
 use crate::cell::Cell;
 use crate::held::Held;
-use crate::node::{Node, Nodes, Order, Queue};
+use crate::node::{Members, Node, Nodes, Order, Queue};
 use crate::slot::Slot;
 use cc_chain::{Chain, Neighbours};
 use cc_holders::Holders;
 use cc_names::{NKey, NativeNo, NoMemory, SKey, SlotNo, narrow_key};
 use cc_purple::Buffer;
+use cc_walk::WalkList;
 use slab::Slab;
 use std::alloc::{AllocError, Global};
 use std::marker::Model;
 
-/// The natives by key; all of them by rising number, those that wait to be deleted, and the buffer of suspects.
+/// The natives by key; all of them by rising number, those that wait to be deleted, the buffer of suspects, and a walk.
 ///
 /// The lists go through the natives themselves. A table has for each number the key of its native, and counts the script
 /// objects that the native refers to: in slots, and as its reflector, where that is preserved. `insert` alone takes memory.
@@ -33,6 +35,7 @@ pub(crate) struct Natives {
     order: Chain<Order>,
     queue: Chain<Queue>,
     buffer: Buffer,
+    walk: WalkList<Members>,
     holders: Holders,
 }
 
@@ -51,7 +54,7 @@ impl Model for Natives {
 impl Natives {
     /// No natives, and room for none.
     pub(crate) fn new(alloc: Global) -> Natives
-        ensures { result ≡ record { lists = record { cells = []; order = []; queue = []; marks = [] }; capacity = 0 } }
+        ensures { result ≡ record { lists = record { cells = []; order = []; queue = []; marks = []; walk = no_walk }; capacity = 0 } }
     {
         Natives {
             nodes: Nodes {
@@ -60,6 +63,7 @@ impl Natives {
             order: Chain::new(),
             queue: Chain::new(),
             buffer: Buffer::new(),
+            walk: WalkList::new(),
             holders: Holders::new(alloc),
         }
     }
@@ -215,19 +219,21 @@ impl Natives {
             order: Neighbours::of(None),
             queue: Neighbours::of(None),
             suspects: Neighbours::of(None),
+            walk: Neighbours::of(None),
             purple: false,
         });
         self.order.push_back(&mut self.nodes, key);
         Ok(NKey(key))
     }
 
-    /// Takes out a native that neither waits nor is in the buffer.
+    /// Takes out a native that neither waits nor is in the buffer or in the walk.
     #[inline(always)]
     pub(crate) fn remove(&mut self, key: NKey) -> Cell
         requires live { IsSome (cell_at self.old.lists.cells key.0) }
         requires order { Among key.0 self.old.lists.order }
         requires queue { ¬ (Among key.0 self.old.lists.queue) }
         requires buffer { (m : Marked) → Among m self.old.lists.marks → m.key ≢ key.0 }
+        requires walk { ¬ (Among key.0 (members self.old.lists.walk)) }
         ensures value { cell_at self.old.lists.cells key.0 ≡ Some result }
         ensures lists { self.new ≡ without_cell key.0 self.old }
     {
@@ -345,6 +351,63 @@ impl Natives {
         ensures { option_map (λ k. k.0) result ≡ key_after self.now.lists.marks key.0 }
     {
         self.buffer.next(&self.nodes, key)
+    }
+
+    // The walk
+
+    /// The native at a key is in the walk: it stays as it stands there, or comes in and waits.
+    pub(crate) fn walk_add(&mut self, key: NKey)
+        requires { IsSome (cell_at self.old.lists.cells key.0) }
+        ensures { self.new ≡ with_walk (with_member key.0) self.old }
+    {
+        self.walk.add(&mut self.nodes, key.0);
+    }
+
+    /// The native that has waited longest in the walk, which is given from then on.
+    pub(crate) fn walk_next(&mut self) -> Option<NKey>
+        ensures first { option_map (λ k. k.0) result ≡ first_of self.old.lists.walk.waiting }
+        ensures new { IfSome result (λ k. ¬ (Among k.0 self.old.lists.walk.given)) }
+        ensures lists { self.new ≡ with_walk gone_on self.old }
+    {
+        match self.walk.give(&self.nodes) {
+            Some(key) => Some(NKey(key)),
+            None => None,
+        }
+    }
+
+    /// The native at a key is not in the walk.
+    #[inline(always)]
+    pub(crate) fn walk_leave(&mut self, key: NKey)
+        requires { IsSome (cell_at self.old.lists.cells key.0) }
+        ensures { self.new ≡ with_walk (without_member key.0) self.old }
+    {
+        self.walk.leave(&mut self.nodes, key.0);
+    }
+
+    /// Takes a native out of the walk, where one is in it.
+    fn walk_drop(&mut self) -> Option<NKey>
+        ensures first { option_map (λ k. k.0) result ≡ first_of (members self.old.lists.walk) }
+        ensures lists { self.new ≡ with_walk without_first self.old }
+    {
+        match self.walk.take_first(&mut self.nodes) {
+            Some(key) => Some(NKey(key)),
+            None => None,
+        }
+    }
+
+    /// No native is in the walk.
+    pub(crate) fn walk_clear(&mut self)
+        ensures { self.new ≡ with_walk (λ w. no_walk) self.old }
+    {
+        'members: while self.walk_drop().is_some() {}
+    }
+
+    /// Whether the native at a key is in the walk.
+    pub(crate) fn walks(&self, key: NKey) -> bool
+        requires { IsSome (cell_at self.now.lists.cells key.0) }
+        ensures { result ≡ has ◌==◌ (members self.now.lists.walk) key.0 }
+    {
+        self.walk.holds(&self.nodes, key.0)
     }
 }
 

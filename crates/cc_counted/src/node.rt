@@ -12,6 +12,9 @@ pub(crate) struct Order;
 /// The list of those that wait to be deleted.
 pub(crate) struct Queue;
 
+/// The members of a walk.
+pub(crate) struct Members;
+
 /// A native, and where it stands in each list: none where it is not in it.
 #[derive(Drop)]
 pub(crate) struct Node {
@@ -19,12 +22,13 @@ pub(crate) struct Node {
     pub(crate) order: Neighbours,
     pub(crate) queue: Neighbours,
     pub(crate) suspects: Neighbours,
+    pub(crate) walk: Neighbours,
     /// The purple mark. It says nothing of a native that is not in the buffer.
     pub(crate) purple: bool,
 }
 
 // the slab adds 8 bytes to each
-const _: () = prove!(size_of::<Node>() == 88);
+const _: () = prove!(size_of::<Node>() == 104);
 
 /// The natives by key, as a store of the links of each list.
 #[derive(Drop)]
@@ -83,6 +87,24 @@ impl LinkStore<Suspects> for Nodes {
 
     fn set(&mut self, key: u32, link: Option<Link>) {
         self.slab[key as usize].suspects = Neighbours::of(link);
+    }
+}
+
+impl LinkStore<Members> for Nodes {
+    ghost use Rattle.cc_counted.specs.Nodes.{Threads, walk_links, beside_walk};
+
+    ghost links = { λ s. walk_links s.slab.slots };
+
+    ghost Rest = { Threads };
+
+    ghost rest = { λ s. beside_walk s.slab };
+
+    fn get(&self, key: u32) -> Option<Link> {
+        self.slab[key as usize].walk.link()
+    }
+
+    fn set(&mut self, key: u32, link: Option<Link>) {
+        self.slab[key as usize].walk = Neighbours::of(link);
     }
 }
 

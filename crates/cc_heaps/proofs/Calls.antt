@@ -1,10 +1,11 @@
 -- WHAT THE CALLS OF THE COUNTED HEAP COME TO, with the rest of the parts beside it.
 use Rattle.cc_laws_heap.proofs.Face.{count-bound, is_some-found, with_buffer, native_at-number, native_at-there}
-use Rattle.std.proofs.Common.{◌≡◌, ℕ, ◌+◌, ◌≤◌, Bool, true, List, ◌∷◌, length, map, Option, Some, None, option_map, refl, sym, ◌∙◌, ap, subst, arith}
+use Rattle.std.proofs.Common.{◌≡◌, ℕ, ◌+◌, ◌≤◌, Bool, true, List, ◌∷◌, length, map, Option, Some, None, option_map, refl, sym, ◌∙◌, ap, subst, arith, get_or}
 use Rattle.std.specs.Option.{is_some}
 use Rattle.std.proofs.lemmas.Simd.{map-map}
 use Rattle.cc_lists.specs.Members.{Among}
 use Rattle.cc_names.specs.declared.name.Name.{Name}
+use Rattle.cc_names.specs.declared.kind.Walked.{Walked}
 use Rattle.cc_names.specs.Names.{native}
 use Rattle.cc_names.specs.Sizes.{most_references, most_roots}
 use Rattle.cc_model.specs.Telling.{Telling, TellsEvents}
@@ -14,7 +15,7 @@ use Rattle.cc_model.specs.Cascade.{add_ref, cascade}
 use Rattle.cc_model.specs.End.{unlink}
 use Rattle.cc_model.specs.WellFormed.{native_names}
 use Rattle.cc_model.specs.Counts.{times}
-use Rattle.cc_counted.specs.Counts.{Counts, key_left, reflectors_left, number_or_none, count_at, with_heap}
+use Rattle.cc_counted.specs.Counts.{Counts, key_left, reflectors_left, state_left, number_or_none, count_at, with_heap}
 use Rattle.cc_counted.specs.Counts as counts
 use Rattle.cc_script.specs.Objects.{Object}
 use Rattle.cc_heaps.specs.declared.heaps.Heaps.TheInside.{Inside}
@@ -52,6 +53,9 @@ count-fits owned p k o = go (native_at (counts.heap_of p.counted) k) refl
 -- keys are left by numbers
 pub key_left-shown : (objects : List Object) (h g : Heap) (o : Option ℕ) → key_left g o ≡ key_left (shown h objects g) o
 key_left-shown objects h g o = grind (arith, native_at-shown)
+
+pub state_left-shown : (objects : List Object) (h g : Heap) (o : Option ℕ) (state : Walked) → state_left g o state ≡ state_left (shown h objects g) o state
+state_left-shown objects h g o state = grind (arith, native_at-shown)
 
 -- Natives changed, each at its key
 
@@ -132,6 +136,7 @@ module _ {p : Inside} {next : Counts} {owned : List ℕ} {call : Heap → Outcom
         keys = map (λ o. key_left-shown p.scripts v.heap alone.heap o i) p.counted.keys;
         scripts = p.scripts;
         entries = p.weak;
+        walks = λ key. state_left-shown p.scripts v.heap alone.heap (get_or p.counted.keys key None) (p.counted.walks key) i;
       })
       ∙ ap (λ (o : Outcome). left_with v o.heap) (sym l.beside))
 

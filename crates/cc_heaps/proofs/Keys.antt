@@ -20,6 +20,7 @@ use Rattle.cc_names.specs.Names.{native, reflector, same_name, object}
 use Rattle.cc_names.proofs.NameTests.{same_name-true}
 use Rattle.cc_model.specs.Heap.{Heap, HeapNative, Buffered, native_at, change_native}
 use Rattle.cc_model.specs.WellFormed.{IsRising, IsWellFormed, native_names, script_names}
+use Rattle.cc_walk.specs.Walks.{Walks, nowhere}
 use Rattle.cc_counted.specs.Counts.{Counts, key_left, number_at, heap_of}
 use Rattle.cc_counted.specs.Counts as counts
 use Rattle.cc_counted.specs.Owning.{HasKeys}
@@ -31,17 +32,17 @@ use Rattle.cc_heaps.specs.Keyed as keyed
 abbrev pub numbers_of_natives : List HeapNative → List ℕ
 numbers_of_natives ns = map (λ n. n.number) ns
 
--- the natives of heaps, which stand at these keys; nothing is said of reflectors
+-- the natives of heaps, which stand at these keys; nothing is said of reflectors, nor of a walk
 abbrev pub counts_in : Heap → List (Option ℕ) → Counts
-counts_in h keys = record { natives = h.natives; buffer = h.buffer; keys = keys; reflectors = [] }
+counts_in h keys = record { natives = h.natives; buffer = h.buffer; keys = keys; reflectors = []; walks = nowhere }
 
 -- names by numbers
 names-by_numbers : (ns : List HeapNative) → map (λ (n : HeapNative). native n.number) ns ≡ map native (numbers_of_natives ns)
 names-by_numbers ns = sym (map-map native (λ (n : HeapNative). n.number) ns)
 
 -- keys read numbers alone
-pub HasKeys-numbers : (c : Counts) (ns : List HeapNative) (bs : List Buffered) (rs : List (Option ℕ)) → numbers_of_natives ns ≡ numbers_of_natives c.natives → HasKeys c →
-    HasKeys (record c { natives = ns; buffer = bs; reflectors = rs })
+pub HasKeys-numbers : {walks : Walks} (c : Counts) (ns : List HeapNative) (bs : List Buffered) (rs : List (Option ℕ)) → numbers_of_natives ns ≡ numbers_of_natives c.natives → HasKeys c →
+    HasKeys (record c { natives = ns; buffer = bs; reflectors = rs; walks = walks })
 HasKeys-numbers c ns bs rs same k = record {
   key_of = λ n m.
       let f = Among-map_cases (λ (o : HeapNative). o.number) c.natives n.number
@@ -78,8 +79,8 @@ pub number_at-left : (c : Counts) (g : Heap) (key : ℕ) → number_at (counts.l
 number_at-left c g key = get_or-map (key_left g) c.keys key None
 
 -- the keys of the natives that left hold nothing
-pub HasKeys-left : (c : Counts) (g : Heap) (rs : List (Option ℕ)) → IsWellFormed g → ((k : ℕ) → Among (native k) (native_names g) → Among (native k) (native_names (heap_of c))) → HasKeys c →
-    HasKeys (record (counts.left_with c g) { reflectors = rs })
+pub HasKeys-left : {walks : Walks} (c : Counts) (g : Heap) (rs : List (Option ℕ)) → IsWellFormed g → ((k : ℕ) → Among (native k) (native_names g) → Among (native k) (native_names (heap_of c))) → HasKeys c →
+    HasKeys (record (counts.left_with c g) { reflectors = rs; walks = walks })
 HasKeys-left c g rs w before k = record {
   key_of = λ n m.
       let named : Among (native n.number) (native_names g) = Among-map (λ (o : HeapNative). native o.number) n g.natives m in

@@ -8,7 +8,10 @@ use Rattle.cc_names.specs.Names.{native}
 use Rattle.cc_model.specs.Heap.{Heap, HeapNative, native_at}
 use Rattle.cc_model.specs.WellFormed.{native_names}
 use Rattle.cc_laws_heap.proofs.Face.{named-found, native_at-named}
-use Rattle.cc_counted.specs.Counts.{key_left}
+use Rattle.cc_names.specs.declared.kind.Walked.{Walked}
+use Rattle.cc_names.specs.declared.kind.Walked.TheVariants.{Out}
+use Rattle.cc_walk.specs.Walks.{Walks}
+use Rattle.cc_counted.specs.Counts.{key_left, state_left, walks_left}
 use Rattle.cc_heaps.specs.Keyed.{Keyed, IsInOrder, number_at, the_number, left_with}
 use Rattle.cc_heaps.proofs.Calls.{number-named}
 use Rattle.cc_heaps.proofs.Content.{number-some}
@@ -26,9 +29,20 @@ keys-there h [] there = refl
 keys-there h (None ∷ keys) there = ap (λ ks. None ∷ ks) (keys-there h keys (λ key k e. there (suc key) k e))
 keys-there h (Some j ∷ keys) there = rw (key_left-there h j (there zero j refl)) (ap (λ ks. Some j ∷ ks) (keys-there h keys (λ key k e. there (suc key) k e)))
 
+-- and stand in a walk as they did
+pub walks-there : (h : Heap) (keys : List (Option ℕ)) (walks : Walks) → ((key k : ℕ) → get_or keys key None ≡ Some k → Among (native k) (native_names h)) → walks_left h keys walks ≡ walks
+walks-there h keys walks there = fun_ext (λ key. go key (get_or keys key None) refl)
+  where
+    go : (key : ℕ) (o : Option ℕ) → get_or keys key None ≡ o → state_left h (get_or keys key None) (walks key) ≡ walks key
+    go key None e = ap (λ o. state_left h o (walks key)) e
+    go key (Some k) e = let f = named-found h k (there key k e) in ap (λ o. state_left h o (walks key)) e ∙ rw f.1 refl
+
 -- where none has left, keys are as they were
 pub left_with-same : (owned : List ℕ) (v : Keyed) → IsInOrder owned v → left_with v v.heap ≡ v
-left_with-same owned v o = ap (λ ks. record v { keys = ks }) (keys-there v.heap v.keys (λ key k e. number-named v owned key k o e))
+left_with-same owned v o = λ i. record v { keys = keys-there v.heap v.keys there i; walks = walks-there v.heap v.keys v.walks there i }
+  where
+    there : (key k : ℕ) → get_or v.keys key None ≡ Some k → Among (native k) (native_names v.heap)
+    there key k e = number-named v owned key k o e
 
 -- a native that is owned after some left stays at its key
 pub number-stays : (owned : List ℕ) (v : Keyed) (h : Heap) (key : ℕ) → is_some (number_at v key) ≡ true → IsInOrder (the_number v key ∷ owned) (left_with v h) →
@@ -53,6 +67,24 @@ module _ (h g : Heap) (before : (k : ℕ) → Among (native k) (native_names g) 
   pub keys-then : (keys : List (Option ℕ)) → map (key_left g) (map (key_left h) keys) ≡ map (key_left g) keys
   keys-then keys = map-map (key_left g) (key_left h) keys ∙ ap (λ f. map f keys) (fun_ext key_left-then)
 
+  state_left-then : (o : Option ℕ) (state : Walked) → state_left g (key_left h o) (state_left h o state) ≡ state_left g o state
+  state_left-then None state = refl
+  state_left-then (Some k) state = step (native_at h k) refl
+    where
+      step : (o : Option HeapNative) → native_at h k ≡ o →
+          state_left g (if is_some o then Some k else None) (if is_some o then state else Out) ≡ state_left g (Some k) state
+      step (Some n) e = refl
+      step None e = sym (go (native_at g k) refl)
+        where
+          go : (o : Option HeapNative) → native_at g k ≡ o → (if is_some (native_at g k) then state else Out) ≡ Out
+          go None f = rw f refl
+          go (Some n) f = let m = named-found h k (before k (native_at-named g k n f)) in absurd (cc)
+
+  pub walks-then : (keys : List (Option ℕ)) (walks : Walks) → walks_left g (map (key_left h) keys) (walks_left h keys walks) ≡ walks_left g keys walks
+  walks-then keys walks = fun_ext (λ key.
+      ap (λ o. state_left g o (state_left h (get_or keys key None) (walks key))) (get_or-map (key_left h) keys key None)
+      ∙ state_left-then (get_or keys key None) (walks key))
+
 pub left_with-then : (v : Keyed) (h g : Heap) → ((k : ℕ) → Among (native k) (native_names g) → Among (native k) (native_names h)) →
     left_with (left_with v h) g ≡ left_with v g
-left_with-then v h g before = ap (λ ks. record v { heap = g; keys = ks }) (keys-then h g before v.keys)
+left_with-then v h g before = λ i. record v { heap = g; keys = keys-then h g before v.keys i; walks = walks-then h g before v.keys v.walks i }

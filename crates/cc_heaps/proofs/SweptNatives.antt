@@ -23,7 +23,7 @@ use Rattle.cc_model.specs.Sweep.{without_script}
 use Rattle.cc_model.specs.Sweep as model
 use Rattle.cc_model.specs.WellFormed.{native_names}
 use Rattle.cc_laws_heap.proofs.Face.{named-member, same_name-sym}
-use Rattle.cc_counted.specs.Counts.{Counts, number_at, number_or_none, the_number, key_left, left_with, reflectors_left}
+use Rattle.cc_counted.specs.Counts.{Counts, number_at, number_or_none, the_number, key_left, left_with, reflectors_left, walks_left}
 use Rattle.cc_counted.specs.Counts as counts
 use Rattle.cc_counted.specs.Owning.{HasKeys}
 use Rattle.cc_script.specs.Objects.{Object}
@@ -33,7 +33,7 @@ use Rattle.cc_heaps.specs.Fields.{keyed_of}
 use Rattle.cc_heaps.specs.Sweeping.{Left, forgotten, let_native_go, sweep_each, then_sweep}
 use Rattle.cc_heaps.proofs.EachNative.{IsOfEach, each-cascade}
 use Rattle.cc_heaps.proofs.Keys.{key_left-some, Reflects-cases}
-use Rattle.cc_heaps.proofs.LeftWith.{keys-then}
+use Rattle.cc_heaps.proofs.LeftWith.{keys-then, walks-then}
 use Rattle.cc_heaps.proofs.Linked.{reflectors-left}
 use Rattle.cc_heaps.proofs.Naming.{AreScripts, shown, cascade-shown}
 
@@ -133,10 +133,11 @@ reflectors-without objects k keys key within one same = reflectors-set objects (
 
 -- Keys
 
--- the keys are those that are left of the first, and natives have these reflectors
+-- the keys are those that are left of the first, as they stood in a walk, and natives have these reflectors
 pub record IsLeftOf (first c : Counts) (objects : List Object) : Type 0 where
   pub keys : c.keys ≡ map (key_left (counts.heap_of c)) first.keys
   pub reflectors : c.reflectors ≡ reflectors_by objects c.keys
+  pub walks : c.walks ≡ walks_left (counts.heap_of c) first.keys first.walks
 
 module _ (p : Inside) (keyed : HasKeys p.counted) where
   abbrev first : Counts
@@ -163,6 +164,9 @@ module _ (p : Inside) (keyed : HasKeys p.counted) where
     reflectors = ap (λ rs. reflectors_left (map (key_left (g c number)) c.keys) (set rs key None)) l.reflectors
         ∙ (ap (reflectors_left (map (key_left (g c number)) c.keys)) (reflectors-without objects k c.keys key within one same)
         ∙ reflectors-left (without_name (reflector k) objects) (g c number) c.keys);
+    walks = ap (λ ks. walks_left (g c number) ks c.walks) l.keys
+        ∙ (ap (walks_left (g c number) (map (key_left (counts.heap_of c)) first.keys)) l.walks
+        ∙ walks-then (counts.heap_of c) (g c number) (were-there c number) first.keys first.walks);
   }
     where
       number : ℕ
@@ -185,7 +189,7 @@ module _ (p : Inside) (keyed : HasKeys p.counted) where
   IsLeftOf-let_go : (c : Counts) (objects : List Object) (x : Name) (key : Option ℕ) → Reflects (keyed_of p) x key → IsLeftOf first c objects →
       IsLeftOf first (let_native_go first c key).counts (without_name x objects)
   IsLeftOf-let_go c objects x key r l = Reflects-cases (keyed_of p) (λ x key. IsLeftOf first (let_native_go first c key).counts (without_name x objects))
-      (λ k. record { keys = l.keys; reflectors = l.reflectors ∙ sym (reflectors-plain objects k c.keys) })
+      (λ k. record { keys = l.keys; reflectors = l.reflectors ∙ sym (reflectors-plain objects k c.keys); walks = l.walks })
       (λ k q at. IsLeftOf-forgotten c objects q k at l) x key r
 
   pub IsLeftOf-each : (os objects : List Object) (l : Left) → ((o : Object) → Among o os → Reflects (keyed_of p) o.name o.native) → IsLeftOf first l.counts objects →

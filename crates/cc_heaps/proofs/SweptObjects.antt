@@ -1,9 +1,10 @@
 -- A SWEEP BY KEYS is the sweep of the definitions, where the marks are closed: what is left keeps its names.
 use Rattle.cc_lists.proofs.Held.{of-one}
-use Rattle.std.proofs.Common.{◌≡◌, ℕ, ◌+◌, Bool, true, false, not, List, [], ◌∷◌, ◌++◌, map, Option, Some, None, refl, sym, ◌∙◌, ap, subst, arith, inl, inr}
+use Rattle.std.proofs.Common.{◌≡◌, ℕ, ◌+◌, Bool, true, false, not, List, [], ◌∷◌, ◌++◌, map, get_or, Option, Some, None, refl, sym, ◌∙◌, ap, subst, arith, inl, inr}
 use Rattle.std.specs.List.{flat_map}
 use Rattle.std.specs.Option.{option_to_list}
 use Rattle.std.proofs.Math.ListN.{get_or-map}
+use Rattle.std.proofs.Math.Path.{fun_ext}
 use Rattle.std.proofs.lemmas.List.{map-append}
 use Rattle.cc_heaps.proofs.ScriptsChanged.{HoldsSame, heap-held, registers-held, natives-held}
 use Rattle.cc_lists.specs.Members.{Among, has}
@@ -21,7 +22,7 @@ use Rattle.cc_model.specs.WellFormed.{native_names}
 use Rattle.cc_laws_heap.specs.Sound.{IsSound}
 use Rattle.cc_laws_heap.specs.Marks.{AreMarksClosed}
 use Rattle.cc_laws_heap.proofs.Face.{named-member, scripts-sweep, sweep-sound, times-append}
-use Rattle.cc_counted.specs.Counts.{number_at, number_or_none, the_number, key_left}
+use Rattle.cc_counted.specs.Counts.{number_at, number_or_none, the_number, key_left, walks_left}
 use Rattle.cc_counted.specs.Counts as counts
 use Rattle.cc_counted.specs.Owning.{AreOwned}
 use Rattle.cc_script.specs.Objects.{Object, name_at}
@@ -31,10 +32,10 @@ use Rattle.cc_heaps.specs.Named.{named_native, named, IsHeldThere}
 use Rattle.cc_heaps.specs.Fields.{heap_of, keyed_of, IsLinked}
 use Rattle.cc_heaps.specs.Sweeping.{Left, OwnEach, is_white, native_keys, not_white, swept_counts, untold, white_names, whites}
 use Rattle.cc_heaps.specs.declared.heaps.Heaps.TheInside.{Inside}
-use Rattle.cc_heaps.proofs.Calls.{key_left-shown}
+use Rattle.cc_heaps.proofs.Calls.{key_left-shown, state_left-shown}
 use Rattle.cc_heaps.proofs.Keying.{AreHeldThere}
 use Rattle.cc_heaps.proofs.Keys.{AreReflecting-left, HasKeys-keyed, HasKeys-left, HasKeys-names, Reflects-kept, counts_in, Reflects-cases, named-object}
-use Rattle.cc_heaps.proofs.LeftWith.{key_left-there, keys-there}
+use Rattle.cc_heaps.proofs.LeftWith.{key_left-there, keys-there, walks-there}
 use Rattle.cc_heaps.proofs.Naming.{native_names-shown, shown}
 use Rattle.cc_heaps.proofs.ObjectsKept.{keys-counted}
 use Rattle.cc_heaps.proofs.Owned.{AreOwned-permuted, all-owned, in_reflectors, in_registers}
@@ -138,7 +139,11 @@ module _ {owned : List ℕ} (p : Inside) (l : IsLinked p) (o : IsInOrder owned (
   final-keys : IsLeftOf p.counted final.counts (left_objects p)
   final-keys = subst (IsLeftOf p.counted final.counts) same
       (IsLeftOf-each p (keys-counted owned p l o) (whites p.scripts) p.scripts (untold p.counted) (white-reflecting p l o)
-      (record { keys = sym (keys-there (counts.heap_of p.counted) p.counted.keys (keys-counted owned p l o).there); reflectors = l.reflectors }))
+      (record {
+        keys = sym (keys-there (counts.heap_of p.counted) p.counted.keys (keys-counted owned p l o).there);
+        reflectors = l.reflectors;
+        walks = sym (walks-there (counts.heap_of p.counted) p.counted.keys p.counted.walks (keys-counted owned p l o).there);
+      }))
     where
       spared : (q : Object) → Among q p.scripts → not (has same_name (white_names p.scripts) q.name) ≡ stays q
       spared q m = ap (λ xs. not (has same_name xs q.name)) (white-unmarked p) ∙ spared-stays p l o c q m
@@ -197,13 +202,16 @@ module _ {owned : List ℕ} (p : Inside) (l : IsLinked p) (o : IsInOrder owned (
 
   -- the natives that are left of heaps with the script objects that are left
   abbrev before : Keyed
-  before = record { heap = heap_of p; keys = p.counted.keys; scripts = left_objects p; entries = left_entries p }
+  before = record { heap = heap_of p; keys = p.counted.keys; scripts = left_objects p; entries = left_entries p; walks = p.counted.walks }
 
   keys-later : final.counts.keys ≡ map (key_left h) p.counted.keys
   keys-later = final-keys.keys ∙ map-agree (key_left g) (key_left h) p.counted.keys (λ k m. key_left-shown p.scripts (heap_of p) g k)
 
+  walks-later : final.counts.walks ≡ walks_left h p.counted.keys p.counted.walks
+  walks-later = final-keys.walks ∙ fun_ext (λ key. state_left-shown p.scripts (heap_of p) g (get_or p.counted.keys key None) (p.counted.walks key))
+
   keyed-later : keyed_of later ≡ left_with before h
-  keyed-later = λ i. record { heap = heap-later i; keys = keys-later i; scripts = left_objects p; entries = left_entries p }
+  keyed-later = λ i. record { heap = heap-later i; keys = keys-later i; scripts = left_objects p; entries = left_entries p; walks = walks-later i }
 
   -- THE PARTS STAY LINKED,
   pub linked-swept : IsLinked later

@@ -26,7 +26,7 @@ abbrev pub heap_of : Inside → Heap
 heap_of p = heap_with (rest_of p) p.counted p.scripts p.weak
 
 abbrev pub keyed_of : Inside → Keyed
-keyed_of p = record { heap = heap_of p; keys = p.counted.keys; scripts = p.scripts; entries = p.weak }
+keyed_of p = record { heap = heap_of p; keys = p.counted.keys; scripts = p.scripts; entries = p.weak; walks = p.counted.walks }
 
 -- THEY FIT TOGETHER: what registers and slots of natives hold is there, no two script objects have one key or one name,
 -- and each native has the key of the script object that is its reflector by name

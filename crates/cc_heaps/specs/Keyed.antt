@@ -1,5 +1,5 @@
--- THE HEAPS WITH THEIR KEYS: the definitions' lists, which native stands at which key, and the script objects and the
--- entries of weak maps by key.
+-- THE HEAPS WITH THEIR KEYS: the definitions' lists, which native stands at which key, the script objects and the
+-- entries of weak maps by key, and how natives stand in a walk.
 use Rattle.std.specs.Prelude.{◌≡◌, ℕ, ◌≤◌, ◌==◌, true, false, List, map, find, Option, Some, None, option_map, option_and_then, count_by}
 use Rattle.cc_lists.specs.Members.{Among}
 use Rattle.cc_names.specs.declared.name.Name.{Name}
@@ -9,7 +9,8 @@ use Rattle.cc_model.specs.Entries.{Entry}
 use Rattle.cc_model.specs.Entries as entries
 use Rattle.cc_model.specs.Heap.{Heap, HeapNative, HeapScript}
 use Rattle.cc_laws_heap.specs.Sound.{IsSound}
-use Rattle.cc_counted.specs.Counts.{Counts, key_left}
+use Rattle.cc_walk.specs.Walks.{Walks}
+use Rattle.cc_counted.specs.Counts.{Counts, key_left, walks_left}
 use Rattle.cc_counted.specs.Counts as counts
 use Rattle.cc_counted.specs.Owning.{HasKeys}
 use Rattle.cc_script.specs.Objects.{Object, AreWhole, name_at}
@@ -21,6 +22,8 @@ pub record Keyed : Type 0 where
   pub keys : List (Option ℕ)
   pub scripts : List Object
   pub entries : List KeyedEntry
+  -- of the native at each key
+  pub walks : Walks
 
 -- Script objects by names
 
@@ -76,6 +79,7 @@ counts_of v = record {
   buffer = v.heap.buffer;
   keys = v.keys;
   reflectors = reflectors_by v.scripts v.keys;
+  walks = v.walks;
 }
 
 -- the number of the native at a key
@@ -91,7 +95,7 @@ changed_to v h = record v { heap = h }
 
 -- the heaps changed, in which some natives are no more
 abbrev pub left_with : Keyed → Heap → Keyed
-left_with v h = record v { heap = h; keys = map (key_left h) v.keys }
+left_with v h = record v { heap = h; keys = map (key_left h) v.keys; walks = walks_left h v.keys v.walks }
 
 -- a reflector has the key of its native, and other script objects have that of none
 abbrev pub Reflects : Keyed → Name → Option ℕ → Type 0

@@ -11,13 +11,13 @@ use std::alloc::{AllocError, Global};
 use std::test::Fail;
 
 /// The one list of a row.
-struct All;
+pub(crate) struct All;
 
 /// A store of links in a vector: the live keys are its places.
 #[derive(Drop)]
-struct Row {
-    links: Vec<Option<Link>>,
-    name: u32,
+pub(crate) struct Row {
+    pub(crate) links: Vec<Option<Link>>,
+    pub(crate) name: u32,
 }
 
 impl LinkStore<All> for Row {
@@ -39,7 +39,7 @@ impl LinkStore<All> for Row {
 }
 
 /// Links of so many keys, each in no list.
-fn free(alloc: Global, keys: usize) -> Result<Vec<Option<Link>>, AllocError>
+pub(crate) fn free(alloc: Global, keys: usize) -> Result<Vec<Option<Link>>, AllocError>
     ensures { IfOk result (λ links. links.items ≡ replicate keys None) }
 {
     vec![in alloc; None; keys]

@@ -56,6 +56,9 @@ returns-clause-other_reflectors c = rw (← c.self.view_is) (made c).other_refle
 pub returns-clause-as_many : goal.returns-clause-as_many
 returns-clause-as_many c = (made c).as_many
 
+pub returns-clause-walks : goal.returns-clause-walks
+returns-clause-walks c = rw (← c.self.view_is) (made c).walks
+
 pub returns-clause-keyed : goal.returns-clause-keyed
 returns-clause-keyed c was = (made c).keyed
 

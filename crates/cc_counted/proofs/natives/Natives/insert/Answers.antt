@@ -18,9 +18,10 @@ vacant-at : (t : Slab Node) (answered key : ℕ) → answered ≡ key → get t 
 vacant-at t answered key same vacant = subst (λ k. get t k ≡ None) same vacant
 
 -- the node that was put there, once each of its links is none
-bare : (cell : Placed) (o q s : Option Link) → o ≡ None → q ≡ None → s ≡ None →
-    ◌≡◌ {A = Node} (record { cell = cell; order = o; queue = q; suspects = s; purple = false }) (record { cell = cell; order = None; queue = None; suspects = None; purple = false })
-bare cell o q s e f g = rw (e, f, g) refl
+bare : (cell : Placed) (o q s w : Option Link) → o ≡ None → q ≡ None → s ≡ None → w ≡ None →
+    ◌≡◌ {A = Node} (record { cell = cell; order = o; queue = q; suspects = s; walk = w; purple = false })
+    (record { cell = cell; order = None; queue = None; suspects = None; walk = None; purple = false })
+bare cell o q s w e f g h = rw (e, f, g, h) refl
 
 updates-at : (t u : Slab Node) (answered key : ℕ) (node : Option Node) → answered ≡ key → Updates t u answered node → Updates t u key node
 updates-at t u answered key node same updates = subst (λ k. Updates t u k node) same updates
@@ -46,7 +47,7 @@ push_back-requires-clause-chain c =
     let same = c.insert_reserved.ensures.key ∙ (sym c.vacant_key.ensures.value ∙ sym c.in_ok-key.ensures.key) in
     let vacant = vacant-at c.reserve.new.self c.insert_reserved.result c.in_ok-key.key same c.insert_reserved.ensures.was_vacant in
     let made = updates-at c.reserve.new.self c.insert_reserved.new.self c.insert_reserved.result c.in_ok-key.key _ same c.insert_reserved.ensures.updates in
-    let there = made.changed ∙ ap Some (bare _ c.of.result c.of-2.result c.of-3.result c.of.ensures c.of-2.ensures c.of-3.ensures) in (
+    let there = made.changed ∙ ap Some (bare _ c.of.result c.of-2.result c.of-3.result c.of-4.result c.of.ensures c.of-2.ensures c.of-3.ensures c.of-4.ensures) in (
       (lists_of c.self.inside).order,
       order-inserted c.self.inside c.self.invariant c.reserve.new.self c.insert_reserved.new.self c.reserve.ensures.rest_kept c.in_ok-key.key _ vacant there made.others,
     )
@@ -60,7 +61,7 @@ invariant_of-self-2 c =
     let same = c.insert_reserved.ensures.key ∙ (sym c.vacant_key.ensures.value ∙ sym c.in_ok-key.ensures.key) in
     let vacant = vacant-at c.reserve.new.self c.insert_reserved.result c.in_ok-key.key same c.insert_reserved.ensures.was_vacant in
     let made = updates-at c.reserve.new.self c.insert_reserved.new.self c.insert_reserved.result c.in_ok-key.key _ same c.insert_reserved.ensures.updates in
-    let there = made.changed ∙ ap Some (bare _ c.of.result c.of-2.result c.of-3.result c.of.ensures c.of-2.ensures c.of-3.ensures) in
+    let there = made.changed ∙ ap Some (bare _ c.of.result c.of-2.result c.of-3.result c.of-4.result c.of.ensures c.of-2.ensures c.of-3.ensures c.of-4.ensures) in
     kept-inserted n c.self.invariant c.reserve.new.self c.insert_reserved.new.self c.reserve.ensures.rest_kept c.in_ok-key.key _
     vacant there made.others c.push_back.new.store c.push_back.new.self c.add.new.self c.push_back.ensures.rest
     (c.push_back.ensures.keys (lists_of n).order (order-inserted n c.self.invariant c.reserve.new.self c.insert_reserved.new.self c.reserve.ensures.rest_kept c.in_ok-key.key _
@@ -75,7 +76,7 @@ returns-clause-inserts c =
     let same = c.insert_reserved.ensures.key ∙ (sym c.vacant_key.ensures.value ∙ sym c.in_ok-key.ensures.key) in
     let vacant = vacant-at c.reserve.new.self c.insert_reserved.result c.in_ok-key.key same c.insert_reserved.ensures.was_vacant in
     let made = updates-at c.reserve.new.self c.insert_reserved.new.self c.insert_reserved.result c.in_ok-key.key _ same c.insert_reserved.ensures.updates in
-    let there = made.changed ∙ ap Some (bare _ c.of.result c.of-2.result c.of-3.result c.of.ensures c.of-2.ensures c.of-3.ensures) in
+    let there = made.changed ∙ ap Some (bare _ c.of.result c.of-2.result c.of-3.result c.of-4.result c.of.ensures c.of-2.ensures c.of-3.ensures c.of-4.ensures) in
     let P : List (Option Held) → Type 0 = λ slots. Inserts c.args.self.now.lists (lists_of (inserted n c.push_back.new.store c.push_back.new.self c.add.new.self)) c.in_ok-key.key
     (record (new_placed c.args.no.0 c.args.slots) { slots = slots }) in
     subst P c.in_ok-empty.ensures.items

@@ -8,6 +8,7 @@ invariant_of-result c = record {
   chained = chained-none _ c.new.ensures.empty
       (c.new-2.ensures _ (λ key. rw (c.new.ensures.empty) refl))
       (c.new-3.ensures _ (λ key. rw (c.new.ensures.empty) refl))
-      (c.new-4.ensures _ _ (λ key. rw (c.new.ensures.empty) refl));
-  known = rw (c.new.ensures.empty) (known-none c.new-5.result c.new-5.ensures.entries);
+      (c.new-4.ensures _ _ (λ key. rw (c.new.ensures.empty) refl))
+      (c.new-5.ensures _ (λ key. rw (c.new.ensures.empty) refl));
+  known = rw (c.new.ensures.empty) (known-none c.new-6.result c.new-6.ensures.entries);
 }

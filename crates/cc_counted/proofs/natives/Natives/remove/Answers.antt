@@ -17,12 +17,12 @@ unlink_at-requires-clause-linked c =
 
 pub invariant_of-self : goal.invariant_of-self
 invariant_of-self c =
-    kept-removed c.self.inside c.self.invariant _ c.self.view_is c.args.key.0 c.requires.queue c.requires.buffer c.unlink_at.new.store _ c.unlink_at.ensures.rest
+    kept-removed c.self.inside c.self.invariant _ c.self.view_is c.args.key.0 c.requires.queue c.requires.buffer c.requires.walk c.unlink_at.new.store _ c.unlink_at.ensures.rest
     (c.unlink_at.ensures.keys (lists_of c.self.inside).order c.self.invariant.chained.order) c.remove-node.new.self c.remove-node.ensures.slots c.remove-node.ensures.capacity c.remove.new.self
     c.remove-node.result c.remove-node.ensures.value
     (subst (λ (q : Node). (m : ℕ) → entry_at c.remove.new.self m ≡ (if q.cell.number == m then Unknown else entry_at c.self.inside.holders m)) c.node.view_is c.remove.ensures.entries)
 
 pub returns-clause-lists : goal.returns-clause-lists
 returns-clause-lists c =
-    stored-removed c.self.inside c.self.invariant _ c.self.view_is c.args.key.0 c.requires.queue c.requires.buffer c.unlink_at.new.store _ c.unlink_at.ensures.rest
+    stored-removed c.self.inside c.self.invariant _ c.self.view_is c.args.key.0 c.requires.queue c.requires.buffer c.requires.walk c.unlink_at.new.store _ c.unlink_at.ensures.rest
     (c.unlink_at.ensures.keys (lists_of c.self.inside).order c.self.invariant.chained.order) c.remove-node.new.self c.remove-node.ensures.slots c.remove-node.ensures.capacity c.remove.new.self
