@@ -1,5 +1,5 @@
 //! A native of the counted heap is unlinked, and known as such.
-ghost use Rattle.std.specs.Prelude.{[]};
+ghost use Rattle.std.specs.Prelude.{◌≡◌, []};
 ghost use Rattle.cc_counted.specs.Owning.{AreOwned};
 
 use cc_counted::Counted;
