@@ -1,4 +1,4 @@
-//! The parts of the script heap, and the walk that raises colours.
+//! The parts of the script heap, and the marking that raises colours.
 ghost use Rattle.std.specs.Prelude.{◌≡◌, ◌↔◌, ℕ, ◌<◌, ◌≤◌, false, List, [], ◌∷◌, ◌++◌, length, Some, None, IfNone, IfOk, IfSome, IsTrue, OnErr, option_map, replicate, slice_index_or, vec_capacity};
 ghost use Rattle.cc_lists.specs.Members.{Among};
 ghost use Rattle.cc_names.specs.declared.kind.Colour.{Colour};
@@ -108,7 +108,7 @@ impl ScriptParts {
         self.cells.cell(key.0)
     }
 
-    /// What a walk looks at of it.
+    /// What marking looks at of it.
     pub(crate) fn body(&self, key: SKey) -> &Body
         requires placed { IsPlaced (lists_of self.now) }
         requires live { IsTrue (is_there (shows self.now) key.0) }
