@@ -1,4 +1,4 @@
--- AN OBJECT AT ITS KEY, with its neighbours in each list. What a walk looks at, and the colour, stand apart, at the same key.
+-- AN OBJECT AT ITS KEY, with its neighbours in each list. What marking looks at, and the colour, stand apart, at the same key.
 use Rattle.std.specs.Prelude.{◌≡◌, ◌≢◌, Bool, true, false, ℕ, List, [], get_or, map, Option, Some, None, option_map, slice_set}
 use Rattle.slab.specs.Slab.{Slab, get}
 use Rattle.cc_names.specs.declared.name.Name.{Name}
@@ -23,7 +23,7 @@ pub record Linked : Type 0 where
 abbrev pub link_of : Thread → Linked → Option Link
 link_of t c = threaded c.order c.waiting c.walk t
 
--- what stands in the slab, and what a walk looks at, which stands apart
+-- what stands in the slab, and what marking looks at, which stands apart
 pub record Label : Type 0 where
   pub name : Name
   pub kind : Kind

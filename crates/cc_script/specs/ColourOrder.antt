@@ -1,4 +1,4 @@
--- THE COLOUR ORDER: why a walk may stop at an object that has the colour to which it raises.
+-- THE COLOUR ORDER: why marking may stop at an object that has the colour to which it raises.
 use Rattle.std.specs.Prelude.{◌≡◌, true, false, ℕ, List, Some}
 use Rattle.cc_lists.specs.Members.{Among}
 use Rattle.cc_names.specs.declared.kind.Colour.TheVariants.{White}

@@ -11,7 +11,7 @@ use Rattle.cc_names.specs.declared.kind.Kind.TheVariants.{Plain, Reflector, Map,
 use Rattle.cc_names.specs.declared.kind.Colour.{Colour}
 use Rattle.cc_names.specs.declared.kind.Colour.TheVariants.{White, Gray, Black}
 use Rattle.cc_names.specs.declared.kind.Walked.{Walked}
-use Rattle.cc_names.specs.declared.kind.Walked.TheVariants.{Out, Waiting}
+use Rattle.cc_names.specs.declared.kind.Walked.TheVariants.{Out, Waiting, Given}
 use Rattle.cc_names.specs.Names.{object, reflector}
 use Rattle.cc_names.specs.Places.{script_places}
 
@@ -145,6 +145,10 @@ entering o = with_walked (entered o.walked) o
 -- none is in a walk
 abbrev pub unwalked : List Object → List Object
 unwalked objects = map (with_walked Out) objects
+
+-- the one at a key waited, and is given
+abbrev pub IsGiven : List Object → List Object → ℕ → Type 0
+IsGiven old new key = (walked_at old key ≡ Some Waiting) × (new ≡ change_object old key (with_walked Given))
 
 -- none waits in it
 abbrev pub NoObjectWaits : List Object → Type 0

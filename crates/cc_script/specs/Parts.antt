@@ -1,4 +1,4 @@
--- The parts of a script heap as they lie in memory, as the lists that they stand for; between two calls, and in a walk.
+-- The parts of a script heap as they lie in memory, as the lists that they stand for; between two calls, and while they are marked.
 use Rattle.std.specs.Prelude.{◌≡◌, List, [], length}
 use Rattle.cc_names.specs.declared.kind.Colour.{Colour}
 use Rattle.cc_chain.specs.Chains.{IsChain, walked}
@@ -51,7 +51,7 @@ pub record IsUnderWay (to : Colour) (p : ScriptParts) : Type 0 where
   pub chained : IsChained p
   pub raised : AreRaised to (marking_of p)
 
--- a walk is under way, and the objects are marked in its colour
+-- a marking is under way, and the objects are marked in its colour
 pub record IsBegun (to : Colour) (p : ScriptParts) : Type 0 where
   pub under_way : IsUnderWay to p
   pub marked : IsMarked to (marking_of p)

@@ -1,4 +1,4 @@
-//! An object in two parts: what it is, and what a walk looks at.
+//! An object in two parts: what it is, and what marking looks at.
 ghost use Rattle.std.specs.Prelude.{◌≡◌};
 ghost use Rattle.cc_script.specs.Cells.{nothing};
 ghost use Rattle.cc_script.specs.Objects.{is_below as is_below_it};
@@ -39,12 +39,12 @@ impl Model for Cell {
     } };
 }
 
-/// What a walk looks at of an object.
+/// What marking looks at of an object.
 #[derive(Drop)]
 pub(crate) struct Body {
     /// As many as it was made with, and no room for more.
     pub(crate) slots: Vec<Option<SKey>>,
-    /// Whether it is a proxy, which leads to its delegate too: so a walk asks of no other object what it is.
+    /// Whether it is a proxy, which leads to its delegate too: so marking asks of no other object what it is.
     pub(crate) is_proxy: bool,
     /// Its neighbours among those that marking has yet to look into, while it is one of them.
     pub(crate) waiting: Neighbours,

@@ -1,8 +1,8 @@
-//! The objects by key: what they are, and apart from that what a walk looks at, and their colours.
+//! The objects by key: what they are, and apart from that what marking looks at, and their colours.
 //!
 //! A marking reads and writes bodies and colours alone, at 41 bytes an object, and what else is known of it, at 44, stays
 //! where it is. Making all white, and the look for objects of a colour, go over the colours alone, which stand
-//! together, a byte each: so a heap that lives is marked without a walk over its objects before and after.
+//! together, a byte each: so a heap that lives is marked without going over its objects before and after.
 ghost use Rattle.std.specs.Prelude.{◌≡◌, ◌≢◌, ◌↔◌, ◌<◌, ◌≤◌, ℕ, [], Some, get_or, is_some, length, option_map, slice_set, IfOk, IsSome, IsTrue, false, OnErr, OnOk};
 ghost use Rattle.slab.specs.Slab.{ContainsKey, Updates, get, slab_len};
 ghost use Rattle.cc_names.specs.declared.kind.Colour.{Colour};
@@ -124,7 +124,7 @@ impl Cells {
         &self.slab[key as usize]
     }
 
-    /// What a walk looks at of the object at a key.
+    /// What marking looks at of the object at a key.
     pub(crate) fn body(&self, key: u32) -> &Body
         requires { ContainsKey self.now key }
         ensures { (colour : Colour) × ((label : Label) × (get self.now key ≡ Some (in_colour colour (filled result.now label)))) }
@@ -141,7 +141,7 @@ impl Cells {
     }
 
     /// The delegate of the object at a key, where it is a proxy.
-    // of what is none, what it is isn't read: only what a walk looks at
+    // of what is none, what it is isn't read: only what marking looks at
     pub(crate) fn delegate(&self, key: u32) -> Option<SKey>
         requires { ContainsKey self.now key }
         ensures { option_map (λ c. c.placed.delegate) (get self.now key) ≡ Some (option_map (λ k. k.0) result) }

@@ -11,7 +11,7 @@
 //! one object after another (`start_marking`, with a type of its own); between markings `expose` makes black what script
 //! touches, with all that it reaches so. What stays white is removed, one object after another.
 //!
-//! No object that isn't white holds one of a lower colour. So a walk may stop at each object that has the colour to which
+//! No object that isn't white holds one of a lower colour. So marking may stop at each object that has the colour to which
 //! it raises.
 //!
 //! Each object has its neighbours in order of making, in the list of those that marking has yet to look into, and in a

@@ -1,13 +1,12 @@
-//! The parts of the script heap, and the walk that raises colours.
+//! The parts of the script heap, and the marking that raises colours.
 ghost use Rattle.std.specs.Prelude.{◌≡◌, ◌↔◌, ℕ, ◌<◌, ◌≤◌, false, List, [], ◌∷◌, ◌++◌, length, Some, None, IfNone, IfOk, IfSome, IsTrue, OnErr, option_map, replicate, slice_index_or, vec_capacity};
 ghost use Rattle.cc_lists.specs.Members.{Among};
 ghost use Rattle.cc_names.specs.declared.kind.Colour.{Colour};
 ghost use Rattle.cc_names.specs.declared.kind.Colour.TheVariants.{White, Black};
-ghost use Rattle.cc_names.specs.declared.kind.Walked.TheVariants.{Given, Waiting as WaitingState};
 ghost use Rattle.cc_names.specs.Sizes.{most_slots};
 ghost use Rattle.cc_walk.specs.Walks.{is_walked};
 ghost use Rattle.cc_script.specs.Beings.{delegate_key_of, kind_of, name_of, native_key_of};
-ghost use Rattle.cc_script.specs.Objects.{Object, AreWhole, IsNotBelow, NoObjectWaits, change_object, colour_at, entering, first_key, is_there, key_after, new_object, places_at, raised_among, slots_at, unwalked, walked_at, whitened, with_slot, with_walked, without_object};
+ghost use Rattle.cc_script.specs.Objects.{Object, AreWhole, IsGiven, IsNotBelow, NoObjectWaits, change_object, colour_at, entering, first_key, is_there, key_after, new_object, places_at, raised_among, slots_at, unwalked, walked_at, whitened, with_slot, without_object};
 ghost use Rattle.cc_lists.specs.Walks.{first_of};
 ghost use Rattle.cc_script.specs.Underway.{with_first_looked_into};
 ghost use Rattle.cc_script.specs.Walking.{keys_reached};
@@ -109,7 +108,7 @@ impl ScriptParts {
         self.cells.cell(key.0)
     }
 
-    /// What a walk looks at of it.
+    /// What marking looks at of it.
     pub(crate) fn body(&self, key: SKey) -> &Body
         requires placed { IsPlaced (lists_of self.now) }
         requires live { IsTrue (is_there (shows self.now) key.0) }
@@ -221,7 +220,7 @@ impl ScriptParts {
     /// One that waits, which is given from then on; none exactly where none waits.
     pub(crate) fn walk_next(&mut self) -> Option<SKey>
         requires at_rest { IsAtRest self.old }
-        ensures some { IfSome result (λ k. (walked_at (shows self.old) k.0 ≡ Some WaitingState) × (shows self.new ≡ change_object (shows self.old) k.0 (with_walked Given))) }
+        ensures some { IfSome result (λ k. IsGiven (shows self.old) (shows self.new) k.0) }
         ensures none { IfNone result (NoObjectWaits (shows self.old) × (shows self.new ≡ shows self.old)) }
         ensures at_rest { IsAtRest self.new }
     {

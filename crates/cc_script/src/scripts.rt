@@ -3,10 +3,9 @@ ghost use Rattle.std.specs.Prelude.{◌≡◌, ◌↔◌, ◌<◌, ◌≤◌, fa
 ghost use Rattle.cc_lists.specs.Members.{Among};
 ghost use Rattle.cc_names.specs.declared.kind.Colour.TheVariants.{White, Black};
 ghost use Rattle.cc_names.specs.declared.kind.Kind.TheVariants.{Proxy, Reflector};
-ghost use Rattle.cc_names.specs.declared.kind.Walked.TheVariants.{Given, Waiting};
 ghost use Rattle.cc_names.specs.Sizes.{most_slots};
 ghost use Rattle.cc_walk.specs.Walks.{is_walked};
-ghost use Rattle.cc_script.specs.Objects.{Object, AreWhole, HaveOwnKeys, NoObjectWaits, change_object, colour_at, delegate_at, entering, first_key, is_there, key_after, kind_at, map_object, name_at, native_at, plain_object, proxy_object, reflector_object, raised_among, slots_at, unwalked, walked_at, whitened, with_slot, with_walked, without_object, IsNotBelow};
+ghost use Rattle.cc_script.specs.Objects.{Object, AreWhole, HaveOwnKeys, IsGiven, NoObjectWaits, change_object, colour_at, delegate_at, entering, first_key, is_there, key_after, kind_at, map_object, name_at, native_at, plain_object, proxy_object, reflector_object, raised_among, slots_at, unwalked, walked_at, whitened, with_slot, without_object, IsNotBelow};
 ghost use Rattle.cc_script.specs.Walking.{keys_reached};
 
 use crate::being::Being;
@@ -273,7 +272,7 @@ impl Scripts {
 
     /// An object of the walk that was not given yet, and is from then on; none exactly where there is none.
     pub fn walk_next(&mut self) -> Option<SKey>
-        ensures some { IfSome result (λ k. (walked_at self.old k.0 ≡ Some Waiting) × (self.new ≡ change_object self.old k.0 (with_walked Given))) }
+        ensures some { IfSome result (λ k. IsGiven self.old self.new k.0) }
         ensures none { IfNone result (NoObjectWaits self.old × (self.new ≡ self.old)) }
     {
         self.parts.walk_next()
