@@ -55,3 +55,4 @@ pub mod ReflectingPreserved
 pub mod ReflectingWritten
 pub mod Leaving
 pub mod Moving
+pub mod Walking

@@ -13,3 +13,4 @@ pub mod Sweeping
 pub mod Standing
 pub mod Keeping
 pub mod Leaving
+pub mod Walking
