@@ -1,6 +1,6 @@
 -- WHAT THE CALLS OF THE COUNTED HEAP COME TO, with the rest of the parts beside it.
 use Rattle.cc_laws_heap.proofs.Face.{count-bound, is_some-found, with_buffer, native_at-number, native_at-there}
-use Rattle.std.proofs.Common.{◌≡◌, ℕ, ◌+◌, ◌≤◌, Bool, true, List, ◌∷◌, length, map, Option, Some, None, option_map, refl, sym, ◌∙◌, ap, subst, arith, get_or}
+use Rattle.std.proofs.Common.{◌≡◌, ℕ, ◌+◌, ◌≤◌, Bool, true, List, ◌∷◌, length, map, Option, Some, None, option_map, refl, sym, ◌∙◌, ap, subst, arith}
 use Rattle.std.specs.Option.{is_some}
 use Rattle.std.proofs.lemmas.Simd.{map-map}
 use Rattle.cc_lists.specs.Members.{Among}
@@ -17,6 +17,7 @@ use Rattle.cc_model.specs.WellFormed.{native_names}
 use Rattle.cc_model.specs.Counts.{times}
 use Rattle.cc_counted.specs.Counts.{Counts, key_left, reflectors_left, state_left, number_or_none, count_at, with_heap}
 use Rattle.cc_counted.specs.Counts as counts
+use Rattle.cc_counted.proofs.States.{walks_left-agree}
 use Rattle.cc_script.specs.Objects.{Object}
 use Rattle.cc_heaps.specs.declared.heaps.Heaps.TheInside.{Inside}
 use Rattle.cc_heaps.specs.Keyed.{Keyed, IsInOrder, keyed_native, number_at, the_number, changed_to, left_with}
@@ -136,7 +137,7 @@ module _ {p : Inside} {next : Counts} {owned : List ℕ} {call : Heap → Outcom
         keys = map (λ o. key_left-shown p.scripts v.heap alone.heap o i) p.counted.keys;
         scripts = p.scripts;
         entries = p.weak;
-        walks = λ key. state_left-shown p.scripts v.heap alone.heap (get_or p.counted.keys key None) (p.counted.walks key) i;
+        walks = walks_left-agree alone.heap (shown v.heap p.scripts alone.heap) (state_left-shown p.scripts v.heap alone.heap) p.counted.keys p.counted.walks i;
       })
       ∙ ap (λ (o : Outcome). left_with v o.heap) (sym l.beside))
 

@@ -20,7 +20,7 @@ use Rattle.cc_names.specs.Names.{native, reflector, same_name, object}
 use Rattle.cc_names.proofs.NameTests.{same_name-true}
 use Rattle.cc_model.specs.Heap.{Heap, HeapNative, Buffered, native_at, change_native}
 use Rattle.cc_model.specs.WellFormed.{IsRising, IsWellFormed, native_names, script_names}
-use Rattle.cc_walk.specs.Walks.{Walks, nowhere}
+use Rattle.cc_names.specs.declared.kind.Walked.{Walked}
 use Rattle.cc_counted.specs.Counts.{Counts, key_left, number_at, heap_of}
 use Rattle.cc_counted.specs.Counts as counts
 use Rattle.cc_counted.specs.Owning.{HasKeys}
@@ -34,14 +34,14 @@ numbers_of_natives ns = map (λ n. n.number) ns
 
 -- the natives of heaps, which stand at these keys; nothing is said of reflectors, nor of a walk
 abbrev pub counts_in : Heap → List (Option ℕ) → Counts
-counts_in h keys = record { natives = h.natives; buffer = h.buffer; keys = keys; reflectors = []; walks = nowhere }
+counts_in h keys = record { natives = h.natives; buffer = h.buffer; keys = keys; reflectors = []; walks = [] }
 
 -- names by numbers
 names-by_numbers : (ns : List HeapNative) → map (λ (n : HeapNative). native n.number) ns ≡ map native (numbers_of_natives ns)
 names-by_numbers ns = sym (map-map native (λ (n : HeapNative). n.number) ns)
 
 -- keys read numbers alone
-pub HasKeys-numbers : {walks : Walks} (c : Counts) (ns : List HeapNative) (bs : List Buffered) (rs : List (Option ℕ)) → numbers_of_natives ns ≡ numbers_of_natives c.natives → HasKeys c →
+pub HasKeys-numbers : {walks : List Walked} (c : Counts) (ns : List HeapNative) (bs : List Buffered) (rs : List (Option ℕ)) → numbers_of_natives ns ≡ numbers_of_natives c.natives → HasKeys c →
     HasKeys (record c { natives = ns; buffer = bs; reflectors = rs; walks = walks })
 HasKeys-numbers c ns bs rs same k = record {
   key_of = λ n m.
@@ -79,7 +79,7 @@ pub number_at-left : (c : Counts) (g : Heap) (key : ℕ) → number_at (counts.l
 number_at-left c g key = get_or-map (key_left g) c.keys key None
 
 -- the keys of the natives that left hold nothing
-pub HasKeys-left : {walks : Walks} (c : Counts) (g : Heap) (rs : List (Option ℕ)) → IsWellFormed g → ((k : ℕ) → Among (native k) (native_names g) → Among (native k) (native_names (heap_of c))) → HasKeys c →
+pub HasKeys-left : {walks : List Walked} (c : Counts) (g : Heap) (rs : List (Option ℕ)) → IsWellFormed g → ((k : ℕ) → Among (native k) (native_names g) → Among (native k) (native_names (heap_of c))) → HasKeys c →
     HasKeys (record (counts.left_with c g) { reflectors = rs; walks = walks })
 HasKeys-left c g rs w before k = record {
   key_of = λ n m.
@@ -98,7 +98,7 @@ HasKeys-left c g rs w before k = record {
 }
 
 -- keys of natives that got their names, or whose script objects gave theirs back
-pub HasKeys-keyed : (v : Keyed) (g : Heap) (keys : List (Option ℕ)) → HasKeys (counts_in g keys) → HasKeys (counts_of (record v { heap = g; keys = keys }))
+pub HasKeys-keyed : {walks : List Walked} (v : Keyed) (g : Heap) (keys : List (Option ℕ)) → HasKeys (counts_in g keys) → HasKeys (counts_of (record v { heap = g; keys = keys; walks = walks }))
 HasKeys-keyed v g keys k = HasKeys-numbers (counts_in g keys) (map (keyed_native v.scripts) g.natives) g.buffer (keyed.reflectors_by v.scripts keys)
     (map-map (λ (n : HeapNative). n.number) (keyed_native v.scripts) g.natives) k
 

@@ -10,7 +10,6 @@ use Rattle.cc_model.specs.WellFormed.{native_names}
 use Rattle.cc_laws_heap.proofs.Face.{named-found, native_at-named}
 use Rattle.cc_names.specs.declared.kind.Walked.{Walked}
 use Rattle.cc_names.specs.declared.kind.Walked.TheVariants.{Out}
-use Rattle.cc_walk.specs.Walks.{Walks}
 use Rattle.cc_counted.specs.Counts.{key_left, state_left, walks_left}
 use Rattle.cc_heaps.specs.Keyed.{Keyed, IsInOrder, number_at, the_number, left_with}
 use Rattle.cc_heaps.proofs.Calls.{number-named}
@@ -30,12 +29,14 @@ keys-there h (None ∷ keys) there = ap (λ ks. None ∷ ks) (keys-there h keys 
 keys-there h (Some j ∷ keys) there = rw (key_left-there h j (there zero j refl)) (ap (λ ks. Some j ∷ ks) (keys-there h keys (λ key k e. there (suc key) k e)))
 
 -- and stand in a walk as they did
-pub walks-there : (h : Heap) (keys : List (Option ℕ)) (walks : Walks) → ((key k : ℕ) → get_or keys key None ≡ Some k → Among (native k) (native_names h)) → walks_left h keys walks ≡ walks
-walks-there h keys walks there = fun_ext (λ key. go key (get_or keys key None) refl)
-  where
-    go : (key : ℕ) (o : Option ℕ) → get_or keys key None ≡ o → state_left h (get_or keys key None) (walks key) ≡ walks key
-    go key None e = ap (λ o. state_left h o (walks key)) e
-    go key (Some k) e = let f = named-found h k (there key k e) in ap (λ o. state_left h o (walks key)) e ∙ rw f.1 refl
+pub walks-there : (h : Heap) (keys : List (Option ℕ)) (walks : List Walked) → ((key k : ℕ) → get_or keys key None ≡ Some k → Among (native k) (native_names h)) →
+    walks_left h keys walks ≡ walks
+walks-there h [] walks there = refl
+walks-there h (k ∷ ks) [] there = refl
+walks-there h (None ∷ ks) (w ∷ ws) there = ap (λ xs. w ∷ xs) (walks-there h ks ws (λ key k e. there (suc key) k e))
+walks-there h (Some j ∷ ks) (w ∷ ws) there =
+    let f = named-found h j (there zero j refl) in
+    rw f.1 (ap (λ xs. w ∷ xs) (walks-there h ks ws (λ key k e. there (suc key) k e)))
 
 -- where none has left, keys are as they were
 pub left_with-same : (owned : List ℕ) (v : Keyed) → IsInOrder owned v → left_with v v.heap ≡ v
@@ -80,10 +81,10 @@ module _ (h g : Heap) (before : (k : ℕ) → Among (native k) (native_names g) 
           go None f = rw f refl
           go (Some n) f = let m = named-found h k (before k (native_at-named g k n f)) in absurd (cc)
 
-  pub walks-then : (keys : List (Option ℕ)) (walks : Walks) → walks_left g (map (key_left h) keys) (walks_left h keys walks) ≡ walks_left g keys walks
-  walks-then keys walks = fun_ext (λ key.
-      ap (λ o. state_left g o (state_left h (get_or keys key None) (walks key))) (get_or-map (key_left h) keys key None)
-      ∙ state_left-then (get_or keys key None) (walks key))
+  pub walks-then : (keys : List (Option ℕ)) (walks : List Walked) → walks_left g (map (key_left h) keys) (walks_left h keys walks) ≡ walks_left g keys walks
+  walks-then [] walks = refl
+  walks-then (k ∷ ks) [] = refl
+  walks-then (k ∷ ks) (w ∷ ws) = λ i. state_left-then k w i ∷ walks-then ks ws i
 
 pub left_with-then : (v : Keyed) (h g : Heap) → ((k : ℕ) → Among (native k) (native_names g) → Among (native k) (native_names h)) →
     left_with (left_with v h) g ≡ left_with v g

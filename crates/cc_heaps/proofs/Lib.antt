@@ -56,3 +56,4 @@ pub mod ReflectingWritten
 pub mod Leaving
 pub mod Moving
 pub mod Lengthened
+pub mod Walking

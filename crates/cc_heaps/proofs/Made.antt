@@ -17,7 +17,6 @@ use Rattle.cc_model.specs.Slots.{contents}
 use Rattle.cc_model.specs.Heap.{Heap, HeapNative, with_mark, new_native}
 use Rattle.cc_model.specs.Effects.{put_in_register, with_native, make_native}
 use Rattle.cc_laws_heap.proofs.Face.{contents-empty_none, named-member}
-use Rattle.cc_walk.specs.Walks.{nowhere}
 use Rattle.cc_counted.specs.Counts.{Counts, key_left}
 use Rattle.cc_counted.specs.Counts as counts
 use Rattle.cc_counted.specs.Owning.{HasKeys}
@@ -43,8 +42,7 @@ module _ {owned : List ℕ} (p : Inside) (f : IsFit owned p) (next : Counts) (sl
     (natives : next.natives ≡ p.counted.natives ++ new_native (p.natives_made + 1) slots ∷ [])
     (buffer : next.buffer ≡ with_mark false (p.natives_made + 1) p.counted.buffer)
     (others : (q : ℕ) → q ≢ key.0 → counts.number_at next q ≡ counts.number_at p.counted q)
-    (vacant : counts.number_at p.counted key.0 ≡ None)
-    (walks : next.walks ≡ p.counted.walks) where
+    (vacant : counts.number_at p.counted key.0 ≡ None) where
   abbrev v : Keyed
   v = keyed_of p
 
@@ -64,13 +62,13 @@ module _ {owned : List ℕ} (p : Inside) (f : IsFit owned p) (next : Counts) (sl
       ∙ (map-append (named_native p.scripts) p.counted.natives (new_native (p.natives_made + 1) slots ∷ [])
       ∙ ap (λ n. v.heap.natives ++ n ∷ []) (made-named p.scripts (p.natives_made + 1) slots))
 
-  pub made-keyed : keyed_of made ≡ record v { heap = with_native v.heap slots; keys = next.keys }
+  pub made-keyed : keyed_of made ≡ record v { heap = with_native v.heap slots; keys = next.keys; walks = next.walks }
   made-keyed = λ i. record {
     heap = record (with_native v.heap slots) { native_registers = same i; natives = named-natives i; buffer = buffer i };
     keys = next.keys;
     scripts = p.scripts;
     entries = p.weak;
-    walks = walks i;
+    walks = next.walks;
   }
 
   -- each native stays at its key
@@ -119,7 +117,7 @@ module _ {owned : List ℕ} (p : Inside) (f : IsFit owned p) (next : Counts) (sl
     -- keys are those of what is there and of the new native
     made-keys : (HasKeys p.counted → HasKeys next) → HasKeys (counts_in (with_native v.heap slots) next.keys)
     made-keys keyed =
-        subst (λ ns. HasKeys (record { natives = ns; buffer = (with_native v.heap slots).buffer; keys = next.keys; reflectors = []; walks = nowhere })) named-natives
+        subst (λ ns. HasKeys (record { natives = ns; buffer = (with_native v.heap slots).buffer; keys = next.keys; reflectors = []; walks = [] })) named-natives
         (HasKeys-numbers next (map (named_native p.scripts) next.natives) (with_native v.heap slots).buffer []
         (map-map (λ (n : HeapNative). n.number) (named_native p.scripts) next.natives) (keyed (subst HasKeys (counts-back p f.linked) f.order.keyed)))
 

@@ -18,6 +18,7 @@ use Rattle.cc_laws_heap.proofs.Face.{IsBuffer, IsIn, IsWellFormed-buffer, Leave,
 use Rattle.cc_counted.specs.Counts.{key_left}
 use Rattle.cc_counted.specs.Owning.{HasKeys}
 use Rattle.cc_heaps.specs.Keyed.{Keyed, IsInOrder, changed_to, left_with, number_at}
+use Rattle.cc_names.specs.declared.kind.Walked.{Walked}
 use Rattle.cc_heaps.proofs.Keys.{AreReflecting, AreReflecting-left, Reflects-kept, counts_in, numbers_of_natives, HasKeys-numbers, HasKeys-keyed, HasKeys-names, HasKeys-left, numbers-changed}
 
 -- all but natives, their registers and the buffer stays
@@ -31,8 +32,8 @@ KeepsRest-beside h g b = record { limits = b.limits; scripts = b.scripts; entrie
 
 module _ (owned late : List ℕ) (v : Keyed) (o : IsInOrder owned v) (g : Heap) (rest : KeepsRest v.heap g) (sound : IsSound late g) where
   -- heaps with other keys
-  pub IsInOrder-keyed : (keys : List (Option ℕ)) → HasKeys (counts_in g keys) → AreReflecting (record v { heap = g; keys = keys }) →
-      IsInOrder late (record v { heap = g; keys = keys })
+  pub IsInOrder-keyed : {walks : List Walked} (keys : List (Option ℕ)) → HasKeys (counts_in g keys) → AreReflecting (record v { heap = g; keys = keys; walks = walks }) →
+      IsInOrder late (record v { heap = g; keys = keys; walks = walks })
   IsInOrder-keyed keys k reflecting = record {
     sound = sound;
     keyed = HasKeys-keyed v g keys k;
@@ -136,11 +137,11 @@ IsInOrder-preserved owned v k there o =
     (numbers-changed v.heap k (λ n. record n { preserved = true }) (λ n. refl))
 
 -- a native made, with a key of its own: it is owned
-pub IsInOrder-made : {owned : List ℕ} (v : Keyed) (n : ℕ) (keys : List (Option ℕ)) → n ≤ most_slots → v.heap.natives_made < v.heap.limits.natives →
+pub IsInOrder-made : {owned : List ℕ} {walks : List Walked} (v : Keyed) (n : ℕ) (keys : List (Option ℕ)) → n ≤ most_slots → v.heap.natives_made < v.heap.limits.natives →
     HasKeys (counts_in (with_native v.heap n) keys) → ((q k : ℕ) → number_at v q ≡ Some k → get_or keys q None ≡ Some k) → IsInOrder owned v →
-    IsInOrder ((v.heap.natives_made + 1) ∷ owned) (record v { heap = with_native v.heap n; keys = keys })
-IsInOrder-made {owned} v n keys few room k kept o =
+    IsInOrder ((v.heap.natives_made + 1) ∷ owned) (record v { heap = with_native v.heap n; keys = keys; walks = walks })
+IsInOrder-made {owned} {walks} v n keys few room k kept o =
     IsInOrder-keyed owned ((v.heap.natives_made + 1) ∷ owned) v o (with_native v.heap n)
     (record { limits = refl; scripts = refl; entries = refl })
     (with_native-sound owned v.heap n o.sound few room) keys k
-    (λ q m. Reflects-kept v (record v { heap = with_native v.heap n; keys = keys }) q.name q.native (λ key j is at. kept key j at) (o.reflecting q m))
+    (λ q m. Reflects-kept v (record v { heap = with_native v.heap n; keys = keys; walks = walks }) q.name q.native (λ key j is at. kept key j at) (o.reflecting q m))

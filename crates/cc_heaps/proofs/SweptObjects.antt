@@ -1,10 +1,9 @@
 -- A SWEEP BY KEYS is the sweep of the definitions, where the marks are closed: what is left keeps its names.
 use Rattle.cc_lists.proofs.Held.{of-one}
-use Rattle.std.proofs.Common.{◌≡◌, ℕ, ◌+◌, Bool, true, false, not, List, [], ◌∷◌, ◌++◌, map, get_or, Option, Some, None, refl, sym, ◌∙◌, ap, subst, arith, inl, inr}
+use Rattle.std.proofs.Common.{◌≡◌, ℕ, ◌+◌, Bool, true, false, not, List, [], ◌∷◌, ◌++◌, map, Option, Some, None, refl, sym, ◌∙◌, ap, subst, arith, inl, inr}
 use Rattle.std.specs.List.{flat_map}
 use Rattle.std.specs.Option.{option_to_list}
 use Rattle.std.proofs.Math.ListN.{get_or-map}
-use Rattle.std.proofs.Math.Path.{fun_ext}
 use Rattle.std.proofs.lemmas.List.{map-append}
 use Rattle.cc_heaps.proofs.ScriptsChanged.{HoldsSame, heap-held, registers-held, natives-held}
 use Rattle.cc_lists.specs.Members.{Among, has}
@@ -24,6 +23,7 @@ use Rattle.cc_laws_heap.specs.Marks.{AreMarksClosed}
 use Rattle.cc_laws_heap.proofs.Face.{named-member, scripts-sweep, sweep-sound, times-append}
 use Rattle.cc_counted.specs.Counts.{number_at, number_or_none, the_number, key_left, walks_left}
 use Rattle.cc_counted.specs.Counts as counts
+use Rattle.cc_counted.proofs.States.{walks_left-agree}
 use Rattle.cc_counted.specs.Owning.{AreOwned}
 use Rattle.cc_script.specs.Objects.{Object, name_at}
 use Rattle.cc_heaps.specs.Keyed.{Keyed, IsInOrder, Reflects, left_with, named_entries, named_objects}
@@ -208,7 +208,7 @@ module _ {owned : List ℕ} (p : Inside) (l : IsLinked p) (o : IsInOrder owned (
   keys-later = final-keys.keys ∙ map-agree (key_left g) (key_left h) p.counted.keys (λ k m. key_left-shown p.scripts (heap_of p) g k)
 
   walks-later : final.counts.walks ≡ walks_left h p.counted.keys p.counted.walks
-  walks-later = final-keys.walks ∙ fun_ext (λ key. state_left-shown p.scripts (heap_of p) g (get_or p.counted.keys key None) (p.counted.walks key))
+  walks-later = final-keys.walks ∙ walks_left-agree g h (state_left-shown p.scripts (heap_of p) g) p.counted.keys p.counted.walks
 
   keyed-later : keyed_of later ≡ left_with before h
   keyed-later = λ i. record { heap = heap-later i; keys = keys-later i; scripts = left_objects p; entries = left_entries p; walks = walks-later i }

@@ -9,7 +9,7 @@ use Rattle.cc_model.specs.Entries.{Entry}
 use Rattle.cc_model.specs.Entries as entries
 use Rattle.cc_model.specs.Heap.{Heap, HeapNative, HeapScript}
 use Rattle.cc_laws_heap.specs.Sound.{IsSound}
-use Rattle.cc_walk.specs.Walks.{Walks}
+use Rattle.cc_names.specs.declared.kind.Walked.{Walked}
 use Rattle.cc_counted.specs.Counts.{Counts, key_left, walks_left}
 use Rattle.cc_counted.specs.Counts as counts
 use Rattle.cc_counted.specs.Owning.{HasKeys}
@@ -23,7 +23,7 @@ pub record Keyed : Type 0 where
   pub scripts : List Object
   pub entries : List KeyedEntry
   -- of the native at each key
-  pub walks : Walks
+  pub walks : List Walked
 
 -- Script objects by names
 

@@ -14,3 +14,4 @@ pub mod Standing
 pub mod Rooting
 pub mod Keeping
 pub mod Leaving
+pub mod Walking

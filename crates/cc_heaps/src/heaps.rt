@@ -32,6 +32,7 @@ mod roots;
 mod scripts;
 mod sweeping;
 mod to_make;
+mod walks;
 
 use cc_counted::Counted;
 use cc_model::Notices;

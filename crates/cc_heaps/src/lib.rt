@@ -12,6 +12,9 @@
 //! map holds nothing by itself: an entry keeps its value while its map and its key live, and never its own key by itself:
 //! where that is a proxy, the entry keeps it while its map and the key's delegate live.
 //!
+//! A walk over both heaps has a set of objects, each of which it gives once (`walk_clear`, `walk_add`, `walk_next`, `walked`). It
+//! takes no memory, and says nothing of the heaps; an object that leaves its heap leaves the walk.
+//!
 //! What the laws make of these equations is said beside them, for callers who know no law. For which graph the heaps
 //! stand afterwards is one clause (`stands`). What a change keeps is another (`kept`), one promise of six parts
 //! (`KeepsParts`): objects keep their keys, the heaps stay in order, no count is greater than all references there can

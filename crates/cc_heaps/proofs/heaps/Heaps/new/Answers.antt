@@ -10,7 +10,6 @@ use Rattle.cc_names.specs.Sizes.{bank_length}
 use Rattle.cc_model.specs.Banks.{IsBankLength}
 use Rattle.cc_model.specs.Heap.{Heap, empty_heap}
 use Rattle.cc_laws_heap.specs.Sound.{IsSound}
-use Rattle.cc_walk.specs.Walks.{nowhere}
 use Rattle.cc_counted.specs.Counts.{Counts, no_counts}
 use Rattle.cc_script.specs.Objects.{Object}
 use Rattle.cc_weakmaps.specs.Entries.{KeyedEntry}
@@ -28,7 +27,7 @@ use Rattle.cc_heaps.proofs.heaps.Heaps.new.Goals as goal
 -- Nothing is there yet
 
 abbrev empty_keyed : Allowance → Keyed
-empty_keyed l = record { heap = empty_heap l; keys = []; scripts = []; entries = []; walks = nowhere }
+empty_keyed l = record { heap = empty_heap l; keys = []; scripts = []; entries = []; walks = [] }
 
 empty-sound : (l : Allowance) → IsSound [] (empty_heap l)
 empty-sound l = search rules
@@ -66,7 +65,7 @@ module _ (natives : Vec (Option NKey)) (scripts : Vec (Option SKey)) (limits : A
         keys = [];
         scripts = [];
         entries = [];
-        walks = nowhere;
+        walks = [];
       })
 
   empty-linked : IsLinked p

@@ -22,13 +22,13 @@ pub returns-clause-heap : goal.returns-clause-heap
 returns-clause-heap c =
     let p = c.self.inside in
     let e = c.in_ok-key.ensures in
-    rw (← c.self.view_is) (ap (λ (v : Keyed). v.heap) (made-keyed p (record { order = (rw (← c.self.view_is) at c.requires.order).1; linked = c.self.invariant }) c.create.new.self c.args.slots c.in_ok-key.key e.natives e.buffer e.others e.vacant e.walks))
+    rw (← c.self.view_is) (ap (λ (v : Keyed). v.heap) (made-keyed p (record { order = (rw (← c.self.view_is) at c.requires.order).1; linked = c.self.invariant }) c.create.new.self c.args.slots c.in_ok-key.key e.natives e.buffer e.others e.vacant))
 
 pub returns-clause-kept : goal.returns-clause-kept
 returns-clause-kept c =
     let p = c.self.inside in
     let e = c.in_ok-key.ensures in
-    rw (← c.self.view_is) (made-kept p (record { order = (rw (← c.self.view_is) at c.requires.order).1; linked = c.self.invariant }) c.create.new.self c.args.slots c.in_ok-key.key e.natives e.buffer e.others e.vacant e.walks)
+    rw (← c.self.view_is) (made-kept p (record { order = (rw (← c.self.view_is) at c.requires.order).1; linked = c.self.invariant }) c.create.new.self c.args.slots c.in_ok-key.key e.natives e.buffer e.others e.vacant)
 
 pub invariant_of-self : goal.invariant_of-self
 invariant_of-self c = subst (λ d. IsLinked (with_counted c.self.inside d)) (sym c.in_err-key.ensures.err) c.self.invariant
@@ -37,7 +37,7 @@ pub invariant_of-self-2 : goal.invariant_of-self-2
 invariant_of-self-2 c =
     let p = c.self.inside in
     let e = c.in_ok-key.ensures in
-    (made-fit p (record { order = (rw (← c.self.view_is) at c.requires.order).1; linked = c.self.invariant }) c.create.new.self c.args.slots c.in_ok-key.key e.natives e.buffer e.others e.vacant e.walks
+    (made-fit p (record { order = (rw (← c.self.view_is) at c.requires.order).1; linked = c.self.invariant }) c.create.new.self c.args.slots c.in_ok-key.key e.natives e.buffer e.others e.vacant
     e.key e.reflector e.other_reflectors e.as_many c.requires.slots (rw (← c.self.view_is) at c.requires.allowed) e.keyed).linked
 
 pub returns-clause-order : goal.returns-clause-order
@@ -45,5 +45,5 @@ returns-clause-order c owned =
     let p = c.self.inside in
     let e = c.in_ok-key.ensures in
     rw (← c.self.view_is)
-    (λ o. (made-fit p (record { order = o; linked = c.self.invariant }) c.create.new.self c.args.slots c.in_ok-key.key e.natives e.buffer e.others e.vacant e.walks
+    (λ o. (made-fit p (record { order = o; linked = c.self.invariant }) c.create.new.self c.args.slots c.in_ok-key.key e.natives e.buffer e.others e.vacant
     e.key e.reflector e.other_reflectors e.as_many c.requires.slots (rw (← c.self.view_is) at c.requires.allowed) e.keyed).order)

@@ -1,0 +1,33 @@
+use Rattle.std.proofs.Common.{refl}
+use Rattle.cc_counted.specs.declared.held.Held.TheVariants as held
+use Rattle.cc_walk.specs.Walks.{entered}
+use Rattle.cc_heaps.specs.Fields.{keyed_of}
+use Rattle.cc_heaps.specs.Walking.{with_state_in}
+use Rattle.cc_heaps.proofs.Linked.{with_counted}
+use Rattle.cc_heaps.proofs.Walking.{IsWalked, native-stated, script-stated}
+use Rattle.cc_heaps.proofs.heaps.Heaps.walk_add.Goals as goal
+
+of-native : (c : goal.After-walk_add) → IsWalked c.self.inside (with_counted c.self.inside c.walk_add.new.self) (with_state_in (keyed_of c.self.inside) (held.Native c.in-Native.key) entered)
+of-native c = native-stated c.self.inside c.self.invariant (held.Native c.in-Native.key) entered c.in-Native.key refl c.walk_add.new.self c.walk_add.ensures.walks
+
+of-script : (c : goal.After-walk_add-in-Script) →
+    IsWalked c.self.inside (record c.self.inside { scripts = c.walk_add-in-Script.new.self }) (with_state_in (keyed_of c.self.inside) (held.Script c.in-Script.key) entered)
+of-script c = script-stated c.self.inside c.self.invariant (held.Script c.in-Script.key) entered c.in-Script.key refl c.walk_add-in-Script.new.self c.walk_add-in-Script.ensures
+
+pub invariant_of-self : goal.invariant_of-self
+invariant_of-self c = (of-native c).linked
+
+pub invariant_of-self-in-Script : goal.invariant_of-self-in-Script
+invariant_of-self-in-Script c = (of-script c).linked
+
+pub returns-in-Native-clause-kept : goal.returns-in-Native-clause-kept
+returns-in-Native-clause-kept c = rw (← c.self.view_is) (of-native c).kept
+
+pub returns-in-Script-clause-walk : goal.returns-in-Script-clause-walk
+returns-in-Script-clause-walk c = rw (← c.self.view_is, c.in-Script.is) (of-script c).keyed
+
+pub returns-in-Script-clause-heap : goal.returns-in-Script-clause-heap
+returns-in-Script-clause-heap c = rw (← c.self.view_is) (of-script c).heap
+
+pub returns-in-Script-clause-kept : goal.returns-in-Script-clause-kept
+returns-in-Script-clause-kept c = rw (← c.self.view_is) (of-script c).kept
