@@ -3,6 +3,8 @@ use Rattle.std.specs.Prelude.{ℕ, Option}
 use Rattle.cc_names.specs.declared.name.Name.{Name}
 use Rattle.cc_names.specs.declared.register.Reg.{Reg}
 use Rattle.cc_names.specs.declared.register.Reg.TheVariants.{N, S}
+use Rattle.cc_model.specs.Slots.{Slots}
+use Rattle.cc_model.specs.Heap.{Heap}
 use Rattle.cc_heaps.specs.declared.rooted.Rooted.{Rooted}
 use Rattle.cc_heaps.specs.declared.rooted.Rooted.TheVariants as content
 use Rattle.cc_heaps.specs.Keyed.{Keyed}
@@ -18,6 +20,11 @@ register_at place (content.Script x) = S place
 abbrev pub rooted_name : Keyed → Rooted → Option Name
 rooted_name v (content.Native x) = native_name v x
 rooted_name v (content.Script x) = script_name v x
+
+-- the bank in which it is held
+abbrev pub bank_rooted : Heap → Rooted → Slots
+bank_rooted h (content.Native x) = h.native_registers
+bank_rooted h (content.Script x) = h.script_registers
 
 -- that is there
 abbrev pub IsRootedThere : Keyed → Rooted → Type 0

@@ -1,5 +1,5 @@
 //! Roots at places of their bank. The place may lie beyond the registers that commands can name: then the bank is lengthened.
-ghost use Rattle.std.specs.Prelude.{◌≡◌, ◌+◌, ◌-◌, ◌<◌, ◌++◌, ℕ, List, None, replicate, length, is_ok, OnOk, OnErr, if◌then◌else◌};
+ghost use Rattle.std.specs.Prelude.{◌≡◌, ◌+◌, ◌-◌, ◌<◌, ◌≤◌, ◌++◌, ℕ, List, None, replicate, length, is_ok, OnOk, OnErr, if◌then◌else◌};
 ghost use Rattle.cc_names.specs.Sizes.{most_roots};
 ghost use Rattle.cc_names.specs.declared.register.Reg.TheVariants.{N as n_register, S as s_register};
 ghost use Rattle.cc_model.specs.Banks.{of_natives, of_scripts};
@@ -9,7 +9,7 @@ ghost use Rattle.cc_model.specs.Telling.{TellsEvents};
 ghost use Rattle.cc_model.specs.Graph as graph;
 ghost use Rattle.cc_heaps.specs.Keyed.{IsInOrder, changed_to};
 ghost use Rattle.cc_heaps.specs.Changes.{IsNativeThere, IsScriptThere, native_name, script_name};
-ghost use Rattle.cc_heaps.specs.Rooting.{IsRootedThere, MayBeRooted, register_at, rooted_name};
+ghost use Rattle.cc_heaps.specs.Rooting.{IsRootedThere, MayBeRooted, bank_rooted, register_at, rooted_name};
 ghost use Rattle.cc_heaps.specs.Standing.{IsReached, IsReachedOrReflects, StandsAfter};
 ghost use Rattle.cc_heaps.specs.Few.{AreOwnedOnce};
 ghost use Rattle.cc_heaps.specs.Keeping.{KeepsAll};
@@ -22,7 +22,8 @@ use cc_names::{NKey, NoMemory, RegNo, SKey};
 
 // A bank of natives with so many places at least: those that come are empty. `NoMemory` changes nothing.
 fn lengthen_natives(bank: &mut Vec<Option<NKey>>, places: usize) -> Result<(), NoMemory>
-    ensures { bank.new.items ≡ (if is_ok result then bank.old.items ++ replicate (places - length bank.old.items) None else bank.old.items) }
+    ensures items { bank.new.items ≡ (if is_ok result then bank.old.items ++ replicate (places - length bank.old.items) None else bank.old.items) }
+    ensures wanted { OnErr result (length bank.old.items < places) }
 {
     if bank.len() < places {
         bank.resize(places, None)?;
@@ -32,7 +33,8 @@ fn lengthen_natives(bank: &mut Vec<Option<NKey>>, places: usize) -> Result<(), N
 
 // A bank of script objects with so many places at least: those that come are empty. `NoMemory` changes nothing.
 fn lengthen_scripts(bank: &mut Vec<Option<SKey>>, places: usize) -> Result<(), NoMemory>
-    ensures { bank.new.items ≡ (if is_ok result then bank.old.items ++ replicate (places - length bank.old.items) None else bank.old.items) }
+    ensures items { bank.new.items ≡ (if is_ok result then bank.old.items ++ replicate (places - length bank.old.items) None else bank.old.items) }
+    ensures wanted { OnErr result (length bank.old.items < places) }
 {
     if bank.len() < places {
         bank.resize(places, None)?;
@@ -60,6 +62,7 @@ impl Heaps {
         requires { place < most_roots }
         ensures heap { OnOk result (self.new ≡ changed_to self.old (lengthen self.old.heap of_natives (place + 1))) }
         ensures same { OnErr result (self.new ≡ self.old) }
+        ensures beyond { OnErr result (length self.old.heap.native_registers ≤ place) }
     {
         lengthen_natives(&mut self.native_registers, place as usize + 1)
     }
@@ -69,6 +72,7 @@ impl Heaps {
         requires { place < most_roots }
         ensures heap { OnOk result (self.new ≡ changed_to self.old (lengthen self.old.heap of_scripts (place + 1))) }
         ensures same { OnErr result (self.new ≡ self.old) }
+        ensures beyond { OnErr result (length self.old.heap.script_registers ≤ place) }
     {
         lengthen_scripts(&mut self.script_registers, place as usize + 1)
     }
@@ -89,6 +93,7 @@ impl Heaps {
         ensures kept { KeepsAll self.old self.new }
         ensures same { OnErr result (self.new ≡ self.old) }
         ensures silent { OnErr result (N.telling out.new ≡ N.telling out.old) }
+        ensures beyond { OnErr result (length self.old.heap.native_registers ≤ place) }
         ensures stands { OnOk result (IsReached self.old.heap (native_name self.old content) →
             StandsAfter self.old.heap self.new.heap (λ g. graph.root_at g (n_register place) (native_name self.old content))) }
     {
@@ -106,6 +111,7 @@ impl Heaps {
         ensures left { NothingLeft self.old.heap self.new.heap }
         ensures kept { KeepsAll self.old self.new }
         ensures same { OnErr result (self.new ≡ self.old) }
+        ensures beyond { OnErr result (length self.old.heap.script_registers ≤ place) }
         ensures stands { OnOk result (IsReachedOrReflects self.old.heap (script_name self.old content) →
             StandsAfter self.old.heap self.new.heap (λ g. graph.root_at g (s_register place) (script_name self.old content))) }
     {
@@ -134,6 +140,7 @@ impl Heaps {
         ensures kept { KeepsAll self.old self.new }
         ensures same { OnErr result (self.new ≡ self.old) }
         ensures silent { OnErr result (N.telling out.new ≡ N.telling out.old) }
+        ensures beyond { OnErr result (length (bank_rooted self.old.heap content) ≤ place) }
         ensures stands { OnOk result (MayBeRooted self.old content →
             StandsAfter self.old.heap self.new.heap (λ g. graph.root_at g (register_at place content) (rooted_name self.old content))) }
     {

@@ -6,10 +6,10 @@ use Rattle.cc_heaps.proofs.heaps.Heaps.reach_script_reg.Goals as goal
 pub invariant_of-self : goal.invariant_of-self
 invariant_of-self c =
     let few : c.args.place + 1 ≤ most_roots = omega (arith, c.requires) in
-    scripts-linked c.self.inside (c.args.place + 1) few c.self.invariant c.lengthen_scripts.result c.lengthen_scripts.new.bank c.lengthen_scripts.ensures
+    scripts-linked c.self.inside (c.args.place + 1) few c.self.invariant c.lengthen_scripts.result c.lengthen_scripts.new.bank c.lengthen_scripts.ensures.items
 
 pub returns-clause-heap : goal.returns-clause-heap
-returns-clause-heap c = rw (← c.self.view_is) (scripts-longer c.self.inside (c.args.place + 1) c.lengthen_scripts.result c.lengthen_scripts.new.bank c.lengthen_scripts.ensures)
+returns-clause-heap c = rw (← c.self.view_is) (scripts-longer c.self.inside (c.args.place + 1) c.lengthen_scripts.result c.lengthen_scripts.new.bank c.lengthen_scripts.ensures.items)
 
 pub returns-clause-same : goal.returns-clause-same
-returns-clause-same c = rw (← c.self.view_is) (scripts-as_before c.self.inside (c.args.place + 1) c.lengthen_scripts.result c.lengthen_scripts.new.bank c.lengthen_scripts.ensures)
+returns-clause-same c = rw (← c.self.view_is) (scripts-as_before c.self.inside (c.args.place + 1) c.lengthen_scripts.result c.lengthen_scripts.new.bank c.lengthen_scripts.ensures.items)
