@@ -4,13 +4,13 @@ use Rattle.cc_model.specs.declared.item.Refusal.TheVariants.{NoMemory}
 use Rattle.cc_model.specs.declared.item.Reply.TheVariants.{Named}
 use Rattle.cc_model.specs.Effects.{done_in, make_proxy}
 use Rattle.cc_model.specs.Heap.{register}
+use Rattle.cc_laws_heap.proofs.Face.{AreColoured-from_view}
+use Rattle.cc_mutator.proofs.ScriptsRead.{source-black}
 use Rattle.cc_mutator.proofs.Carrying.{answered-denied, answered-silently, name-not_refused}
 use Rattle.cc_mutator.proofs.making.make_proxy.Goals as goal
 
 pub new_proxy-requires-clause-within : goal.new_proxy-requires-clause-within
 new_proxy-requires-clause-within c = omega (arith, c.requires.within, c.requires.order.1.sound.well_formed.registers.1.enough)
-use Rattle.cc_laws_heap.proofs.Face.{AreColoured-from_view}
-use Rattle.cc_mutator.proofs.ScriptsRead.{source-black}
 
 pub new_proxy-requires-clause-black : goal.new_proxy-requires-clause-black
 new_proxy-requires-clause-black c =
