@@ -1,6 +1,5 @@
 -- LINES THAT ARE NO ITEM'S.
 use Rattle.std.specs.Prelude.{◌≢◌, ℕ, ◌≤◌, List}
-use Rattle.cc_names.specs.declared.register.Reg.{Reg}
 use Rattle.cc_names.specs.declared.register.Reg.TheVariants.{N, S}
 use Rattle.cc_names.specs.Names.{number_of}
 use Rattle.cc_model.specs.declared.item.Item.{Item}

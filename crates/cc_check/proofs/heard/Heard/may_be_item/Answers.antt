@@ -1,4 +1,4 @@
-use Rattle.std.proofs.Common.{◌≡◌, ◌<◌, ℕ, Some, false, length, get_or, sym, arith}
+use Rattle.std.proofs.Common.{◌≡◌, ◌<◌, Some, length, get_or, sym, arith}
 use Rattle.cc_check.proofs.ItemLines.{long-no_item, other-no_item}
 use Rattle.cc_check.proofs.heard.Heard.may_be_item.Goals as goal
 
