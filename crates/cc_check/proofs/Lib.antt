@@ -11,3 +11,7 @@ pub mod Passing
 pub mod Over
 pub mod Ahead
 pub mod Ranges
+pub mod Causing
+pub mod Read
+pub mod ReadOn
+pub mod ItemLines
