@@ -4,7 +4,8 @@
     bench/peers/cpython.py [--natives N] [SCRIPT [TRANSCRIPT]]
 
 Without names it reads standard input and writes standard output. It takes the words of natives in version 1: native, drop,
-copy, set, get, slice, collect, gc and census. At a line with a word or a register of script objects it ends with status 2.
+copy, set, get, slice, collect, gc and census. At a line with a word or a register of script objects, and at `version 2`, it
+ends with status 2.
 
 A native is a Python object with a list of slots. Between two commands nothing but the registers and the slots refers to one:
 a weak reference tells when it dies, and a census lists what the interpreter itself tracks. CPython does not collect on its
@@ -26,7 +27,7 @@ LONGEST_LINE = 120
 
 NUMBER = re.compile(rb"0|[1-9][0-9]*")
 SCRIPT_REGISTER = re.compile(rb"s(0|[1-9][0-9]*)")
-WORDS_OF_SCRIPT = set(b"script weakmap proxy put take wrap unwrap preserve wset wget expose version".split())
+WORDS_OF_SCRIPT = set(b"script weakmap proxy put take wrap unwrap preserve wset wget expose".split())
 
 
 class Native:
@@ -120,6 +121,7 @@ class Heap:
         self.made = 0
         self.watches = {}
         self.died = []
+        self.has_begun = False
 
     def dies(self, watch):
         """The interpreter calls this for each native that it destroys."""
@@ -180,12 +182,15 @@ class Heap:
 
 def answer(heap, line):
     """What is written for a line, which has no line feed."""
-    if len(line) > LONGEST_LINE:
-        return "! long\n"
-    tokens = line.removesuffix(b"\r").split(b" ")
-    tokens = [it for it in tokens if it]
-    if not tokens or tokens[0].startswith(b"%"):
+    tokens = [it for it in line.removesuffix(b"\r").split(b" ") if it]
+    is_long = len(line) > LONGEST_LINE
+    if not is_long and (not tokens or tokens[0].startswith(b"%")):
         return ""
+    if not heap.has_begun and tokens == [b"version", b"2"]:
+        raise NotTaken
+    heap.has_begun = True
+    if is_long:
+        return "! long\n"
     try:
         word, operands = parse(tokens)
     except NotInGrammar:
@@ -212,8 +217,10 @@ def main():
             try:
                 out.write(answer(heap, line))
             except NotTaken:
-                sys.exit(f"cpython: line {place} is of script objects or of version 2, which are not taken")
+                print(f"cpython: line {place} is of script objects or of version 2, which are not taken", file=sys.stderr)
+                return 2
+    return 0
 
 
 if __name__ == "__main__":
-    main()
+    sys.exit(main())
