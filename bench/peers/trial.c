@@ -82,19 +82,20 @@ static int is_native(const struct object *object) { return object != NULL && obj
 
 static int is_script(const struct object *object) { return object != NULL && object->kind != NATIVE; }
 
-static void print_object(const char *before, const struct object *object) {
-    char sign = object->kind == REFLECTOR ? '~' : object->kind == PLAIN || object->kind == WEAK_MAP ? '@' : '#';
-    printf("%s%c%u\n", before, sign, object->number);
+static char sign_of(const struct object *object) {
+    return object->kind == REFLECTOR ? '~' : object->kind == PLAIN || object->kind == WEAK_MAP ? '@' : '#';
 }
+
+static void tell(const char *what, const struct object *object) { printf("%s %c%u\n", what, sign_of(object), object->number); }
 
 /* Counting */
 
 static void suspect(struct object *native) {
-    if (native->is_buffered)
-        return;
-    native->is_buffered = 1;
-    native->place = buffer.count;
-    push(&buffer, native);
+    if (!native->is_buffered) {
+        native->is_buffered = 1;
+        native->place = buffer.count;
+        push(&buffer, native);
+    }
 }
 
 static void add_reference(struct object *object) {
@@ -111,7 +112,7 @@ static void release(struct object *object);
 
 /* Frees a native whose count is 0. */
 static void free_native(struct object *native) {
-    print_object("- free ", native);
+    tell("- free", native);
     if (native->is_buffered && mistake != DEAD_ENTRY)
         buffer.items[native->place] = NULL;
     if (native->is_node)
@@ -138,7 +139,7 @@ static void release(struct object *object) {
     }
     push(&dying, object);
     if (is_freeing)
-        return;
+        return; /* the loop below is at work */
     is_freeing = 1;
     for (size_t i = 0; i < dying.count; i++)
         free_native(dying.items[i]);
@@ -149,10 +150,10 @@ static void release(struct object *object) {
 /* Tracing */
 
 static void paint_one(struct object *object, int colour) {
-    if (!is_script(object) || (object->colour & colour) != 0)
-        return;
-    object->colour |= colour;
-    push(&painted, object);
+    if (is_script(object) && !(object->colour & colour)) {
+        object->colour |= colour;
+        push(&painted, object);
+    }
 }
 
 /* Paints a script object and all that it reaches over slots. */
@@ -226,7 +227,7 @@ static int sweep(void) {
             scripts.items[kept++] = object;
             continue;
         }
-        print_object("- free ", object);
+        tell("- free", object);
         if (object->kind == REFLECTOR) {
             object->partner->partner = NULL;
             if (mistake != UNCOUNTED_REFLECTOR)
@@ -315,10 +316,10 @@ static void look_at(struct object *object) {
 }
 
 static void keep_one(struct object *object) {
-    if (!object->is_node || object->stays)
-        return;
-    object->stays = 1;
-    push(&painted, object);
+    if (object->is_node && !object->stays) {
+        object->stays = 1;
+        push(&painted, object);
+    }
 }
 
 /* A node stays, with all that it refers to. */
@@ -375,7 +376,7 @@ static void end(void) {
     nodes.count = 0;
     is_running = 0;
     for (size_t i = 0; i < white.count; i++) {
-        print_object("- unlink ", white.items[i]);
+        tell("- unlink", white.items[i]);
         if (mistake != FREED_TWICE)
             white.items[i]->count++;
     }
@@ -400,30 +401,25 @@ static void finish(void) {
         unit();
 }
 
-/* The replies */
-
-static void ok(void) { puts("= ok"); }
-
-static void name_or_none(const struct object *object) {
-    if (object == NULL)
-        puts("= none");
-    else
-        print_object("= ", object);
-}
-
-static void refused(const char *why) { printf("! %s\n", why); }
-
-/* The commands. An operand is the place of a register, or a number, or neither where the word none stands. A register that
-   must hold an object does. */
+/* The commands, each of which returns its reply. An operand is the place of a register, or a number, or neither where the word
+   none stands. A register that must hold an object does. */
 
 struct operand {
     struct object **place;
     unsigned number;
 };
 
-static void hold_and_name(struct object **place, struct object *object) {
+static const char *name_or_none(const struct object *object) {
+    static char text[24];
+    if (object == NULL)
+        return "= none";
+    snprintf(text, sizeof text, "= %c%u", sign_of(object), object->number);
+    return text;
+}
+
+static const char *hold_and_name(struct object **place, struct object *object) {
     hold(place, object);
-    name_or_none(object);
+    return name_or_none(object);
 }
 
 static struct object **slots_made(unsigned count) {
@@ -431,12 +427,10 @@ static struct object **slots_made(unsigned count) {
     return memset(more_room(NULL, bytes), 0, bytes);
 }
 
-static void native(struct operand *o) {
+static const char *native(struct operand *o) {
     struct object *made;
-    if (natives.count == MOST_MADE) {
-        refused("full");
-        return;
-    }
+    if (natives.count == MOST_MADE)
+        return "! full";
     made = free_memory.count > 0 ? free_memory.items[--free_memory.count] : more_room(NULL, sizeof *made);
     memset(made, 0, sizeof *made);
     push(&natives, made);
@@ -444,7 +438,7 @@ static void native(struct operand *o) {
     made->number = (unsigned)natives.count;
     made->slot_count = o[1].number;
     made->slots = slots_made(o[1].number);
-    hold_and_name(o[0].place, made);
+    return hold_and_name(o[0].place, made);
 }
 
 static struct object *script_made(enum kind kind, unsigned number, unsigned slots) {
@@ -457,32 +451,34 @@ static struct object *script_made(enum kind kind, unsigned number, unsigned slot
     return made;
 }
 
-static void make_script(struct object **place, enum kind kind, unsigned slots) {
+static const char *script(struct operand *o) {
     if (scripts_made == MOST_MADE)
-        refused("full");
-    else
-        hold_and_name(place, script_made(kind, ++scripts_made, slots));
+        return "! full";
+    return hold_and_name(o[0].place, script_made(PLAIN, ++scripts_made, o[1].number));
 }
 
-static void script(struct operand *o) { make_script(o[0].place, PLAIN, o[1].number); }
+static const char *weakmap(struct operand *o) {
+    if (scripts_made == MOST_MADE)
+        return "! full";
+    return hold_and_name(o[0].place, script_made(WEAK_MAP, ++scripts_made, 0));
+}
 
-static void weakmap(struct operand *o) { make_script(o[0].place, WEAK_MAP, 0); }
+static const char *copy(struct operand *o) { return hold_and_name(o[0].place, *o[1].place); }
 
-static void copy(struct operand *o) { hold_and_name(o[0].place, *o[1].place); }
-
-static void drop(struct operand *o) {
+static const char *drop(struct operand *o) {
     hold(o[0].place, NULL);
-    ok();
+    return "= ok";
 }
 
-/* A slot of what a register holds; refused where it has none. */
-static struct object **slot_of(struct operand *o) {
+static int is_of(const struct operand *o, enum kind kind) { return (*o->place)->kind == kind; }
+
+/* A slot of what a register holds, if it has that slot. */
+static struct object **slot_of(const struct operand *o) {
     struct object *holder = *o[0].place;
-    if (holder->kind != WEAK_MAP && o[1].number < holder->slot_count)
-        return &holder->slots[o[1].number];
-    refused(holder->kind == WEAK_MAP ? "kind" : "slot");
-    return NULL;
+    return o[1].number < holder->slot_count ? &holder->slots[o[1].number] : NULL;
 }
+
+static const char *no_slot(const struct operand *o) { return is_of(o, WEAK_MAP) ? "! kind" : "! slot"; }
 
 static void preserve_if_reflector(struct object *object) {
     if (object->kind == REFLECTOR)
@@ -490,39 +486,36 @@ static void preserve_if_reflector(struct object *object) {
 }
 
 /* set and put */
-static void store(struct operand *o) {
+static const char *store(struct operand *o) {
     struct object **slot = slot_of(o);
     if (slot == NULL)
-        return;
+        return no_slot(o);
     preserve_if_reflector(*o[0].place);
     hold(slot, o[2].place == NULL ? NULL : *o[2].place);
-    ok();
+    return "= ok";
 }
 
 /* get and take */
-static void load(struct operand *o) {
+static const char *load(struct operand *o) {
     struct object **slot = slot_of(o + 1);
     if (slot == NULL)
-        return;
+        return no_slot(o + 1);
     if (o[0].place < registers + REGISTERS ? is_script(*slot) : is_native(*slot))
-        refused("kind");
-    else
-        hold_and_name(o[0].place, *slot);
+        return "! kind";
+    return hold_and_name(o[0].place, *slot);
 }
 
-static void expose(struct operand *o) {
+static const char *expose(struct operand *o) {
     struct object **slot = slot_of(o);
     if (slot == NULL)
-        return;
-    if (is_native(*slot)) {
-        refused("kind");
-        return;
-    }
+        return no_slot(o);
+    if (is_native(*slot))
+        return "! kind";
     paint(*slot, BLACK);
-    name_or_none(*slot);
+    return name_or_none(*slot);
 }
 
-static void wrap(struct operand *o) {
+static const char *wrap(struct operand *o) {
     struct object *wrapped = *o[1].place;
     if (wrapped->partner == NULL) {
         wrapped->partner = script_made(REFLECTOR, wrapped->number, REFLECTOR_SLOTS);
@@ -530,27 +523,16 @@ static void wrap(struct operand *o) {
         if (mistake != UNCOUNTED_REFLECTOR)
             add_reference(wrapped);
     }
-    hold_and_name(o[0].place, wrapped->partner);
+    return hold_and_name(o[0].place, wrapped->partner);
 }
 
-/* Refused where what a register holds is of another kind. */
-static int is_other(const struct operand *o, enum kind kind) {
-    if ((*o->place)->kind == kind)
-        return 0;
-    refused("kind");
-    return 1;
+static const char *unwrap(struct operand *o) {
+    return is_of(&o[1], REFLECTOR) ? hold_and_name(o[0].place, (*o[1].place)->partner) : "! kind";
 }
 
-static void unwrap(struct operand *o) {
-    if (!is_other(&o[1], REFLECTOR))
-        hold_and_name(o[0].place, (*o[1].place)->partner);
-}
-
-static void preserve(struct operand *o) {
-    if (is_other(&o[0], REFLECTOR))
-        return;
+static const char *preserve(struct operand *o) {
     preserve_if_reflector(*o[0].place);
-    ok();
+    return is_of(&o[0], REFLECTOR) ? "= ok" : "! kind";
 }
 
 static struct entry *entry_of(const struct operand *o) {
@@ -560,69 +542,75 @@ static struct entry *entry_of(const struct operand *o) {
     return NULL;
 }
 
-static void wset(struct operand *o) {
+static const char *wset(struct operand *o) {
     struct entry *entry;
-    if (is_other(&o[0], WEAK_MAP))
-        return;
+    if (!is_of(&o[0], WEAK_MAP))
+        return "! kind";
     entry = entry_of(o);
-    if (o[2].place == NULL) {
-        if (entry != NULL)
-            *entry = entries[--entry_count];
-        ok();
-        return;
-    }
     if (entry == NULL) {
         entries = more_room(entries, (entry_count + 1) * sizeof *entries);
         entry = &entries[entry_count++];
     }
     *entry = (struct entry){ *o[0].place, *o[1].place, *o[2].place };
     preserve_if_reflector(entry->key);
-    ok();
+    return "= ok";
 }
 
-static void wget(struct operand *o) {
+static const char *wset_none(struct operand *o) {
     struct entry *entry;
-    if (is_other(&o[1], WEAK_MAP))
-        return;
-    entry = entry_of(o + 1);
-    hold_and_name(o[0].place, entry == NULL ? NULL : entry->value);
+    if (!is_of(&o[0], WEAK_MAP))
+        return "! kind";
+    entry = entry_of(o);
+    if (entry != NULL)
+        *entry = entries[--entry_count];
+    return "= ok";
 }
 
-static void slice(struct operand *o) {
+static const char *wget(struct operand *o) {
+    struct entry *entry;
+    if (!is_of(&o[1], WEAK_MAP))
+        return "! kind";
+    entry = entry_of(o + 1);
+    return hold_and_name(o[0].place, entry == NULL ? NULL : entry->value);
+}
+
+static const char *slice(struct operand *o) {
     unit();
     for (unsigned i = 1; i < o[0].number && is_running; i++)
         unit();
-    ok();
+    return "= ok";
 }
 
-static void collect(struct operand *o) {
+static const char *collect(struct operand *o) {
     (void)o;
     finish();
     unit();
     finish();
-    ok();
+    return "= ok";
 }
 
-static void gc(struct operand *o) {
+static const char *gc(struct operand *o) {
     (void)o;
     finish();
     do
         mark();
     while (sweep());
-    ok();
+    return "= ok";
 }
 
-static void census(struct operand *o) {
+static const char *census(struct operand *o) {
+    static char text[32];
     size_t count = scripts.count;
     (void)o;
     for (size_t i = 0; i < natives.count; i++)
         if (natives.items[i] != NULL) {
-            print_object("+ ", natives.items[i]);
+            tell("+", natives.items[i]);
             count++;
         }
     for (size_t i = 0; i < scripts.count; i++)
-        print_object("+ ", scripts.items[i]);
-    printf("= census %zu\n", count);
+        tell("+", scripts.items[i]);
+    snprintf(text, sizeof text, "= census %zu", count);
+    return text;
 }
 
 /* The lines. n and s are registers, and N and S those that must hold an object; i is an index, k a number of slots, u one of
@@ -630,14 +618,14 @@ static void census(struct operand *o) {
 
 static const struct form {
     const char *word, *operands;
-    void (*answer)(struct operand *);
+    const char *(*answer)(struct operand *);
 } forms[] = {
     { "native", "nk", native }, { "script", "sk", script }, { "weakmap", "s", weakmap },
     { "copy", "nn", copy }, { "copy", "ss", copy }, { "drop", "n", drop }, { "drop", "s", drop },
     { "set", "NiN", store }, { "set", "NiS", store }, { "set", "Ni-", store }, { "put", "SiS", store }, { "put", "Si-", store },
     { "get", "nNi", load }, { "get", "sNi", load }, { "take", "sSi", load }, { "expose", "Ni", expose },
     { "wrap", "sN", wrap }, { "unwrap", "nS", unwrap }, { "preserve", "S", preserve },
-    { "wset", "SSS", wset }, { "wset", "SS-", wset }, { "wget", "sSS", wget },
+    { "wset", "SSS", wset }, { "wset", "SS-", wset_none }, { "wget", "sSS", wget },
     { "slice", "u", slice }, { "collect", "", collect }, { "gc", "", gc }, { "census", "", census },
 };
 
@@ -691,40 +679,32 @@ static int lacks_object(const struct form *form, const struct operand *o) {
     return 0;
 }
 
-/* Answers a line, which has room for one byte more. */
-static void answer(char *line, size_t length, unsigned long place) {
+/* The reply to a line, which has room for one byte more; none where it asks nothing. */
+static const char *reply_to(char *line, size_t length, unsigned long place) {
     static int has_begun = 0; /* a line came that is not blank and no comment */
     char *tokens[MOST_TOKENS];
     struct operand o[MOST_TOKENS];
     size_t count = 0;
-    int is_version;
-    if (length > LONGEST_LINE) {
-        has_begun = 1;
-        refused("long");
-        return;
-    }
-    if (length > 0 && line[length - 1] == '\r')
-        length--;
-    line[length] = '\0';
+    int is_first = !has_begun;
+    has_begun = 1;
+    if (length > LONGEST_LINE)
+        return "! long";
+    line[length > 0 && line[length - 1] == '\r' ? length - 1 : length] = '\0';
     for (char *token = strtok(line, " "); token != NULL && count < MOST_TOKENS; token = strtok(NULL, " "))
         tokens[count++] = token;
-    if (count == 0 || *tokens[0] == '%')
-        return;
-    is_version = !has_begun && count == 2 && strcmp(tokens[0], "version") == 0 && strcmp(tokens[1], "2") == 0;
-    if (is_version || strcmp(tokens[0], "proxy") == 0) {
+    if (count == 0 || *tokens[0] == '%') {
+        has_begun = !is_first;
+        return NULL;
+    }
+    if (strcmp(tokens[0], "proxy") == 0
+        || (is_first && count == 2 && strcmp(tokens[0], "version") == 0 && strcmp(tokens[1], "2") == 0)) {
         fprintf(stderr, "trial: line %lu: proxies and version 2 are not taken\n", place);
         exit(2);
     }
-    has_begun = 1;
     for (size_t i = 0; i < sizeof forms / sizeof forms[0]; i++)
-        if (is_form(&forms[i], tokens, count, o)) {
-            if (lacks_object(&forms[i], o))
-                refused("empty");
-            else
-                forms[i].answer(o);
-            return;
-        }
-    refused("line");
+        if (is_form(&forms[i], tokens, count, o))
+            return lacks_object(&forms[i], o) ? "! empty" : forms[i].answer(o);
+    return "! line";
 }
 
 int main(int count, char **words) {
@@ -745,7 +725,9 @@ int main(int count, char **words) {
     do {
         byte = getchar();
         if (byte == '\n' || (byte == EOF && length > 0)) {
-            answer(line, length, ++place);
+            const char *reply = reply_to(line, length, ++place);
+            if (reply != NULL)
+                puts(reply);
             length = 0;
         } else if (byte != EOF && length <= LONGEST_LINE) {
             line[length++] = byte == '\0' ? '?' : (char)byte; /* neither is of a word */
