@@ -27,8 +27,13 @@ from judge import ROOT, verdict
 from scripts import made
 
 CCREPLAY = os.environ.get("CCREPLAY", f"{ROOT}/crates/ccreplay/out/ccreplay")
-KINDS = ["dropped", "doubled", "swapped", "moved", "another number", "another reply", "event put in", "event moved", "cut", "no line feed"]
-REPLIES = ["= ok", "= none", "= #1", "= #2", "= @1", "= ~1", "= census 0", "! empty", "! kind", "! slot", "! line", "! long", "! full", "! nomem"]
+KINDS = [
+    "dropped", "doubled", "swapped", "moved", "another number", "another reply", "event put in", "event moved", "cut", "no line feed",
+]
+REPLIES = [
+    "= ok", "= none", "= #1", "= #2", "= @1", "= ~1", "= census 0",
+    "! empty", "! kind", "! slot", "! line", "! long", "! full", "! nomem",
+]
 MADE = {"native", "script", "weakmap"}
 LINE = re.compile(r"line ([1-9][0-9]*)\b.*")
 
@@ -105,8 +110,11 @@ def with_ending(lines, front, reply=None):
     if len(answers) > len(commands):
         return front
     answers_so_far = answers + [rest + [reply]] if reply else answers
-    refused = {place for (place, word), answer in zip(commands, answers_so_far) if answer[-1] == "! nomem" and word not in ("slice", "collect")}
-    ours = split(replayed("".join("no command\n" if place in refused else f"{line}\n" for place, line in enumerate(lines))))[0]
+    undone = {
+        place for (place, word), answer in zip(commands, answers_so_far)
+        if answer[-1] == "! nomem" and word not in ("slice", "collect")
+    }
+    ours = split(replayed("".join("no command\n" if place in undone else f"{line}\n" for place, line in enumerate(lines))))[0]
     ending, listed, ours_listed = [], Listed(), Listed()
     for (_, word), answer, of_ours in zip(commands, answers, ours):
         listed.take(word, answer)

@@ -113,7 +113,7 @@ def made(seed, lines, words="both", percent=5):
             return f"{letter.lower()}{draw.randrange(registers)}"
         if letter == "none":
             return letter
-        return str({"i": draw.randrange(slots), "k": slots, "u": draw.randint(1, 6)}[letter])
+        return str({"i": draw.randrange(slots), "k": slots, "u": draw.choice((1, 1, 1, 2, 3, 6))}[letter])
 
     script = []
     while len(script) < lines:
