@@ -34,7 +34,7 @@ REPLIES = [
     "= ok", "= none", "= #1", "= #2", "= @1", "= ~1", "= census 0",
     "! empty", "! kind", "! slot", "! line", "! long", "! full", "! nomem",
 ]
-MADE = {"native", "script", "weakmap"}
+MADE = {"native", "script", "weakmap", "proxy"}
 LINE = re.compile(r"line ([1-9][0-9]*)\b.*")
 
 
@@ -62,7 +62,7 @@ def asked(lines):
     """The lines of a script that are answered: each with its first word, or none where it is too long."""
     answered = []
     for place, line in enumerate(lines):
-        words = line.split()
+        words = [it for it in line.removesuffix("\r").split(" ") if it]
         if len(line) > 120:
             answered.append((place, ""))
         elif words and not words[0].startswith("%"):
@@ -130,6 +130,8 @@ def with_ending(lines, front, reply=None):
             answer = frees + of_ours[-1:]
         elif word == "census":
             answer = listed.census()[len(rest):]
+        elif word == "why":
+            answer = of_ours[len(rest):]
         else:
             answer = of_ours[-1:]
         if reply:
