@@ -6,14 +6,23 @@
 # 60 transcripts are changed; with --all these are 1,000 and 2,000, which takes some minutes.
 #
 # It takes the programs that rt run or rt ci left: crates/cccheck/out/cccheck, and crates/ccreplay/out/ccreplay for the changes.
-# CCCHECK and CCREPLAY name others, and CC another compiler. What is not there is left out, and said. Status 0 only if all that was
-# there passed.
+# CCCHECK and CCREPLAY name others, and CC another compiler. What is not there, or is older than a source file of a crate, is left
+# out, and said. Status 0 only if all that was there passed.
 set -u
 cd "$(dirname "$0")/.." || exit 1
 cc=${CC:-cc}
-export CCCHECK=${CCCHECK:-$PWD/crates/cccheck/out/cccheck}
-export CCREPLAY=${CCREPLAY:-$PWD/crates/ccreplay/out/ccreplay}
 export PYTHONDONTWRITEBYTECODE=1
+
+# The path of a program that was left in its crate, or of none where a source file is newer.
+program_left() {
+    local path=$PWD/crates/$1/out/$1
+    if [ -x "$path" ] && [ -z "$(find crates/*/src -name '*.rt' -newer "$path" -print -quit)" ]; then
+        echo "$path"
+    fi
+}
+
+export CCCHECK=${CCCHECK:-$(program_left cccheck)}
+export CCREPLAY=${CCREPLAY:-$(program_left ccreplay)}
 scripts=60
 changes=60
 if [ "${1:-}" = --all ]; then
@@ -21,7 +30,7 @@ if [ "${1:-}" = --all ]; then
     changes=2000
 fi
 if [ ! -x "$CCCHECK" ]; then
-    echo "peers: there is no $CCCHECK, so nothing was judged"
+    echo "peers: there is no cccheck of this source, so nothing was judged"
     exit 0
 fi
 work=$(mktemp -d) || exit 1
@@ -80,7 +89,7 @@ if [ -n "$python" ]; then
     if [ -x "$CCREPLAY" ]; then
         pass "changes" "$python" bench/peers/changes.py --count "$changes"
     else
-        echo "peers: there is no $CCREPLAY, so no transcript was changed"
+        echo "peers: there is no ccreplay of this source, so no transcript was changed"
     fi
 fi
 echo "peers: $passed passed, $failed failed"
