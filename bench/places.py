@@ -9,7 +9,8 @@ Build both programs first (rt run in crates/ccreplay and in crates/cccheck), and
 
 CCREPLAY and CCCHECK name other programs. A row is a script of bench/peers/scripts.py of so many lines with its transcript. The
 figures are instructions for each line of script and transcript together: of check; of cccheck where the transcript is lawful; and
-where a wrong reply stands in its middle, and at its end.
+where a wrong reply stands in its middle, and at its end. A second table has chains of natives, of whose last one the last answer
+says that it is freed: the path to it is the whole chain, and both programs say that the transcript is not lawful.
 """
 
 import os
@@ -22,7 +23,7 @@ HERE = os.path.dirname(os.path.abspath(__file__))
 sys.path.insert(0, f"{HERE}/peers")
 
 from changes import CCREPLAY, is_reply
-from judge import CCCHECK
+from judge import CCCHECK, must_be_there
 from scripts import made
 
 
@@ -71,13 +72,33 @@ def row(folder, count):
     print(f"| {len(script):,} | {len(transcript):,} | {' | '.join(figures)} | {max(of_places) / of_check:.2f} |", flush=True)
 
 
+def chain_row(folder, count):
+    """Prints the row of a chain that a script of so many lines makes, with a wrong free line at its end."""
+    natives = count // 3
+    script = ["native n0 1", "copy n1 n0"] + (natives - 1) * ["native n2 1", "set n1 0 n2", "copy n1 n2"] + ["drop n1", "drop n2", "drop n3"]
+    run = subprocess.run([CCREPLAY, "replay"], input=text(script), capture_output=True, check=True)
+    transcript = run.stdout.decode().splitlines()
+    transcript.insert(len(transcript) - 1, f"- free #{natives}")
+    for name, lines in (("script", script), ("free", transcript)):
+        with open(f"{folder}/{name}", "wb") as file:
+            file.write(text(lines))
+    of_check = counted(folder, [CCREPLAY, "check", str(len(text(script)))], 1, text(script) + text(transcript))
+    of_places = counted(folder, [CCCHECK, f"{folder}/script", f"{folder}/free"], 1)
+    both = len(script) + len(transcript)
+    print(f"| {len(script):,} | {of_check / both:,.0f} | {of_places / both:,.0f} | {of_places / of_check:.2f} |", flush=True)
+
+
 def main():
     counts = sorted({int(it) for it in sys.argv[1:]}) or [4000, 16000, 64000, 128000]
-    print("| lines of script | of transcript | check | cccheck, lawful | wrong in the middle | wrong at the end | most by check |")
-    print("|---:|---:|---:|---:|---:|---:|---:|")
+    must_be_there(CCCHECK, CCREPLAY)
     with tempfile.TemporaryDirectory(prefix="places-") as folder:
+        print("| lines of script | of transcript | check | cccheck, lawful | wrong in the middle | wrong at the end | most by check |")
+        print("|---:|---:|---:|---:|---:|---:|---:|")
         for count in counts:
             row(folder, count)
+        print("\n| lines of script of a chain | check | cccheck | by check |\n|---:|---:|---:|---:|")
+        for count in counts:
+            chain_row(folder, count)
 
 
 if __name__ == "__main__":

@@ -1,9 +1,9 @@
 #!/usr/bin/env python3
 """Makes one change in each of many lawful transcripts, and tests where `cccheck` says that they part.
 
-    bench/peers/changes.py [--count N] [--first SEED] [--lines N]
+    bench/peers/changes.py [--count N] [--first SEED] [--lines N] [PROGRAM [WORD ..]]
 
-A script is one of scripts.py, and `ccreplay replay` answers it. A change drops, doubles, swaps or moves a line, writes another
+A script is one of scripts.py. The program answers it, or `ccreplay replay` if none is named. A change drops, doubles, swaps or moves a line, writes another
 number or another reply, puts an event in, or cuts the text. Of each changed transcript these are tested:
 
 - Where cccheck says `lawful`, `ccreplay check` says so too.
@@ -23,7 +23,7 @@ import subprocess
 import sys
 import tempfile
 
-from judge import ROOT, verdict
+from judge import CCCHECK, ROOT, must_be_there, verdict
 from scripts import made
 
 CCREPLAY = os.environ.get("CCREPLAY", f"{ROOT}/crates/ccreplay/out/ccreplay")
@@ -38,9 +38,9 @@ MADE = {"native", "script", "weakmap", "proxy"}
 LINE = re.compile(r"line ([1-9][0-9]*)\b.*")
 
 
-def replayed(script):
-    """The lines of our transcript of a script."""
-    ran = subprocess.run([CCREPLAY, "replay"], input=script.encode(), capture_output=True, check=True)
+def replayed(script, program=(CCREPLAY, "replay")):
+    """The lines of our transcript of a script, or of another program's."""
+    ran = subprocess.run(program, input=script.encode(), capture_output=True, check=True)
     return ran.stdout.decode().splitlines()
 
 
@@ -194,12 +194,12 @@ def first_difference(lines, new):
     return min(len(lines), len(new)) + 1
 
 
-def fault_of(folder, lines, ours, text):
+def fault_of(folder, lines, transcript, text):
     """Where a changed transcript parts, as a word, and what is wrong with what is said of it, if anything."""
     script = "".join(f"{line}\n" for line in lines)
     said = verdict(folder, script.encode(), text.encode())
     new = text.splitlines()
-    change = first_difference(ours, new)
+    change = first_difference(transcript, new)
     if said == "lawful":
         return "lawful", None if text.endswith("\n") and is_lawful(script, new) else "it says lawful, and check does not"
     if said.startswith("end"):
@@ -232,7 +232,10 @@ def main():
     words.add_argument("--count", type=int, default=2000, help="how many changed transcripts")
     words.add_argument("--first", type=int, default=1, help="the seed of the first")
     words.add_argument("--lines", type=int, default=60, help="how many lines each script has, its end aside")
+    words.add_argument("program", nargs=argparse.REMAINDER, help="ccreplay replay if left out")
     given = words.parse_args()
+    program = given.program or [CCREPLAY, "replay"]
+    must_be_there(CCCHECK, CCREPLAY)
     sums = {kind: dict.fromkeys(["at the change", "behind it", "at the end", "lawful"], 0) for kind in KINDS}
     tested = faults = 0
     seed = given.first
@@ -240,11 +243,11 @@ def main():
         while tested < given.count:
             draw = random.Random(seed)
             lines = made(seed, given.lines)
-            ours = replayed("".join(f"{line}\n" for line in lines))
+            transcript = replayed("".join(f"{line}\n" for line in lines), program)
             kind = KINDS[seed % len(KINDS)]
-            text = changed(draw, kind, ours)
+            text = changed(draw, kind, transcript)
             if text is not None:
-                where, fault = fault_of(folder, lines, ours, text)
+                where, fault = fault_of(folder, lines, transcript, text)
                 tested += 1
                 if fault:
                     faults += 1

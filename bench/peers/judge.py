@@ -21,6 +21,12 @@ CCCHECK = os.environ.get("CCCHECK", f"{ROOT}/crates/cccheck/out/cccheck")
 MOST_SHOWN = 5
 
 
+def must_be_there(*programs):
+    for program in programs:
+        if not os.access(program, os.X_OK):
+            sys.exit(f"there is no program {program}: build it by rt run in its crate, or name one in CCCHECK or CCREPLAY")
+
+
 def verdict(folder, script, transcript):
     """What cccheck says of a transcript."""
     with open(f"{folder}/script", "wb") as file:
@@ -42,6 +48,7 @@ def main():
     given = words.parse_args()
     if not given.program:
         words.error("name a program")
+    must_be_there(CCCHECK)
     sums = dict.fromkeys(["lines", "answered", "refused", "unlinked", "freed"], 0)
     unlawful = 0
     with tempfile.TemporaryDirectory(prefix="judge-") as folder:
