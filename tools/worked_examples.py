@@ -46,7 +46,7 @@ class Example:
         self.output = []
         self.status = 0
         self.verdict = None
-        self.parts = None
+        self.told = None
 
     def is_whole(self):
         """Whether the whole input is read."""
@@ -113,8 +113,8 @@ def add_key(example, key, rest):
         example.output += pieces(rest)
     elif key == 'verdict':
         example.verdict = rest
-    elif key == 'parts':
-        example.parts = rest
+    elif key == 'told':
+        example.told = rest
     else:
         raise TableError(f'unknown word {key}')
 
@@ -126,8 +126,8 @@ def check_example(example, has_verdicts):
         raise TableError(f'{example.name} ends with status {example.status}, which no theorem says')
     if has_verdicts != (example.verdict in OUTCOMES):
         raise TableError(f'{example.name} has the verdict {example.verdict}')
-    if (example.verdict == 'unlawful') != (example.parts is not None):
-        raise TableError(f'{example.name} parts at {example.parts}')
+    if (example.verdict == 'unlawful') != (example.told is not None):
+        raise TableError(f'{example.name} is told {example.told}')
 
 
 def read_table(path, has_verdicts=False):
@@ -349,11 +349,9 @@ def files_of_tests(examples):
     return made
 
 
-def parting(example):
-    """Where the transcript parts from every lawful one."""
-    if example.parts is None:
-        return 'Parting::Lawful'
-    return 'Parting::End' if example.parts == 'end' else f'Parting::Line({int(example.parts)})'
+def told(example):
+    """What is said of the transcript: where it parts from every lawful one, and why."""
+    return 'lawful' if example.told is None else example.told
 
 
 def verdict_case(example):
@@ -367,18 +365,18 @@ def verdict_case(example):
         script: {byte_string(example.input)},
         transcript: {byte_string(example.output)},
         verdict: Verdict::{OUTCOMES[example.verdict]},
-        parting: {parting(example)},
+        told: b"{told(example)}\\n",
     }},
 """
 
 
 def file_of_verdicts(cases):
-    return f"""//! Some transcripts, whether they are lawful, and where they are not.
+    return f"""//! Some transcripts, whether they are lawful, and else where they are not, and why.
 //!
 //! Made by tools/worked_examples.py from examples/verdicts.txt.
 
 use crate::example::{{Example, are_judged}};
-use cc_check::{{Parting, Verdict}};
+use cc_check::Verdict;
 
 const EXAMPLES: [Example; {len(cases)}] = [
 {''.join(cases)}];

@@ -1,11 +1,12 @@
 -- WHETHER THE NEXT ANSWER CAN BE GIVEN, told by what is asked next and by the row.
-use Rattle.std.proofs.Common.{◌≡◌, true, false, List, [], ◌∷◌, refl}
+use Rattle.std.proofs.Common.{◌≡◌, Bool, true, false, List, [], ◌∷◌, refl, subst}
 use Rattle.std.specs.Prelude.{◌↔◌}
 use Rattle.std.proofs.lemmas.Bool.{false≢true, true≢false}
 use Rattle.cc_names.specs.declared.name.Name.{Name}
 use Rattle.cc_model.specs.declared.command.Command.TheVariants.{Nothing, Why, Census}
 use Rattle.cc_model.specs.Asks.{Ask, long, bad, taken}
 use Rattle.cc_model.specs.Graph.{Graph}
+use Rattle.cc_model.specs.Lawful.{state_of}
 use Rattle.cc_model.specs.Quiet.{CensusIsQuiet}
 use Rattle.cc_verdict.specs.Following.{Place, place}
 use Rattle.cc_verdict.specs.GoingOn.{CanAnswer}
@@ -45,3 +46,25 @@ row-can g names NothingYet asks n = every-can (place g names (row_meant NothingY
 row-can g names AfterGc asks n = every-can (place g names (row_meant AfterGc)) asks (λ ask. tt)
 row-can g names AfterCollect asks n = every-can (place g names (row_meant AfterCollect)) asks (λ ask. tt)
 row-can g names AfterAll asks n = absurd (n refl)
+
+-- what is asked next is quiet where it can be answered
+pub can-next : (p : Place) (asks left : List Ask) (ask : Ask) → from_next asks ≡ ask ∷ left → CanAnswer p asks → CensusIsQuiet p.row p.state ask
+can-next p [] left ask e can = absurd (cc)
+can-next p (taken Nothing ∷ asks) left ask e can = can-next p asks left ask e can
+can-next p (a ∷ asks) left ask e can = subst (CensusIsQuiet p.row p.state) (let same : a ≡ ask = cc in same) can
+
+-- where nothing can be answered, all of the row was asked last, and a census is asked next that is not quiet
+pub record IsStuck (g : Graph) (names : List Name) (row : Row) (asks : List Ask) : Type 0 where
+  pub over : row ≡ AfterAll
+  pub census : begins_with_census (from_next asks) ≡ true
+  pub unquiet : ¬ (CensusIsQuiet (row_meant AfterAll) (state_of g names) (taken Census))
+
+pub stuck : (g : Graph) (names : List Name) (row : Row) (asks : List Ask) → ¬ (CanAnswer (place g names (row_meant row)) asks) → IsStuck g names row asks
+stuck g names NothingYet asks n = absurd (n (row-can g names NothingYet asks (λ e. cc)))
+stuck g names AfterGc asks n = absurd (n (row-can g names AfterGc asks (λ e. cc)))
+stuck g names AfterCollect asks n = absurd (n (row-can g names AfterCollect asks (λ e. cc)))
+stuck g names AfterAll asks n = go (begins_with_census (from_next asks)) refl
+  where
+    go : (b : Bool) → begins_with_census (from_next asks) ≡ b → IsStuck g names AfterAll asks
+    go false e = absurd (n (no_census-can (place g names (row_meant AfterAll)) asks e))
+    go true e = record { over = refl; census = e; unquiet = λ q. n ((census-can (place g names (row_meant AfterAll)) asks e).1 q) }

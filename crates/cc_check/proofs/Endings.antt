@@ -10,11 +10,9 @@ use Rattle.cc_reader.specs.Pending.{Pending, nothing_read}
 use Rattle.cc_reader.specs.Given.{HasGiven, AreAllGiven, IsBroken, IsOver}
 use Rattle.cc_reader.specs.HasRead.{HasRead, ReadsBytes, ReadsOn, ReadsToEnd}
 use Rattle.cc_reader.proofs.Given.{HasGiven-none, HasRead-none}
-use Rattle.cc_verdict.specs.Verdicts.{IsLawfulTranscript}
 use Rattle.cc_check.specs.declared.trial.Trial.{Trial}
-use Rattle.cc_check.specs.Checked.{Ends, ReadsWhole, IsFoundLawful, IsFoundUnlawful, IsOverLimit}
-use Rattle.cc_check.specs.Parted.{IsEarly, IsFoundEarly, IsFoundParted, PartsAt}
-use Rattle.cc_check.specs.Tried.{AreTried, GoesOnTrying, IsTried, IsWithin, moment}
+use Rattle.cc_check.specs.Checked.{Ends, ReadsWhole, IsOverLimit}
+use Rattle.cc_check.specs.Tried.{AreAllTried, AreTried, GoesOnTrying, IsTried, IsWithin, moment}
 
 -- NO MORE IS TAKEN THAN MAY BE
 pub given-within : (start now : Option (List ℕ)) (p : Pending) (lines : List (List ℕ)) → HasGiven start now p lines → IsWithin p
@@ -63,46 +61,15 @@ module _ (limits : Allowance) (script : List ℕ) (left now : Option (List ℕ))
     reads = subst (ReadsToEnd r₀ r₁) (sym h.counted) (read.at_end h.ended);
   }
 
-  pub found-lawful : GoesOnTrying AreAllGiven (moment left p t) (moment now q u) →
-      ((text : List ℕ) → length text ≡ q.taken → IsTried limits script u (lines_of text) → IsLawfulTranscript limits script text) → IsFoundLawful limits script e
-  found-lawful goes decides =
+  -- its lines were tried, all of them
+  pub all-tried : GoesOnTrying AreAllGiven (moment left p t) (moment now q u) → (taken : ℕ) → taken ≡ q.taken → AreAllTried limits script e u taken
+  all-tried goes taken is =
       let l = goes limits script left first in
       record {
         given = l.given.given;
         whole = whole l.lines l.given;
-        lawful = decides l.given.given l.given.counted (subst (IsTried limits script u) l.given.lines_are l.tried);
-      }
-
-  pub found-unlawful : GoesOnTrying AreAllGiven (moment left p t) (moment now q u) →
-      ((text : List ℕ) → length text ≡ q.taken → IsTried limits script u (lines_of text) → ¬ (IsLawfulTranscript limits script text)) → IsFoundUnlawful limits script e
-  found-unlawful goes decides =
-      let l = goes limits script left first in
-      record {
-        given = l.given.given;
-        whole = whole l.lines l.given;
-        unlawful = decides l.given.given l.given.counted (subst (IsTried limits script u) l.given.lines_are l.tried);
-      }
-
-  -- the bytes part at a line
-  pub found-parted : GoesOnTrying AreAllGiven (moment left p t) (moment now q u) → (number : ℕ) →
-      ((lines : List (List ℕ)) → IsTried limits script u lines → PartsAt limits script lines number) → IsFoundParted limits script e number
-  found-parted goes number parts =
-      let l = goes limits script left first in
-      record {
-        given = l.given.given;
-        whole = whole l.lines l.given;
-        parts = parts (lines_of l.given.given) (subst (IsTried limits script u) l.given.lines_are l.tried);
-      }
-
-  -- they end too early
-  pub found-early : GoesOnTrying AreAllGiven (moment left p t) (moment now q u) →
-      ((text : List ℕ) → length text ≡ q.taken → IsTried limits script u (lines_of text) → IsEarly limits script text) → IsFoundEarly limits script e
-  found-early goes early =
-      let l = goes limits script left first in
-      record {
-        given = l.given.given;
-        whole = whole l.lines l.given;
-        early = early l.given.given l.given.counted (subst (IsTried limits script u) l.given.lines_are l.tried);
+        counted = l.given.counted ∙ sym is;
+        tried = subst (IsTried limits script u) l.given.lines_are l.tried;
       }
 
   -- the limit was passed

@@ -36,7 +36,7 @@ census-there names x m = go (is_native x) refl
     go true e = Among-left x (filter is_native names) (filter is_script names) (Among-filter is_native x names m e)
     go false e = Among-right x (filter is_native names) (filter is_script names) (Among-filter is_script x names m (ap not e))
 
-census-listed : (names : List Name) (x : Name) → Among x (census_order names) → Among x names
+pub census-listed : (names : List Name) (x : Name) → Among x (census_order names) → Among x names
 census-listed names x m = ⊎_elim
     (λ a. Among-filtered is_native x names a)
     (λ b. Among-filtered is_script x names b)

@@ -11,3 +11,6 @@ pub mod Passing
 pub mod Over
 pub mod Ahead
 pub mod Ranges
+pub mod Causing
+pub mod Read
+pub mod ReadOn

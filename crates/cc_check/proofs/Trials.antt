@@ -1,5 +1,5 @@
 -- TRIALS, line by line and at the end.
-use Rattle.std.proofs.Common.{◌≡◌, ◌≢◌, ◌↔◌, ℕ, ◌+◌, ◌-◌, ◌<◌, true, false, List, [], ◌∷◌, ◌++◌, length, take, refl, sym, ap, ◌∙◌, subst, append_assoc, length-append, arith}
+use Rattle.std.proofs.Common.{◌≡◌, ◌≢◌, ◌↔◌, ℕ, ◌+◌, ◌-◌, ◌<◌, true, false, List, [], ◌∷◌, ◌++◌, length, take, drop, Option, Some, None, is_none, slice_get, zero, suc, refl, sym, ap, ◌∙◌, subst, append_assoc, length-append, arith}
 use Rattle.std.proofs.lemmas.Bool.{false≢true, true≢false}
 use Rattle.std.proofs.lemmas.List.{take-append-le, take_all}
 use Rattle.std.proofs.lemmas.List.Sums.{sum_by-append}
@@ -17,13 +17,17 @@ use Rattle.cc_verdict.specs.Hearing.{Hearing, Hears, ends, comes}
 use Rattle.cc_verdict.specs.Parting.{HasParted, IsLawfulSoFar}
 use Rattle.cc_verdict.specs.Positions.{Position, GoesOn, reciting, within}
 use Rattle.cc_verdict.specs.Verdicts.{IsLawfulTranscript, length_of_lines}
+use Rattle.cc_check.specs.declared.cause.Cause.{Cause}
+use Rattle.cc_check.specs.declared.parting.Blame.{Blame}
 use Rattle.cc_check.specs.declared.heard.Heard.{Heard}
 use Rattle.cc_check.specs.declared.heard.Heard.TheVariants.{Text, Long}
 use Rattle.cc_check.specs.declared.trial.Trial.{Trial}
 use Rattle.cc_check.specs.Standing.{IsHeard, asks_left, position_of}
 use Rattle.cc_check.specs.declared.row.Row.TheVariants.{NothingYet}
-use Rattle.cc_check.specs.Parted.{IsEarly, PartsAt}
-use Rattle.cc_check.specs.Tried.{AnswersScript, IsTried, Tries, bytes_of}
+use Rattle.cc_check.specs.Causes.{IsBlamed, IsCause, IsDeadEnd, IsPart, at_line, behind_line, part_behind, part_here}
+use Rattle.cc_check.specs.Judging.{GoesAlong, HasAnswer}
+use Rattle.cc_check.specs.Parted.{IsEarly, PartsFor}
+use Rattle.cc_check.specs.Tried.{AnswersScript, IsBlamedIn, IsTried, Tries, bytes_of}
 use Rattle.cc_check.proofs.Ahead.{row-can}
 use Rattle.cc_check.proofs.Ranges.{left-in_range}
 
@@ -100,11 +104,51 @@ follow-answers limits script lines f = record { rest = lines; lines_are = refl; 
 more-length : (lines : List (List ℕ)) (line : List ℕ) → length (lines ++ line ∷ []) ≡ length lines + 1
 more-length lines line = length-append lines (line ∷ [])
 
+-- Causes
+
+-- what stands before the last line, and the last line
+get-front : {X : Type 0} (xs : List X) (y : X) (n : ℕ) → n < length xs → slice_get (xs ++ y ∷ []) n ≡ slice_get xs n
+get-front [] y n l = absurd (omega arith)
+get-front (x ∷ xs) y zero l = refl
+get-front (x ∷ xs) y (suc n) l = get-front xs y n (omega arith)
+
+get-last : {X : Type 0} (xs : List X) (y : X) → slice_get (xs ++ y ∷ []) (length xs) ≡ Some y
+get-last [] y = refl
+get-last (x ∷ xs) y = get-last xs y
+
+-- where there is no cause, none is told
+none-blamed : (limits : Allowance) (script : List ℕ) (lines : List (List ℕ)) (n asked : ℕ) (o : Option Cause) → is_none o ≡ true → IsBlamedIn limits script lines n asked o
+none-blamed limits script lines n asked None e = tt
+none-blamed limits script lines n asked (Some c) e = absurd (false≢true e)
+
+-- a line more leaves the cause
+blamed-more : (limits : Allowance) (script : List ℕ) (lines : List (List ℕ)) (line : List ℕ) (n asked : ℕ) (o : Option Cause) → n < length lines →
+    IsBlamedIn limits script lines n asked o → IsBlamedIn limits script (lines ++ line ∷ []) n asked o
+blamed-more limits script lines line n asked None l b = tt
+blamed-more limits script lines line n asked (Some c) l b = λ other at.
+    subst (λ ls. IsBlamed limits script ls other asked c) (sym (take-append-le n lines (line ∷ []) (omega arith)))
+    (b other (sym (get-front lines line n l) ∙ at))
+
+-- a cause that is told where the check stands is one of the whole transcript
+blamed-there : (limits : Allowance) (script : List ℕ) (lines : List (List ℕ)) (line : List ℕ) (p : Position) (asks left : List Ask) (heard : Heard) (asked : ℕ) (c : Cause) →
+    ((rest : List (List ℕ)) → AnswersScript limits script (lines ++ rest) ↔ GoesOn p asks rest) → IsHeard heard line → left ≡ drop asked (asks_of script) → HasAnswer (asks_of script) asked →
+    IsPart p asks heard left c → IsBlamed limits script lines line asked c
+blamed-there limits script lines line p asks left heard asked c lawful hd is last (part_here q stands cause) = at_line q last
+    (λ l rest other. subst (λ left_asks. AnswersScript limits script (lines ++ (l ∷ rest)) ↔ GoesOn q left_asks (l ∷ rest)) is
+    ((λ a. (stands l rest other).0 ((lawful (l ∷ rest)).0 a)), (λ g. (lawful (l ∷ rest)).1 ((stands l rest other).1 g))))
+    (subst (λ left_asks. IsCause c q left_asks line) is (cause line hd))
+blamed-there limits script lines line p asks left heard asked c lawful hd is last (part_behind q goes dead) = behind_line q last
+    (λ rest. subst (λ left_asks. AnswersScript limits script ((lines ++ line ∷ []) ++ rest) ↔ GoesOn q left_asks rest) is (
+      (λ a. (goes line rest hd).0 ((lawful (line ∷ rest)).0 (joined limits script lines line rest a))),
+      (λ g. parted limits script lines line rest ((lawful (line ∷ rest)).1 ((goes line rest hd).1 g))),
+    ))
+    (subst (λ left_asks. IsDeadEnd c q left_asks) is dead)
+
 -- NOTHING WAS TRIED YET
-pub tried-new : (limits : Allowance) (script : List ℕ) (t : Trial) → t.is_lawful ≡ true → t.lines ≡ 0 → t.bytes ≡ 0 → position_of t.judge ≡ reciting [] (first_place limits) →
-    asks_left t.script ≡ asks_of script → ListsAll (empty_graph limits) [] →
+pub tried-new : (limits : Allowance) (script : List ℕ) (t : Trial) → t.is_lawful ≡ true → t.cause ≡ None → t.lines ≡ 0 → t.bytes ≡ 0 →
+    position_of t.judge ≡ reciting [] (first_place limits) → asks_left t.script ≡ asks_of script → t.script.asked ≡ 0 → ListsAll (empty_graph limits) [] →
     ((p : Position) (asks : List Ask) → AreInRange asks → ListsAllAt p → CanGoOn p asks → (lines : List (List ℕ)) × GoesOn p asks lines) → IsSoFarLaw → IsTried limits script t []
-tried-new limits script t is none bytes stands asks all goes law = record {
+tried-new limits script t is uncaused none bytes stands asks unasked all goes law = record {
   lawful = λ e rest. subst (λ (p : Position). AnswersScript limits script rest ↔ GoesOn p (asks_left t.script) rest) (sym stands)
       (subst (λ (a : List Ask). AnswersScript limits script rest ↔ GoesOn (reciting [] (first_place limits)) a rest) (sym asks) ((λ a. a), (λ a. a)));
   counted = λ e rest a. bytes;
@@ -112,6 +156,9 @@ tried-new limits script t is none bytes stands asks all goes law = record {
   so_far = subst (λ n. IsLawfulSoFar limits script (take n [])) (sym none) (law limits script [] first.0 (answers-follow limits script first.0 first.1));
   all = λ e. none;
   parted = λ e. absurd (true≢false (sym is ∙ e));
+  asked = λ e. record { left = asks ∙ ap (λ n. drop n (asks_of script)) (sym unasked); last = subst (HasAnswer (asks_of script)) (sym unasked) tt };
+  caused = is ∙ sym (ap is_none uncaused);
+  blamed = subst (IsBlamedIn limits script [] t.lines t.script.asked) (sym uncaused) tt;
 }
   where
     first : (lines : List (List ℕ)) × GoesOn (reciting [] (first_place limits)) (asks_of script) lines
@@ -120,10 +167,10 @@ tried-new limits script t is none bytes stands asks all goes law = record {
 
 -- A LINE THAT WAS JUDGED, and may come
 pub tries-lawful : (t u : Trial) (heard : Heard) → t.is_lawful ≡ true → u.is_lawful ≡ true → u.bytes ≡ t.bytes + bytes_of heard → u.lines ≡ t.lines + 1 →
-    ((line : List ℕ) (rest : List (List ℕ)) → IsHeard heard line →
+    u.cause ≡ t.cause → GoesAlong t.script u.script → ((line : List ℕ) (rest : List (List ℕ)) → IsHeard heard line →
     GoesOn (position_of t.judge) (asks_left t.script) (line ∷ rest) ↔ GoesOn (position_of u.judge) (asks_left u.script) rest) →
     (lines : List (List ℕ)) × GoesOn (position_of u.judge) (asks_left u.script) lines → IsSoFarLaw → Tries t u heard
-tries-lawful t u heard was now bytes count goes on law = λ limits script lines line is tried.
+tries-lawful t u heard was now bytes count same along goes on law = λ limits script lines line is tried.
     let back = λ (rest : List (List ℕ)) (g : GoesOn (position_of u.judge) (asks_left u.script) rest). parted limits script lines line rest ((tried.lawful was (line ∷ rest)).1 ((goes line rest is).1 g)) in
     let whole : take u.lines (lines ++ line ∷ []) ≡ lines ++ line ∷ [] = take_all u.lines (lines ++ line ∷ []) (omega (arith, count, tried.all was, more-length lines line)) in
     record {
@@ -136,12 +183,16 @@ tries-lawful t u heard was now bytes count goes on law = λ limits script lines 
       so_far = subst (IsLawfulSoFar limits script) (sym whole) (law limits script (lines ++ line ∷ []) on.0 (answers-follow limits script ((lines ++ line ∷ []) ++ on.0) (back on.0 on.1)));
       all = λ e. omega (arith, count, tried.all was, more-length lines line);
       parted = λ e. absurd (true≢false (sym now ∙ e));
+      asked = λ e. along (asks_of script) (tried.asked was);
+      caused = now ∙ (sym was ∙ (tried.caused ∙ ap is_none (sym same)));
+      blamed = none-blamed limits script (lines ++ line ∷ []) u.lines u.script.asked u.cause (ap is_none same ∙ (sym tried.caused ∙ was));
     }
 
 -- one that may not
-pub tries-parted : (t u : Trial) (heard : Heard) → t.is_lawful ≡ true → u.is_lawful ≡ false → u.lines ≡ t.lines →
+pub tries-parted : (t u : Trial) (heard : Heard) (c : Cause) → t.is_lawful ≡ true → u.is_lawful ≡ false → u.lines ≡ t.lines → u.cause ≡ Some c →
+    GoesAlong t.script u.script → IsPart (position_of t.judge) (asks_left t.script) heard (asks_left u.script) c →
     ((line : List ℕ) (rest : List (List ℕ)) → IsHeard heard line → ¬ (GoesOn (position_of t.judge) (asks_left t.script) (line ∷ rest))) → HasPartedLaw → Tries t u heard
-tries-parted t u heard was now count stops law = λ limits script lines line is tried.
+tries-parted t u heard c was now count cause along part stops law = λ limits script lines line is tried.
     let front : take u.lines (lines ++ line ∷ []) ≡ take t.lines lines = ap (λ n. take n (lines ++ line ∷ [])) count ∙ take-append-le t.lines lines (line ∷ []) (omega (arith, tried.all was)) in
     let whole : take (u.lines + 1) (lines ++ line ∷ []) ≡ lines ++ line ∷ [] = take_all (u.lines + 1) (lines ++ line ∷ []) (omega (arith, count, tried.all was, more-length lines line)) in
     let none = λ (rest : List (List ℕ)) (a : AnswersScript limits script ((lines ++ line ∷ []) ++ rest)). stops line rest is ((tried.lawful was (line ∷ rest)).0 (joined limits script lines line rest a)) in
@@ -155,6 +206,17 @@ tries-parted t u heard was now count stops law = λ limits script lines line is 
         omega (arith, count, tried.all was, more-length lines line),
         subst (HasParted limits script) (sym whole) (law limits script (lines ++ line ∷ []) (λ rest f. none rest (follow-answers limits script ((lines ++ line ∷ []) ++ rest) f))),
       );
+      asked = λ e. absurd (false≢true (sym now ∙ e));
+      caused = now ∙ sym (ap is_none cause);
+      blamed = subst (IsBlamedIn limits script (lines ++ line ∷ []) u.lines u.script.asked) (sym cause) (λ l at.
+          let same : line ≡ l = let read : slice_get (lines ++ line ∷ []) (length lines) ≡ Some line = get-last lines line in
+          let here : slice_get (lines ++ line ∷ []) (length lines) ≡ Some l = subst (λ n. slice_get (lines ++ line ∷ []) n ≡ Some l) (count ∙ tried.all was) at in
+          let both : Some line ≡ Some l = sym read ∙ here in cc in
+          let before : take u.lines (lines ++ line ∷ []) ≡ lines = front ∙ take_all t.lines lines (omega (arith, tried.all was)) in
+          subst (λ k. IsBlamed limits script (take u.lines (lines ++ line ∷ [])) k u.script.asked c) same
+          (subst (λ ls. IsBlamed limits script ls line u.script.asked c) (sym before)
+          (blamed-there limits script lines line (position_of t.judge) (asks_left t.script) (asks_left u.script) heard u.script.asked c
+          (tried.lawful was) is (along (asks_of script) (tried.asked was)).left (along (asks_of script) (tried.asked was)).last part)));
     }
 
 -- and one behind that
@@ -171,25 +233,51 @@ tries-after t heard was = λ limits script lines line is tried.
         omega (arith, place.0, more-length lines line),
         subst (HasParted limits script) (sym (take-append-le (t.lines + 1) lines (line ∷ []) (omega (arith, place.0)))) place.1,
       );
+      asked = λ e. absurd (false≢true (sym was ∙ e));
+      caused = tried.caused;
+      blamed = blamed-more limits script lines line t.lines t.script.asked t.cause place.0 tried.blamed;
     }
 
 -- Where the transcript parts
 
-pub parts-there : (limits : Allowance) (script : List ℕ) (t : Trial) (lines : List (List ℕ)) (number : ℕ) → t.is_lawful ≡ false → t.lines + 1 ≡ number → IsTried limits script t lines →
-    PartsAt limits script lines number
-parts-there limits script t lines number was is tried = subst (PartsAt limits script lines) is (record {
-  first = omega arith;
-  within = omega (arith, (tried.parted was).0);
-  parts_here = (tried.parted was).1;
-  lawful_until = subst (λ n. IsLawfulSoFar limits script (take n lines)) before tried.so_far;
+-- a cause says that the transcript has parted
+caused-parted : (limits : Allowance) (script : List ℕ) (t : Trial) (lines : List (List ℕ)) (c : Cause) → t.cause ≡ Some c → IsTried limits script t lines → t.is_lawful ≡ false
+caused-parted limits script t lines c e tried = tried.caused ∙ ap is_none e
+
+uncaused-lawful : (limits : Allowance) (script : List ℕ) (t : Trial) (lines : List (List ℕ)) → t.cause ≡ None → IsTried limits script t lines → t.is_lawful ≡ true
+uncaused-lawful limits script t lines e tried = tried.caused ∙ ap is_none e
+
+-- the line that is blamed
+abbrev pub blame_of : Trial → Cause → Blame
+blame_of t c = record { line = t.lines + 1; asked = t.script.asked; cause = c }
+
+pub parts-there : (limits : Allowance) (script : List ℕ) (t : Trial) (lines : List (List ℕ)) (b : Blame) (c : Cause) → t.cause ≡ Some c → blame_of t c ≡ b →
+    IsTried limits script t lines → PartsFor limits script lines b
+parts-there limits script t lines b c e is tried = subst (PartsFor limits script lines) is (record {
+  parts = record {
+    first = omega arith;
+    within = omega (arith, (tried.parted was).0);
+    parts_here = (tried.parted was).1;
+    lawful_until = subst (λ n. IsLawfulSoFar limits script (take n lines)) before tried.so_far;
+  };
+  blamed = subst (λ n. (line : List ℕ) → slice_get lines n ≡ Some line → IsBlamed limits script (take n lines) line t.script.asked c) before
+      (subst (IsBlamedIn limits script lines t.lines t.script.asked) e tried.blamed);
 })
   where
+    was : t.is_lawful ≡ false
+    was = caused-parted limits script t lines c e tried
+
     before : t.lines ≡ (t.lines + 1) - 1
     before = omega arith
 
-pub early-there : (limits : Allowance) (script : List ℕ) (t : Trial) (text : List ℕ) → t.is_lawful ≡ true → ¬ (IsLawfulTranscript limits script text) → IsTried limits script t (lines_of text) →
+-- a trial without a cause is as it was after its cause is taken
+pub taken-same : (limits : Allowance) (script : List ℕ) (t : Trial) (o : Option Cause) (lines : List (List ℕ)) → t.cause ≡ None → o ≡ None → IsTried limits script t lines →
+    IsTried limits script (record t { cause = o }) lines
+taken-same limits script t o lines e f tried = subst (λ (k : Option Cause). IsTried limits script (record t { cause = k }) lines) (e ∙ sym f) tried
+
+pub early-there : (limits : Allowance) (script : List ℕ) (t : Trial) (text : List ℕ) → t.cause ≡ None → ¬ (IsLawfulTranscript limits script text) → IsTried limits script t (lines_of text) →
     IsEarly limits script text
-early-there limits script t text was none tried = record {
-  so_far = subst (IsLawfulSoFar limits script) (take_all t.lines (lines_of text) (omega (arith, tried.all was))) tried.so_far;
+early-there limits script t text e none tried = record {
+  so_far = subst (IsLawfulSoFar limits script) (take_all t.lines (lines_of text) (omega (arith, tried.all (uncaused-lawful limits script t (lines_of text) e tried)))) tried.so_far;
   unlawful = none;
 }

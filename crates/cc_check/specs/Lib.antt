@@ -1,6 +1,7 @@
 pub mod Standing
 pub mod Judging
-pub mod Tried
+pub mod Causes
 pub mod Stops
 pub mod Checked
+pub mod Tried
 pub mod Parted

@@ -1,9 +1,11 @@
--- WHERE A TRANSCRIPT PARTS from every lawful one, told of its lines and of the bytes that were read.
-use Rattle.std.specs.Prelude.{ℕ, ◌-◌, ◌≤◌, List, length, take}
+-- WHERE A TRANSCRIPT PARTS from every lawful one, and why, told of its lines and of the bytes that were read.
+use Rattle.std.specs.Prelude.{◌≡◌, ℕ, ◌-◌, ◌≤◌, List, length, take, Some, slice_get}
 use Rattle.cc_names.specs.Allowance.{Allowance}
 use Rattle.cc_model.specs.Lines.{lines_of}
 use Rattle.cc_verdict.specs.Parting.{HasParted, IsLawfulSoFar}
 use Rattle.cc_verdict.specs.Verdicts.{IsLawfulTranscript}
+use Rattle.cc_check.specs.declared.parting.Blame.{Blame}
+use Rattle.cc_check.specs.Causes.{IsBlamed}
 use Rattle.cc_check.specs.Checked.{Ends, ReadsWhole}
 
 -- THE LINE WITH THIS NUMBER, counted from one, is the first with which no lawful transcript of the script begins
@@ -13,16 +15,21 @@ pub record PartsAt (limits : Allowance) (script : List ℕ) (lines : List (List 
   pub parts_here : HasParted limits script (take number lines)
   pub lawful_until : IsLawfulSoFar limits script (take (number - 1) lines)
 
+-- the transcript parts at the line that is blamed, and for that cause
+pub record PartsFor (limits : Allowance) (script : List ℕ) (lines : List (List ℕ)) (b : Blame) : Type 0 where
+  pub parts : PartsAt limits script lines b.line
+  pub blamed : (line : List ℕ) → slice_get lines (b.line - 1) ≡ Some line → IsBlamed limits script (take (b.line - 1) lines) line b.asked b.cause
+
 -- the text ends too early: a lawful transcript begins with its lines, and it is none
 pub record IsEarly (limits : Allowance) (script : List ℕ) (text : List ℕ) : Type 0 where
   pub so_far : IsLawfulSoFar limits script (lines_of text)
   pub unlawful : ¬ (IsLawfulTranscript limits script text)
 
 -- the bytes to the end of the source part at a line
-pub record IsFoundParted (limits : Allowance) (script : List ℕ) (e : Ends) (number : ℕ) : Type 0 where
+pub record IsFoundParted (limits : Allowance) (script : List ℕ) (e : Ends) (b : Blame) : Type 0 where
   pub given : List ℕ
   pub whole : ReadsWhole limits.bytes script e given
-  pub parts : PartsAt limits script (lines_of given) number
+  pub parts : PartsFor limits script (lines_of given) b
 
 -- they end too early
 pub record IsFoundEarly (limits : Allowance) (script : List ℕ) (e : Ends) : Type 0 where

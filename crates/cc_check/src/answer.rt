@@ -14,6 +14,8 @@ ghost use Rattle.cc_verdict.specs.Hearing.{EndsAbandoned, EndsAsTheGraph, MayEnd
 ghost use Rattle.cc_verdict.specs.GoingOn.{CanGoOn};
 ghost use Rattle.cc_verdict.specs.Positions.{within};
 ghost use Rattle.cc_check.specs.declared.row.Row.{Row};
+ghost use Rattle.cc_check.specs.Causes.{may_have};
+ghost use Rattle.cc_check.specs.Judging.{reply_due};
 ghost use Rattle.cc_check.specs.Standing.{IsHeard, hearing_of, told_of};
 
 use crate::commands::{is_gc, may_free, may_unlink, runs_allowed, runs_units};
@@ -117,8 +119,30 @@ impl Answer {
         !(is_refused(self.reply) && !runs_units(self.command)) || !self.any
     }
 
+    /// Whether the command may have an event at all.
+    pub(crate) fn may_have(self, event: Event) -> bool
+        ensures { result ≡ may_have self.command event }
+    {
+        match event {
+            Event::Freed(name) => may_free(self.command, name),
+            Event::Unlinked(name) => may_unlink(self.command, name),
+            Event::Abandoned => is_gc(self.command) || runs_units(self.command),
+        }
+    }
+
+    /// The one reply that can end it: want of memory where it was abandoned, and else that of the graph.
+    pub(crate) fn reply_due(self) -> Reply
+        ensures { (g : Graph) (names : List Name) (row : Row) → result ≡ reply_due (hearing_of self g names row) }
+    {
+        if runs_units(self.command) && self.abandoned {
+            Reply::Refused(Refusal::NoMemory)
+        } else {
+            self.reply
+        }
+    }
+
     /// Whether anything may follow what was told: nothing follows an abandonment, but under a script collection.
-    fn may_go_on(self) -> bool
+    pub(crate) fn may_go_on(self) -> bool
         ensures { (names : List Name) → result ≡ may_go_on self.command (told_of self names) }
     {
         is_gc(self.command) || !self.abandoned
@@ -135,7 +159,7 @@ impl Answer {
     }
 
     /// Whether the command allows as many rising runs as there are with a native that is unlinked next.
-    fn has_run_for(self, name: Name) -> bool
+    pub(crate) fn has_run_for(self, name: Name) -> bool
         ensures { (names : List Name) → result ≡ nat_le (runs_with (told_of self names) name) (runs_allowed self.command) }
     {
         let allowed = runs_allowed(self.command);

@@ -1,22 +1,27 @@
 //! What is asked next.
 ghost use Rattle.std.specs.Prelude.{◌≡◌, ◌∷◌, [], false, IfNone, IfSome, IsTrue};
 ghost use Rattle.cc_laws_run.specs.Running.{ask_in_range};
-ghost use Rattle.cc_check.specs.Judging.{asks_nothing, begins_with_census, from_next, is_census};
+ghost use Rattle.cc_check.specs.Judging.{asks_nothing, begins_with_census, from_next, is_census, GoesAlong};
 ghost use Rattle.cc_check.specs.Standing.{ask_meant, asks_left};
 
 use crate::asked::Asked;
 use crate::script::Script;
 use cc_model::Command;
 
-/// What is asked next that has an answer: blank lines and comments are passed over. None where nothing is asked any more.
+/// What is asked next that has an answer: blank lines and comments are passed over. None where nothing is asked any more; the script is
+/// not read on then.
 pub(crate) fn next_asked(script: &mut Script<'_>) -> Option<Asked>
     ensures some { IfSome result (λ asked. from_next (asks_left script.old) ≡ ask_meant asked ∷ asks_left script.new) }
     ensures answered { IfSome result (λ asked. asks_nothing (ask_meant asked) ≡ false) }
     ensures in_range { IfSome result (λ asked. IsTrue (ask_in_range (ask_meant asked))) }
     ensures none { IfNone result (from_next (asks_left script.old) ≡ []) }
+    ensures stays { IfNone result (script.new ≡ script.old) }
+    ensures along { GoesAlong script.old script.new }
 {
-    while let Some(asked) = script.next() {
+    let mut ahead = *script;
+    while let Some(asked) = ahead.next() {
         if !asks_nothing(asked) {
+            *script = ahead;
             return Some(asked);
         }
     }

@@ -10,8 +10,8 @@ ghost use Rattle.cc_model.specs.Asks.{taken};
 ghost use Rattle.cc_model.specs.Checks.{refusal_of};
 ghost use Rattle.cc_model.specs.Derivations.{done_or_nothing};
 ghost use Rattle.cc_model.specs.Graph.{objects_of};
-ghost use Rattle.cc_model.specs.Lawful.{may_want_memory, runs_units};
-ghost use Rattle.cc_model.specs.Quiet.{row_after};
+ghost use Rattle.cc_model.specs.Lawful.{may_want_memory, runs_units, state_of};
+ghost use Rattle.cc_model.specs.Quiet.{CensusIsQuiet, row_after};
 ghost use Rattle.cc_model.specs.Ranges.{in_range};
 ghost use Rattle.cc_model.specs.Texts.{text_of_reply};
 ghost use Rattle.cc_verdict.specs.Following.{place_after};
@@ -31,7 +31,7 @@ use cc_model::{Command, Item, Refusal, Reply};
 use cc_names::{Name, NoMemory, narrow_key};
 use cc_verdict::{
     all_that_is_reached_is_listed, answers_are_heard, answers_are_recited_line_by_line,
-    exact_answers_are_recited, reasons_are_recited,
+    exact_answers_are_recited, lines_tell_items_apart, reasons_are_recited,
 };
 
 impl Judge {
@@ -40,11 +40,12 @@ impl Judge {
         requires between { IsBetween self.old }
         requires in_range { IsTrue (ask_in_range (ask_meant asked)) }
         requires answered { asks_nothing (ask_meant asked) ≡ false }
+        requires quiet { CensusIsQuiet (row_meant self.old.row) (state_of self.old.graph self.old.listed) (ask_meant asked) }
         ensures { IfOk result (IsJudged heard.entry (MayAnswer (place_of self.old) (ask_meant asked)) self.new) }
     {
         match asked {
-            Asked::Long => Ok(self.refuse(asked, Refusal::Long, heard)),
-            Asked::Bad => Ok(self.refuse(asked, Refusal::Line, heard)),
+            Asked::Long => self.refuse(asked, Refusal::Long, heard),
+            Asked::Bad => self.refuse(asked, Refusal::Line, heard),
             Asked::Taken(Command::Census) => self.begin_census(heard),
             Asked::Taken(Command::Why(name)) => self.begin_reasons(name, heard),
             Asked::Taken(command) => self.begin_command(command, heard),
@@ -52,29 +53,27 @@ impl Judge {
     }
 
     /// Refuses a line that is too long or not in the grammar.
-    fn refuse(&mut self, asked: Asked, refusal: Refusal, heard: Heard<'_>) -> bool
+    fn refuse(&mut self, asked: Asked, refusal: Refusal, heard: Heard<'_>) -> Result<bool, NoMemory>
         requires between { IsBetween self.old }
         requires refused { IsRefusal (ask_meant asked) refusal }
-        ensures { IsJudged heard.entry (MayAnswer (place_of self.old) (ask_meant asked)) self.new result }
+        ensures { IfOk result (IsJudged heard.entry (MayAnswer (place_of self.old) (ask_meant asked)) self.new) }
     {
         exact_answers_are_recited();
-        answers_are_recited_line_by_line();
-        self.hear_reply(asked, Reply::Refused(refusal), heard)
+        let reply = Reply::Refused(refusal);
+        list(&mut self.recital, Vec::new(self.alloc), reply)?;
+        let row = self.row;
+        self.row = row.after(asked, reply);
+        Ok(self.recite(heard))
     }
 
-    /// Begins a census. Where it must list exactly the reached objects and does not, no line may come.
+    /// Begins a census. Where it must list exactly the reached objects, it does.
     fn begin_census(&mut self, heard: Heard<'_>) -> Result<bool, NoMemory>
         requires between { IsBetween self.old }
+        requires quiet { CensusIsQuiet (row_meant self.old.row) (state_of self.old.graph self.old.listed) (taken command.Census) }
         ensures { IfOk result (IsJudged heard.entry (MayAnswer (place_of self.old) (taken command.Census)) self.new) }
     {
         exact_answers_are_recited();
         let names = self.listed.census(self.alloc)?;
-        if !self
-            .known
-            .is_quiet(self.row, &self.graph, &self.listed, names.as_slice())?
-        {
-            return Ok(false);
-        }
         let count = narrow_key(self.listed.len())?;
         list(&mut self.recital, names, Reply::Census(count))?;
         self.row = Row::NothingYet;
@@ -108,23 +107,41 @@ impl Judge {
     {
         answers_are_heard();
         answers_are_recited_line_by_line();
+        lines_tell_items_apart();
         if heard.is(&Item::Reply(Reply::Refused(Refusal::NoMemory))) {
-            return Ok(self.want_memory(command));
+            if self.want_memory(command) {
+                return Ok(true);
+            }
+            self.step(command)?;
+            return Ok(false);
         }
         let answer = self.step(command)?;
         self.hear_within(answer, heard)
     }
 
-    /// Whether want of memory alone may answer a command.
+    /// Answers a command with want of memory alone, where it may be; and else does nothing.
     fn want_memory(&mut self, command: Command) -> bool
         requires between { IsBetween self.old }
-        ensures kept { IsKept self.new }
-        ensures place { position_of self.new ≡ reciting [] (place_after (place_of self.old) (taken command) (replying [] (replies.Refused refusals.NoMemory))) }
+        ensures kept { result ≡ true → IsKept self.new }
+        ensures place { result ≡ true →
+            position_of self.new ≡ reciting [] (place_after (place_of self.old) (taken command) (replying [] (replies.Refused refusals.NoMemory))) }
+        ensures same { result ≡ false → self.new ≡ self.old }
         ensures may { IsTrue result ↔ ((may_want_memory (place_of self.old).state command ≡ true)
             × (refusal_of (objects_of self.old.graph) command ≡ None) × (runs_units command ≡ false)) }
     {
+        if !self.may_want_memory(command) {
+            return false;
+        }
         let row = self.row;
         self.row = row.after(Asked::Taken(command), Reply::Refused(Refusal::NoMemory));
+        true
+    }
+
+    /// Whether want of memory alone may answer a command.
+    fn may_want_memory(&self, command: Command) -> bool
+        ensures { IsTrue result ↔ ((may_want_memory (place_of self.now).state command ≡ true)
+            × (refusal_of (objects_of self.now.graph) command ≡ None) × (runs_units command ≡ false)) }
+    {
         may_want_memory(&self.graph, &self.listed, command)
             && self.graph.refusal(&command).is_none()
             && !runs_units(command)
@@ -167,10 +184,12 @@ impl Judge {
         ensures { IsJudged heard.entry (MayRecite (reverse self.old.recital.items) (place_of self.old)) self.new result }
     {
         answers_are_recited_line_by_line();
-        match self.recital.pop() {
-            Some(item) => heard.is(&item),
-            None => false,
+        let last = self.recital.len() - 1;
+        if !heard.is(&self.recital[last]) {
+            return false;
         }
+        self.recital.truncate(last);
+        true
     }
 }
 

@@ -1,14 +1,15 @@
 //! A whole check.
 
-ghost use Rattle.std.specs.Prelude.{◌≡◌, ◌≢◌, ◌<◌, ◌≤◌, ◌+◌, ◌-◌, ◌*◌, ◌^◌, ◌⊎◌, ℕ, List, length, Some, Ok, Err, OnOk, true, false};
+ghost use Rattle.std.specs.Prelude.{◌≡◌, ◌≢◌, ◌<◌, ◌≤◌, ◌+◌, ◌-◌, ◌*◌, ◌^◌, ◌⊎◌, ℕ, List, length, Some, Ok, Err, IfOk, OnOk, true, false};
 ghost use Rattle.cc_lists.specs.Faults.{Rose};
 ghost use Rattle.cc_verdict.specs.Verdicts.{IsLawfulTranscript};
 ghost use Rattle.cc_reader.specs.Given.{AreAllGiven, HasGiven, IsBroken, IsOver};
 ghost use Rattle.cc_reader.specs.HasRead.{ReadsOn};
 ghost use Rattle.cc_reader.specs.Pending.{nothing_read, weight};
 ghost use Rattle.cc_check.specs.Checked.{ends, IsFoundLawful, IsFoundUnlawful, IsOverLimit};
+ghost use Rattle.cc_check.specs.declared.parting.Blame.{Blame as TheBlame};
 ghost use Rattle.cc_check.specs.Parted.{IsFoundEarly, IsFoundParted};
-ghost use Rattle.cc_check.specs.Tried.{moment, GoesOnTrying, IsReady, StaysWithin};
+ghost use Rattle.cc_check.specs.Tried.{moment, AreAllTried, GoesOnTrying, IsReady, StaysWithin};
 
 use crate::heard::Heard;
 use crate::parting::Parting;
@@ -79,18 +80,18 @@ fn hear_all<S: Source>(trial: &mut Trial<'_>, lines: &mut Lines<'_, S>) -> Resul
     Ok(())
 }
 
-/// The verdict on the lines of a source that was not read yet.
-fn check_lines<S: Source>(
+/// Tries each line of a source that was not read yet. It leaves the trial, and how many bytes were taken.
+fn try_lines<'a, S: Source>(
     alloc: Global,
     limits: Limits,
-    script: &[u8],
+    script: &'a [u8],
     lines: &mut Lines<'_, S>,
-) -> Result<Verdict, CheckStop>
+) -> Result<(Trial<'a>, u64), CheckStop>
     requires going { lines.old.stopped ≡ false }
     requires within { length script.now ≤ limits.bytes }
     requires start { lines.old.window ≡ nothing_read (limits.bytes - length script.now) }
-    ensures lawful { result ≡ Ok Verdict.Lawful → IsFoundLawful limits script.now (ends S.left S.reads lines.old.source.now lines.new.source.now) }
-    ensures unlawful { result ≡ Ok Verdict.Unlawful → IsFoundUnlawful limits script.now (ends S.left S.reads lines.old.source.now lines.new.source.now) }
+    ensures tried { IfOk result (λ r. AreAllTried limits script.now (ends S.left S.reads lines.old.source.now lines.new.source.now) r.0 r.1) }
+    ensures lines { IfOk result (λ r. r.0.lines + 1 < 2 ^ 64) }
     ensures over { result ≡ Err CheckStop.Limit → IsOverLimit limits script.now (ends S.left S.reads lines.old.source.now lines.new.source.now) }
     ensures fault { result ≡ Err CheckStop.Fault → Rose (S.faults lines.old.source.now) (S.faults lines.new.source.now) }
     ensures calm { result ≢ Err CheckStop.Fault → S.faults lines.new.source.now ≡ S.faults lines.old.source.now }
@@ -100,33 +101,28 @@ fn check_lines<S: Source>(
 {
     let mut trial = Trial::new(alloc, limits, script)?;
     hear_all(&mut trial, lines)?;
-    Ok(trial.verdict(lines.taken()))
+    Ok((trial, lines.taken()))
 }
 
-/// Where the lines of a source that was not read yet part from every lawful transcript.
-fn part_lines<S: Source>(
+/// Tries each line that a source gives, to its end: the one walk of `check` and of `find_parting`, which read their answers off the
+/// trial that it leaves, and the number of bytes that were taken.
+fn try_all<'a, S: Source>(
     alloc: Global,
     limits: Limits,
-    script: &[u8],
-    lines: &mut Lines<'_, S>,
-) -> Result<Parting, CheckStop>
-    requires going { lines.old.stopped ≡ false }
+    script: &'a [u8],
+    source: &mut S,
+) -> Result<(Trial<'a>, u64), CheckStop>
     requires within { length script.now ≤ limits.bytes }
-    requires start { lines.old.window ≡ nothing_read (limits.bytes - length script.now) }
-    ensures lawful { result ≡ Ok Parting.Lawful → IsFoundLawful limits script.now (ends S.left S.reads lines.old.source.now lines.new.source.now) }
-    ensures line { (number : ℕ) → result ≡ Ok (Parting.Line number) →
-        IsFoundParted limits script.now (ends S.left S.reads lines.old.source.now lines.new.source.now) number }
-    ensures end { result ≡ Ok Parting.End → IsFoundEarly limits script.now (ends S.left S.reads lines.old.source.now lines.new.source.now) }
-    ensures over { result ≡ Err CheckStop.Limit → IsOverLimit limits script.now (ends S.left S.reads lines.old.source.now lines.new.source.now) }
-    ensures fault { result ≡ Err CheckStop.Fault → Rose (S.faults lines.old.source.now) (S.faults lines.new.source.now) }
-    ensures calm { result ≢ Err CheckStop.Fault → S.faults lines.new.source.now ≡ S.faults lines.old.source.now }
-    ensures reads { (S.reads lines.new.source.now).answered + length script.now ≤ (S.reads lines.old.source.now).answered + limits.bytes + 1 }
-    ensures end_unread { result ≡ Err CheckStop.Fault → (S.reads lines.new.source.now).ended ≡ (S.reads lines.old.source.now).ended }
-    ensures source { lines.new.source.ghost_name ≡ lines.old.source.ghost_name }
+    ensures tried { IfOk result (λ r. AreAllTried limits script.now (ends S.left S.reads source.old source.new) r.0 r.1) }
+    ensures lines { IfOk result (λ r. r.0.lines + 1 < 2 ^ 64) }
+    ensures fault { result ≡ Err CheckStop.Fault → Rose (S.faults source.old) (S.faults source.new) }
+    ensures calm { result ≢ Err CheckStop.Fault → S.faults source.new ≡ S.faults source.old }
+    ensures over { result ≡ Err CheckStop.Limit → IsOverLimit limits script.now (ends S.left S.reads source.old source.new) }
+    ensures reads { (S.reads source.new).answered + length script.now ≤ (S.reads source.old).answered + limits.bytes + 1 }
+    ensures end_unread { (result ≡ Err CheckStop.Fault) ⊎ (result ≡ Err CheckStop.Limit) → (S.reads source.new).ended ≡ (S.reads source.old).ended }
 {
-    let mut trial = Trial::new(alloc, limits, script)?;
-    hear_all(&mut trial, lines)?;
-    Ok(trial.parting(lines.taken()))
+    let mut lines = Lines::new(source, limits.bytes() - script.len() as u32);
+    try_lines(alloc, limits, script, &mut lines)
 }
 
 /// Whether what the source gives, to its end, is a lawful transcript of the script, within the limits of the run that it is of.
@@ -165,8 +161,9 @@ pub fn check<S: Source>(
     ensures reads { (S.reads source.new).answered + length script.now ≤ (S.reads source.old).answered + limits.bytes + 1 }
     ensures end_unread { (result ≡ Err CheckStop.Fault) ⊎ (result ≡ Err CheckStop.Limit) → (S.reads source.new).ended ≡ (S.reads source.old).ended }
 {
-    let mut lines = Lines::new(source, limits.bytes() - script.len() as u32);
-    check_lines(alloc, limits, script, &mut lines)
+    let mut tried = try_all(alloc, limits, script, source)?;
+    let taken = tried.1;
+    Ok(tried.0.verdict(taken))
 }
 
 /// Where what the source gives, to its end, parts from every lawful transcript of the script, within the limits of the run that it is of.
@@ -181,9 +178,10 @@ pub fn find_parting<S: Source>(
     source: &mut S,
 ) -> Result<Parting, CheckStop>
     requires within { length script.now ≤ limits.bytes }
-    // No lawful transcript begins with the lines up to the one that is named, and one begins with the lines before it,
-    ensures line { (number : ℕ) → result ≡ Ok (Parting.Line number) →
-        IsFoundParted limits script.now (ends S.left S.reads source.old source.new) number }
+    // No lawful transcript begins with the lines up to the one that is named, for the cause that is told, and one begins with the lines
+    // before it,
+    ensures line { (blame : TheBlame) → result ≡ Ok (Parting.Line blame) →
+        IsFoundParted limits script.now (ends S.left S.reads source.old source.new) blame }
     // or one begins with all lines, and these bytes are none,
     ensures end { result ≡ Ok Parting.End → IsFoundEarly limits script.now (ends S.left S.reads source.old source.new) }
     // or they are one.
@@ -194,10 +192,18 @@ pub fn find_parting<S: Source>(
     ensures calm { result ≢ Err CheckStop.Fault → S.faults source.new ≡ S.faults source.old }
     ensures over { result ≡ Err CheckStop.Limit → IsOverLimit limits script.now (ends S.left S.reads source.old source.new) }
 
+    // And where there is the cause, there is the answer.
+    ensures fault_always { S.faults source.old < S.faults source.new → result ≡ Err CheckStop.Fault }
+    ensures over_always { (bytes : List ℕ) → S.left source.old ≡ Some bytes → limits.bytes < length script.now + length bytes →
+        ¬ (Rose (S.faults source.old) (S.faults source.new)) → result ≢ Err CheckStop.NoMemory → result ≡ Err CheckStop.Limit }
+    ensures within_always { (bytes : List ℕ) → S.left source.old ≡ Some bytes → length script.now + length bytes ≤ limits.bytes →
+        result ≢ Err CheckStop.Limit }
+
     // At most as many reads are answered as there may be bytes, and one more.
     ensures reads { (S.reads source.new).answered + length script.now ≤ (S.reads source.old).answered + limits.bytes + 1 }
-    ensures end_unread { result ≡ Err CheckStop.Fault → (S.reads source.new).ended ≡ (S.reads source.old).ended }
+    ensures end_unread { (result ≡ Err CheckStop.Fault) ⊎ (result ≡ Err CheckStop.Limit) → (S.reads source.new).ended ≡ (S.reads source.old).ended }
 {
-    let mut lines = Lines::new(source, limits.bytes() - script.len() as u32);
-    part_lines(alloc, limits, script, &mut lines)
+    let mut tried = try_all(alloc, limits, script, source)?;
+    let taken = tried.1;
+    Ok(tried.0.parting(taken))
 }

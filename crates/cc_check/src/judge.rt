@@ -1,13 +1,16 @@
 //! The judge: hears the lines of a transcript one after the other.
-ghost use Rattle.std.specs.Prelude.{◌≡◌, ◌↔◌, ℕ, List, [], ◌∷◌, false, true, None, Ok, IfOk, IsTrue, OnOk};
+ghost use Rattle.std.specs.Prelude.{◌≡◌, ◌≢◌, ◌↔◌, ℕ, List, [], ◌∷◌, false, true, None, Ok, IfOk, IfSome, IsTrue, OnOk};
 ghost use Rattle.cc_names.specs.Allowance.{Allowance};
 ghost use Rattle.cc_verdict.specs.Following.{first_place};
 ghost use Rattle.cc_verdict.specs.GoingOn.{CanAnswer, CanGoOn};
 ghost use Rattle.cc_verdict.specs.Positions.{GoesOn, reciting};
+ghost use Rattle.cc_check.specs.Causes.{IsPart};
+ghost use Rattle.cc_check.specs.Judging.{GoesAlong, IsRefusedAt, no_memory_line};
 ghost use Rattle.cc_check.specs.Standing.{IsHeard, IsKept, asks_left, place_of, position_of};
 
 use crate::answer::Answer;
 use crate::asking::{census_is_next, next_asked};
+use crate::cause::Cause;
 use crate::heard::Heard;
 use crate::known::Known;
 use crate::row::Row;
@@ -57,27 +60,34 @@ impl Judge {
         })
     }
 
-    /// Hears the next line of the transcript, and answers whether a lawful transcript goes on with it.
-    /// After `false` and after `NoMemory` the judge is only let go.
+    /// Hears the next line of the transcript. None where a lawful transcript goes on with it, and else why none does.
+    /// After a cause and after `NoMemory` the judge is only let go.
     pub(crate) fn hear(
         &mut self,
         script: &mut Script<'_>,
         heard: Heard<'_>,
-    ) -> Result<bool, NoMemory>
+    ) -> Result<Option<Cause>, NoMemory>
         requires kept { IsKept self.old }
-        ensures kept { result ≡ Ok true → IsKept self.new }
-        ensures yes { result ≡ Ok true → (line : List ℕ) (lines : List (List ℕ)) → IsHeard heard.entry line →
+        requires can { CanGoOn (position_of self.old) (asks_left script.old) }
+        ensures kept { result ≡ Ok None → IsKept self.new }
+        ensures can { result ≡ Ok None → CanGoOn (position_of self.new) (asks_left script.new) }
+        ensures yes { result ≡ Ok None → (line : List ℕ) (lines : List (List ℕ)) → IsHeard heard.entry line →
             GoesOn (position_of self.old) (asks_left script.old) (line ∷ lines) ↔ GoesOn (position_of self.new) (asks_left script.new) lines }
-        ensures no { result ≡ Ok false → (line : List ℕ) (lines : List (List ℕ)) → IsHeard heard.entry line →
-            ¬ (GoesOn (position_of self.old) (asks_left script.old) (line ∷ lines)) }
-        ensures goes_on { result ≡ Ok true → (lines : List (List ℕ)) × GoesOn (position_of self.new) (asks_left script.new) lines }
+        ensures no { IfOk result (λ o. IfSome o (λ c. (line : List ℕ) (lines : List (List ℕ)) → IsHeard heard.entry line →
+            ¬ (GoesOn (position_of self.old) (asks_left script.old) (line ∷ lines)))) }
+        ensures cause { IfOk result (λ o. IfSome o (IsPart (position_of self.old) (asks_left script.old) heard.entry (asks_left script.new))) }
+        ensures goes_on { result ≡ Ok None → (lines : List (List ℕ)) × GoesOn (position_of self.new) (asks_left script.new) lines }
+        ensures along { OnOk result (GoesAlong script.old script.new) }
     {
         dead_ends_lead_nowhere();
         other_ends_lead_on();
         if !self.accept(script, heard)? {
-            return Ok(false);
+            return Ok(Some(self.cause(*script, heard)?));
         }
-        self.can_go_on(*script)
+        if self.can_go_on(*script)? {
+            return Ok(None);
+        }
+        Ok(Some(self.dead_end(*script)?))
     }
 
     /// Whether anything can come behind what was heard.
@@ -112,14 +122,21 @@ impl Judge {
             .is_quiet(self.row, &self.graph, &self.listed, names.as_slice())
     }
 
-    /// Hears the next line, and answers whether it may come there, where anything may.
+    /// Hears the next line, and answers whether it may come there, where anything may. After no the judge stands in the answer that
+    /// the line is none of.
     fn accept(&mut self, script: &mut Script<'_>, heard: Heard<'_>) -> Result<bool, NoMemory>
         requires kept { IsKept self.old }
-        ensures kept { result ≡ Ok true → IsKept self.new }
+        requires can { CanGoOn (position_of self.old) (asks_left script.old) }
+        ensures kept { OnOk result (IsKept self.new) }
         ensures yes { result ≡ Ok true → (line : List ℕ) (lines : List (List ℕ)) → IsHeard heard.entry line →
             GoesOn (position_of self.old) (asks_left script.old) (line ∷ lines) ↔ GoesOn (position_of self.new) (asks_left script.new) lines }
         ensures no { result ≡ Ok false → (line : List ℕ) (lines : List (List ℕ)) → IsHeard heard.entry line →
             ¬ (GoesOn (position_of self.old) (asks_left script.old) (line ∷ lines)) }
+        ensures stands { result ≡ Ok false → (line : List ℕ) (lines : List (List ℕ)) → line ≢ no_memory_line →
+            GoesOn (position_of self.old) (asks_left script.old) (line ∷ lines) ↔ GoesOn (position_of self.new) (asks_left script.new) (line ∷ lines) }
+        ensures refused { result ≡ Ok false → (line : List ℕ) → IsHeard heard.entry line →
+            IsRefusedAt (position_of self.new) (asks_left script.new) line }
+        ensures along { OnOk result (GoesAlong script.old script.new) }
     {
         lines_that_ask_nothing_have_no_answer();
         answers_are_recited_line_by_line();

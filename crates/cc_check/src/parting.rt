@@ -1,12 +1,25 @@
-//! Where a transcript parts from every lawful one.
+//! Where a transcript parts from every lawful one, and why.
+
+use crate::cause::Cause;
+
+/// The line at which a transcript parts, and why. Lines are counted from one, blank ones and comments too.
+#[derive(Drop)]
+pub struct Blame {
+    /// The number of the transcript's line.
+    pub line: u64,
+    /// The number of the script's line that it answers; where nothing is asked any more, that of the last line that has an answer, or 0.
+    pub asked: u64,
+    /// Why no lawful transcript goes on with the line.
+    pub cause: Cause,
+}
 
 /// Where a transcript parts from every lawful transcript of the script.
-#[derive(Clone, Copy, Debug, PartialEq, Eq, Drop)]
+#[derive(Drop)]
 pub enum Parting {
     /// Nowhere: it is lawful.
     Lawful,
-    /// At the line with this number, counted from one: a lawful transcript begins with the lines before it, and none with this one too.
-    Line(u64),
+    /// At this line: a lawful transcript begins with the lines before it, and none with this one too.
+    Line(Blame),
     /// At its end: a lawful transcript begins with its lines, but more comes there, or the line feed of the last line is missing.
     End,
 }

@@ -1,86 +1,14 @@
-//! The asks of a script, one after the other.
+//! The lines of a script that were not asked yet.
 
-ghost use Rattle.std.specs.Prelude.{◌≡◌, ◌∷◌, ◌<◌, [], length, IfNone, IfSome, IsTrue};
-ghost use Rattle.cc_model.specs.declared.dialect.Dialect.{Dialect as TheDialect};
-ghost use Rattle.cc_model.specs.Asks.{ask_of, asks_of, dialect_after, taken_or_bad};
-ghost use Rattle.cc_model.specs.Lines.{lines_of};
-ghost use Rattle.cc_laws_run.specs.Running.{ask_in_range};
-ghost use Rattle.cc_check.specs.Standing.{ask_meant, asks_left};
+ghost use Rattle.std.specs.Prelude.{◌+◌, ◌<◌, ◌^◌, length};
 
-use crate::asked::Asked;
-use cc_model::{Command, Dialect};
-use cc_reader::parse;
+use cc_model::Dialect;
 
-/// The lines of a script that were not asked yet, and how the next one is read.
+/// The lines of a script that were not asked yet, how the next one is read, and how many lines were asked.
 #[derive(Clone, Copy, Drop)]
 pub(crate) struct Script<'a> {
-    left: &'a [u8],
-    dialect: Dialect,
-}
-
-impl<'a> Script<'a> {
-    /// All lines of a script.
-    pub(crate) fn new(script: &'a [u8]) -> Script<'a>
-        ensures { asks_left result ≡ asks_of script.now }
-    {
-        Script {
-            left: script,
-            dialect: Dialect::Start,
-        }
-    }
-
-    /// What the next line asks; none where there is no further line.
-    pub(crate) fn next(&mut self) -> Option<Asked>
-        ensures some { IfSome result (λ asked. asks_left self.old ≡ ask_meant asked ∷ asks_left self.new) }
-        ensures in_range { IfSome result (λ asked. IsTrue (ask_in_range (ask_meant asked))) }
-        ensures none { IfNone result (asks_left self.old ≡ []) }
-        ensures falls { IfSome result (λ _. length self.new.left.now < length self.old.left.now) }
-    {
-        if self.left.is_empty() {
-            return None;
-        }
-        let (line, left) = first_line(self.left);
-        self.left = left;
-        let asked = asked_by(line, self.dialect);
-        self.dialect = self.dialect.after(command_of(asked));
-        Some(asked)
-    }
-}
-
-/// The command that was asked, if it was one.
-fn command_of(asked: Asked) -> Option<Command>
-    ensures { (dialect : TheDialect) → dialect_after dialect (taken_or_bad result) ≡ dialect_after dialect (ask_meant asked) }
-{
-    match asked {
-        Asked::Taken(command) => Some(command),
-        Asked::Long | Asked::Bad => None,
-    }
-}
-
-/// What a line asks, given without its line feed.
-fn asked_by(line: &[u8], dialect: Dialect) -> Asked
-    ensures ask { ask_meant result ≡ ask_of dialect line.now }
-    ensures in_range { IsTrue (ask_in_range (ask_meant result)) }
-{
-    if line.len() > 120 {
-        return Asked::Long;
-    }
-    match parse(line, dialect) {
-        Some(command) => Asked::Taken(command),
-        None => Asked::Bad,
-    }
-}
-
-/// The first line of a script that is not empty, without its line feed, and what stands behind it.
-fn first_line(script: &[u8]) -> (&[u8], &[u8])
-    requires { 0 < length script.now }
-    ensures cut { lines_of script.now ≡ result.0.now ∷ lines_of result.1.now }
-    ensures falls { length result.1.now < length script.now }
-{
-    'bytes: for (place, byte) in script.iter().enumerate() {
-        if *byte == b'\n' {
-            return (&script[..place], &script[place + 1..]);
-        }
-    }
-    (script, &[])
+    pub(crate) left: &'a [u8],
+    pub(crate) dialect: Dialect,
+    pub(crate) asked: u64,
+    ghost fits: { asked + length left.now < 2 ^ 64 },
 }

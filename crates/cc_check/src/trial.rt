@@ -4,12 +4,14 @@ ghost use Rattle.std.specs.Prelude.{◌≡◌, ◌+◌, ◌<◌, ◌≤◌, ◌^
 ghost use Rattle.cc_names.specs.Allowance.{Allowance};
 ghost use Rattle.cc_model.specs.Lines.{lines_of};
 ghost use Rattle.cc_verdict.specs.Verdicts.{IsLawfulTranscript};
-ghost use Rattle.cc_check.specs.Parted.{IsEarly, PartsAt};
+ghost use Rattle.cc_check.specs.declared.parting.Blame.{Blame as TheBlame};
+ghost use Rattle.cc_check.specs.Parted.{IsEarly, PartsFor};
 ghost use Rattle.cc_check.specs.Tried.{bytes_of, IsReady, IsTried, Tries};
 
+use crate::cause::Cause;
 use crate::heard::Heard;
 use crate::judge::Judge;
-use crate::parting::Parting;
+use crate::parting::{Blame, Parting};
 use crate::script::Script;
 use crate::verdict::Verdict;
 use cc_names::{Limits, NoMemory};
@@ -19,13 +21,14 @@ use cc_verdict::{
 };
 use std::alloc::Global;
 
-/// A trial: the judge, the lines of the script that are left, whether a lawful transcript begins with the lines so far, how many of them
-/// one begins with, and how many bytes those have, each with a line feed.
+/// A trial: the judge, the lines of the script that are left, whether a lawful transcript begins with the lines so far, and else why
+/// not, how many of them one begins with, and how many bytes those have, each with a line feed.
 #[derive(Drop)]
 pub(crate) struct Trial<'a> {
     judge: Judge,
     script: Script<'a>,
     is_lawful: bool,
+    cause: Option<Cause>,
     lines: u64,
     bytes: u64,
 }
@@ -49,6 +52,7 @@ impl<'a> Trial<'a> {
             judge: Judge::new(alloc, limits)?,
             script: Script::new(script),
             is_lawful: true,
+            cause: None,
             lines: 0,
             bytes: 0,
         })
@@ -68,8 +72,9 @@ impl<'a> Trial<'a> {
         if !self.is_lawful {
             return Ok(());
         }
-        if !self.judge.hear(&mut self.script, heard)? {
+        if let Some(cause) = self.judge.hear(&mut self.script, heard)? {
             self.is_lawful = false;
+            self.cause = Some(cause);
             return Ok(());
         }
         self.bytes += heard.bytes();
@@ -98,13 +103,17 @@ impl<'a> Trial<'a> {
         requires line { self.old.lines + 1 < 2 ^ 64 }
         ensures lawful { result ≡ Parting.Lawful → (limits : Allowance) (script text : List ℕ) → length text ≡ taken →
             IsTried limits script self.old (lines_of text) → IsLawfulTranscript limits script text }
-        ensures line { (number : ℕ) → result ≡ Parting.Line number → (limits : Allowance) (script : List ℕ) (lines : List (List ℕ)) →
-            IsTried limits script self.old lines → PartsAt limits script lines number }
+        ensures line { (blame : TheBlame) → result ≡ Parting.Line blame → (limits : Allowance) (script : List ℕ) (lines : List (List ℕ)) →
+            IsTried limits script self.old lines → PartsFor limits script lines blame }
         ensures end { result ≡ Parting.End → (limits : Allowance) (script text : List ℕ) → length text ≡ taken →
             IsTried limits script self.old (lines_of text) → IsEarly limits script text }
     {
-        if !self.is_lawful {
-            return Parting::Line(self.lines + 1);
+        if let Some(cause) = self.cause.take() {
+            return Parting::Line(Blame {
+                line: self.lines + 1,
+                asked: self.script.asked(),
+                cause,
+            });
         }
         match self.verdict(taken) {
             Verdict::Lawful => Parting::Lawful,

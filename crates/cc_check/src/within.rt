@@ -5,6 +5,7 @@ ghost use Rattle.cc_names.specs.declared.name.Name.{Name as TheName};
 ghost use Rattle.cc_names.specs.Names.{same_name};
 ghost use Rattle.cc_model.specs.declared.item.Reply.TheVariants as replies;
 ghost use Rattle.cc_model.specs.Listed.{after_event, after_reply};
+ghost use Rattle.cc_verdict.specs.GoingOn.{CanGoOn};
 ghost use Rattle.cc_verdict.specs.Hearing.{MayCome, MayEnd, place_ended, with_told};
 ghost use Rattle.cc_verdict.specs.Positions.{reciting, within};
 ghost use Rattle.cc_check.specs.Judging.{IsJudged, MayGoOn};
@@ -20,7 +21,8 @@ use cc_listed::Listed;
 use cc_model::{Command, Event, Reply};
 use cc_names::NoMemory;
 use cc_verdict::{
-    all_that_is_reached_is_listed, answers_are_heard_line_by_line, answers_are_recited_line_by_line,
+    all_that_is_reached_is_listed, answers_are_heard_line_by_line,
+    answers_are_recited_line_by_line, lines_tell_items_apart,
 };
 
 impl Judge {
@@ -28,10 +30,12 @@ impl Judge {
     pub(crate) fn hear_within(&mut self, answer: Answer, heard: Heard<'_>) -> Result<bool, NoMemory>
         requires kept { IsKept self.old }
         requires answer { self.old.answer ≡ Some answer }
+        requires can { CanGoOn (within (hearing_in self.old answer)) [] }
         ensures { IfOk result (IsJudged heard.entry (MayGoOn (hearing_in self.old answer)) self.new) }
     {
         answers_are_heard_line_by_line();
         answers_are_recited_line_by_line();
+        lines_tell_items_apart();
         if let Some(event) = heard.event() {
             events_have_small_numbers(event);
             return self.hear_event(answer, event);
@@ -50,10 +54,11 @@ impl Judge {
     fn hear_event(&mut self, answer: Answer, event: Event) -> Result<bool, NoMemory>
         requires kept { IsKept self.old }
         requires answer { self.old.answer ≡ Some answer }
-        ensures kept { IfOk result (λ b. b ≡ true → IsKept self.new) }
+        ensures kept { OnOk result (IsKept self.new) }
         ensures yes { IfOk result (λ b. b ≡ true → MayCome (hearing_in self.old answer) event) }
         ensures place { IfOk result (λ b. b ≡ true → position_of self.new ≡ within (with_told (hearing_in self.old answer) event)) }
         ensures no { IfOk result (λ b. b ≡ false → ¬ (MayCome (hearing_in self.old answer) event)) }
+        ensures stays { IfOk result (λ b. b ≡ false → position_of self.new ≡ within (hearing_in self.old answer)) }
     {
         all_that_is_reached_is_listed();
         if !answer.may_come(event) {

@@ -1,6 +1,7 @@
-//! What the tests of this crate share: what a check of a transcript comes to, and where the transcript parts from every lawful one.
+//! What the tests of this crate share: what a check of a transcript comes to, and what is said of where it
+//! parts from every lawful one.
 
-use cc_check::{CheckStop, Parting, Verdict, check, find_parting};
+use cc_check::{CheckStop, Verdict, check, describe, find_parting};
 use cc_names::Limits;
 use cc_outside::{Source, SureSource};
 use std::alloc::Global;
@@ -19,20 +20,22 @@ fn verdict_of_check<S: Source>(
     Some(check(alloc, limits, script, source))
 }
 
-/// What `find_parting` answers; none where the script is longer than the limit. Nothing is known of it in a proof: it is looked at.
-fn parting_found<S: Source>(
+/// What is said of where `find_parting` finds that the transcript parts; none where the script is longer than the limit, and where
+/// nothing is found. Nothing is known of it in a proof: it is looked at.
+fn told_of<S: Source>(
     alloc: Global,
     limits: Limits,
     script: &[u8],
     source: &mut S,
-) -> Option<Result<Parting, CheckStop>> {
+) -> Option<Vec<u8>> {
     if script.len() > limits.bytes() as usize {
         return None;
     }
-    Some(find_parting(alloc, limits, script, source))
+    let parting = find_parting(alloc, limits, script, source).ok()?;
+    describe(alloc, &parting, script).ok()
 }
 
-/// A script and a transcript, by what they show, the verdict, and where the transcript parts from every lawful one.
+/// A script and a transcript, by what they show, the verdict, and what is said of where the transcript parts from every lawful one.
 pub struct Example {
     pub name: &'static str,
     /// How many natives may be made, at most 1000000.
@@ -44,7 +47,8 @@ pub struct Example {
     pub script: &'static [u8],
     pub transcript: &'static [u8],
     pub verdict: Verdict,
-    pub parting: Parting,
+    /// One line, with its line feed.
+    pub told: &'static [u8],
 }
 
 impl Example {
@@ -60,8 +64,8 @@ impl Example {
         assert_eq!(rt; answer, Some(Ok(self.verdict)), "at {}", self.name);
         assert!(rt; source.left().is_empty(), "at {}", self.name);
         let mut again = SureSource::new(self.transcript.to_vec(rt.alloc()).expect(rt, "memory"));
-        let parting = parting_found(rt.alloc(), limits, self.script, &mut again);
-        assert_eq!(rt; parting, Some(Ok(self.parting)), "at {}", self.name);
+        let told = told_of(rt.alloc(), limits, self.script, &mut again).expect(rt, "a parting");
+        assert_eq!(rt; told.as_slice(), self.told, "at {}", self.name);
         assert!(rt; again.left().is_empty(), "at {}", self.name);
     }
 }

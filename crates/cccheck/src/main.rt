@@ -1,18 +1,19 @@
 //! `cccheck SCRIPT TRANSCRIPT` says whether a transcript is one that the script may have, and else where it parts from all of these.
 //!
 //! Both are files; one of them may be `-`, which is standard input. It writes one line: `lawful`, and ends with status 0; or where the
-//! transcript parts from every lawful one, and ends with status 1. The line that it names is what `cc_check::find_parting` finds, whose
-//! contract says what it is. The limits are those of `ccreplay replay`, and so are the other statuses.
+//! transcript parts from every lawful one, and why, and ends with status 1. The line that it names is what `cc_check::find_parting`
+//! finds, and so is the cause; the contract there says what they are. The limits are those of `ccreplay replay`, and so are the other
+//! statuses. With `--help` it writes its help, and ends with status 0.
 #![tactic(auto)]
 
 mod words;
 
-use crate::words::{Paths, limits_of, matches_of, paths_of};
-use cc_check::{CheckStop, Parting, find_parting};
+use crate::words::{Paths, help, limits_of, matches_of, paths_of};
+use cc_check::{CheckStop, Parting, describe, find_parting};
 use cc_names::Limits;
 use cc_outside::StdSource;
 use std::fs::File;
-use std::io::{ErrorKind, Read};
+use std::io::{ErrorKind, Read, Write};
 use std::process::ExitCode;
 use std::{env, fs, io};
 
@@ -134,22 +135,29 @@ fn parting_of(
     }
 }
 
-/// Writes where a transcript parts from every lawful one. The status is 0 where it is lawful, and else 1.
+/// Writes where a transcript parts from every lawful one, and why. The status is 0 where it is lawful, and else 1.
 fn check(rt: &HostRuntime, limits: Limits, paths: Paths<'_>) -> Result<u8, Stop> {
     let script = script_read(rt, paths.script)?;
     let parting = parting_of(rt, limits, script.as_slice(), paths.transcript)?;
-    let written = match parting {
-        Parting::Lawful => println!(rt; "lawful"),
-        Parting::Line(number) => println!(rt; "line {number}: no lawful transcript goes on so"),
-        Parting::End => println!(rt; "end: a lawful transcript goes on"),
+    let Ok(text) = describe(rt.alloc(), &parting, script.as_slice()) else {
+        return Err(Stop::NoMemory);
     };
-    if written.is_err() {
+    if rt.stdout().write_all(text.as_slice()).is_err() {
         return Err(Stop::WriteFault);
     }
     Ok(match parting {
         Parting::Lawful => 0,
         _ => 1,
     })
+}
+
+/// Writes the help. The status is 0.
+fn show_help(rt: &HostRuntime) -> Result<u8, Stop> {
+    let text = help(rt.alloc())?;
+    if rt.stdout().write_all(text.as_str().as_bytes()).is_err() {
+        return Err(Stop::WriteFault);
+    }
+    Ok(0)
 }
 
 /// The status of the whole run.
@@ -162,7 +170,9 @@ fn run(rt: &HostRuntime) -> Result<u8, Stop> {
     else {
         return Err(Stop::NoMemory);
     };
-    let matches = matches_of(rt.alloc(), words.as_slice())?;
+    let Some(matches) = matches_of(rt.alloc(), words.as_slice())? else {
+        return show_help(rt);
+    };
     let limits = limits_of(&matches)?;
     let paths = paths_of(&matches)?;
     check(rt, limits, paths)

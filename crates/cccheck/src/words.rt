@@ -14,14 +14,24 @@ pub(crate) struct Paths<'a> {
 }
 
 /// An argument that must be given.
-fn required_argument<'a>(alloc: Global, name: &'a str) -> Arg<'a> {
-    Arg::new(alloc, name).required(true).action(ArgAction::Set)
+fn required_argument<'a>(alloc: Global, name: &'a str, help: &'a str) -> Arg<'a> {
+    Arg::new(alloc, name)
+        .required(true)
+        .action(ArgAction::Set)
+        .help(help)
 }
 
 /// An option `--NAME N`, a whole number from 0 to `most`. Where it is not given, `default` stands for it.
-fn number_option<'a>(alloc: Global, name: &'a str, most: u32, default: &'a str) -> Arg<'a> {
+fn number_option<'a>(
+    alloc: Global,
+    name: &'a str,
+    most: u32,
+    default: &'a str,
+    help: &'a str,
+) -> Arg<'a> {
     Arg::new(alloc, name)
         .long(name)
+        .help(help)
         .action(ArgAction::Set)
         .value_parser(clap::value_parser!(u32).range(0..=(most as i64)))
         .default_value(default)
@@ -30,11 +40,38 @@ fn number_option<'a>(alloc: Global, name: &'a str, most: u32, default: &'a str) 
 /// The program `cccheck`.
 fn command<'a>(alloc: Global) -> Result<Command<'a>, AllocError> {
     Command::new(alloc, "cccheck")
-        .arg(required_argument(alloc, "script"))?
-        .arg(required_argument(alloc, "transcript"))?
-        .arg(number_option(alloc, "natives", Limits::MOST, "1000000"))?
-        .arg(number_option(alloc, "scripts", Limits::MOST, "1000000"))?
-        .arg(number_option(alloc, "bytes", u32::MAX, "4294967295"))
+        .about("Says where a transcript parts from every lawful one of its script, and why")
+        .arg(required_argument(
+            alloc,
+            "script",
+            "The command script: a file, or - for standard input",
+        ))?
+        .arg(required_argument(
+            alloc,
+            "transcript",
+            "What a collector answered to it: a file, or - for standard input",
+        ))?
+        .arg(number_option(
+            alloc,
+            "natives",
+            Limits::MOST,
+            "1000000",
+            "How many natives may be made",
+        ))?
+        .arg(number_option(
+            alloc,
+            "scripts",
+            Limits::MOST,
+            "1000000",
+            "How many plain objects, weak maps and proxies may be made",
+        ))?
+        .arg(number_option(
+            alloc,
+            "bytes",
+            u32::MAX,
+            "4294967295",
+            "How many bytes script and transcript may have together",
+        ))
 }
 
 /// The number that an option has.
@@ -67,16 +104,31 @@ pub(crate) fn paths_of<'a>(matches: &ArgMatches<'a>) -> Result<Paths<'a>, Stop> 
     Ok(Paths { script, transcript })
 }
 
-/// What the words come to, where they are taken. The program's name is the first word.
-pub(crate) fn matches_of<'a>(alloc: Global, words: &'a [&'a str]) -> Result<ArgMatches<'a>, Stop> {
+/// What the words come to, where they are taken; none where they ask for help. The program's name is the first word.
+pub(crate) fn matches_of<'a>(
+    alloc: Global,
+    words: &'a [&'a str],
+) -> Result<Option<ArgMatches<'a>>, Stop> {
     let Ok(command) = command(alloc) else {
         return Err(Stop::NoMemory);
     };
     match command.try_get_matches_from(words) {
-        Ok(matches) => Ok(matches),
+        Ok(matches) => Ok(Some(matches)),
         Err(error) => match error.kind() {
             ErrorKind::OutOfMemory => Err(Stop::NoMemory),
+            ErrorKind::DisplayHelp => Ok(None),
             _ => Err(Stop::Usage),
         },
+    }
+}
+
+/// The help of the program.
+pub(crate) fn help(alloc: Global) -> Result<String, Stop> {
+    let Ok(mut command) = command(alloc) else {
+        return Err(Stop::NoMemory);
+    };
+    match command.render_help() {
+        Ok(text) => Ok(text),
+        Err(_) => Err(Stop::NoMemory),
     }
 }

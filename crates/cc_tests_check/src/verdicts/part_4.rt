@@ -1,9 +1,9 @@
-//! Some transcripts, whether they are lawful, and where they are not.
+//! Some transcripts, whether they are lawful, and else where they are not, and why.
 //!
 //! Made by tools/worked_examples.py from examples/verdicts.txt.
 
 use crate::example::{Example, are_judged};
-use cc_check::{Parting, Verdict};
+use cc_check::Verdict;
 
 const EXAMPLES: [Example; 11] = [
     // A reflector that is listed takes no memory.
@@ -15,7 +15,7 @@ const EXAMPLES: [Example; 11] = [
         script: b"native n0 0\nwrap s0 n0\nwrap s1 n0\n",
         transcript: b"= #1\n= ~1\n! nomem\n",
         verdict: Verdict::Unlawful,
-        parting: Parting::Line(3),
+        told: b"line 3, answer to line 3 (wrap s1 n0): the reply is = ~1\n",
     },
     // A collection that is refused memory is abandoned.
     Example {
@@ -26,7 +26,7 @@ const EXAMPLES: [Example; 11] = [
         script: b"native n0 0\ncollect\n",
         transcript: b"= #1\n! nomem\n",
         verdict: Verdict::Unlawful,
-        parting: Parting::Line(2),
+        told: b"line 2, answer to line 2 (collect): the reply is = ok\n",
     },
     // A collection that is abandoned was refused memory.
     Example {
@@ -37,7 +37,7 @@ const EXAMPLES: [Example; 11] = [
         script: b"native n0 0\ncollect\n",
         transcript: b"= #1\n- abandon\n= ok\n",
         verdict: Verdict::Unlawful,
-        parting: Parting::Line(3),
+        told: b"line 3, answer to line 2 (collect): the reply is ! nomem\n",
     },
     // An abandonment is the last event of a collection.
     Example {
@@ -48,7 +48,7 @@ const EXAMPLES: [Example; 11] = [
         script: b"native n0 1\nset n0 0 n0\ndrop n0\ncollect\n",
         transcript: b"= #1\n= ok\n= ok\n- abandon\n- unlink #1\n! nomem\n",
         verdict: Verdict::Unlawful,
-        parting: Parting::Line(5),
+        told: b"line 5, answer to line 4 (collect): #1 is unlinked behind an abandonment\n",
     },
     // An abandonment is the first event of gc.
     Example {
@@ -59,7 +59,7 @@ const EXAMPLES: [Example; 11] = [
         script: b"script s0 0\ndrop s0\ngc\n",
         transcript: b"= @1\n= ok\n- free @1\n- abandon\n= ok\n",
         verdict: Verdict::Unlawful,
-        parting: Parting::Line(4),
+        told: b"line 4, answer to line 3 (gc): an abandonment behind another event\n",
     },
     // A collection is abandoned once.
     Example {
@@ -70,7 +70,7 @@ const EXAMPLES: [Example; 11] = [
         script: b"collect\n",
         transcript: b"- abandon\n- abandon\n! nomem\n",
         verdict: Verdict::Unlawful,
-        parting: Parting::Line(2),
+        told: b"line 2, answer to line 1 (collect): an abandonment behind another event\n",
     },
     // No other command abandons a collection.
     Example {
@@ -81,7 +81,7 @@ const EXAMPLES: [Example; 11] = [
         script: b"native n0 0\n",
         transcript: b"- abandon\n= #1\n",
         verdict: Verdict::Unlawful,
-        parting: Parting::Line(1),
+        told: b"line 1, answer to line 1 (native n0 0): a collection is abandoned, and this command may not abandon one\n",
     },
     // A path has each step that it needs.
     Example {
@@ -92,7 +92,7 @@ const EXAMPLES: [Example; 11] = [
         script: b"version 2\nnative n0 1\nnative n1 0\nset n0 0 n1\ndrop n1\nwhy #2\n",
         transcript: b"= ok\n= #1\n= #2\n= ok\n= ok\n: #2 #1\n= ok\n",
         verdict: Verdict::Unlawful,
-        parting: Parting::Line(6),
+        told: b"line 6, answer to line 6 (why #2): the step here is : #1 n0\n",
     },
     // A path begins at the first register.
     Example {
@@ -103,7 +103,7 @@ const EXAMPLES: [Example; 11] = [
         script: b"version 2\nnative n0 0\ncopy n1 n0\nwhy #1\n",
         transcript: b"= ok\n= #1\n= #1\n: #1 n1\n= ok\n",
         verdict: Verdict::Unlawful,
-        parting: Parting::Line(4),
+        told: b"line 4, answer to line 4 (why #1): the step here is : #1 n0\n",
     },
     // That nothing leads there is wrong where something does.
     Example {
@@ -114,7 +114,7 @@ const EXAMPLES: [Example; 11] = [
         script: b"version 2\nnative n0 0\nwhy #1\n",
         transcript: b"= ok\n= #1\n= none\n",
         verdict: Verdict::Unlawful,
-        parting: Parting::Line(3),
+        told: b"line 3, answer to line 3 (why #1): the step here is : #1 n0\n",
     },
     // A word of version 2 is not in the grammar of version 1.
     Example {
@@ -125,7 +125,7 @@ const EXAMPLES: [Example; 11] = [
         script: b"native n0 0\nwhy #1\n",
         transcript: b"= #1\n: #1 n0\n= ok\n",
         verdict: Verdict::Unlawful,
-        parting: Parting::Line(2),
+        told: b"line 2, answer to line 2 (why #1): the answer ends here: ! line\n",
     },
 ];
 

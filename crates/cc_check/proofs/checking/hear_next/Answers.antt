@@ -44,3 +44,11 @@ returns-in_ok-hear-in-Text-clause-more g c = λ same limits script start t.
       given = c.next.ensures.kept (c.in_ok-next.was ∙ ap Ok c.in-Text.is) start t.lines t.given;
       tried = c.in_ok-hear-in-Text.ensures.tried limits script t.lines c.next.new.self.text (sym c.text.ensures) t.tried;
     }
+
+pub returns-in-End-clause-whole : goal.returns-in-End-clause-whole
+returns-in-End-clause-whole g c = λ same limits script start t.
+    record {
+      lines = t.lines;
+      given = c.next.ensures.whole (c.in_ok-next.was ∙ ap Ok c.in-End.is) start t.lines t.given;
+      tried = t.tried;
+    }

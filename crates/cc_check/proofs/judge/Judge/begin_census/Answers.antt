@@ -1,13 +1,14 @@
+use Rattle.std.specs.Prelude.{◌↔◌}
 use Rattle.std.proofs.Common.{◌≡◌, ℕ, List, ◌∷◌, length, reverse, refl, sym, ◌∙◌, ap, subst}
 use Rattle.cc_names.specs.declared.name.Name.{Name}
 use Rattle.cc_model.specs.declared.command.Command.TheVariants.{Census}
 use Rattle.cc_model.specs.declared.item.Reply.TheVariants.{Census as counted}
 use Rattle.cc_model.specs.Answers.{items_of, listing}
-use Rattle.cc_model.specs.Asks.{taken}
+use Rattle.cc_model.specs.Asks.{Ask, taken}
 use Rattle.cc_model.specs.Graph.{Graph}
-use Rattle.cc_model.specs.Lawful.{census_of, state_of}
+use Rattle.cc_model.specs.Lawful.{census_of}
 use Rattle.cc_model.specs.Listed.{census_order}
-use Rattle.cc_model.specs.Quiet.{CensusIsQuiet, nothing_yet}
+use Rattle.cc_model.specs.Quiet.{nothing_yet}
 use Rattle.cc_verdict.specs.Following.{place, place_after}
 use Rattle.cc_check.specs.Judging.{MayAnswer, MayRecite}
 use Rattle.cc_check.specs.Standing.{place_of}
@@ -30,11 +31,12 @@ returns c =
     let items_are : reverse c.list.new.recital.items ≡ told = c.in_ok-list.ensures.items
     ∙ (ap (λ (names : List Name). items_of (listing names (counted c.in_ok-count.count))) c.in_ok-names.ensures.names
     ∙ ap (λ (n : ℕ). items_of (listing (census_order listed) (counted n))) count_is) in
-    let quiet : CensusIsQuiet p.row p.state (taken Census) =
-    subst (λ (names : List Name). CensusIsQuiet p.row (state_of g names) (taken Census)) same (c.in_ok-is_quiet.ensures.quiet.0 c.if-not-branch.false) in
+    let same_lines : (asks : List Ask) (lines : List (List ℕ)) → MayAnswer p (taken Census) asks lines ↔ MayRecite (reverse c.list.new.recital.items) (place g now nothing_yet) asks lines =
+    λ asks lines.
+    let as_told = recites-as (reverse c.list.new.recital.items) told (place g now nothing_yet) after asks lines items_are place_is in
+    let law = c.exact_answers_are_recited.ensures.census p asks lines c.requires.quiet in
+    ((λ f. as_told.0 (law.0 f)), (λ r. law.1 (as_told.1 r))) in
     IsJudged-as c.args.heard (MayRecite (reverse c.list.new.recital.items) (place g now nothing_yet)) (MayAnswer p (taken Census)) c.recite.new.self c.recite.result
-    (λ asks line lines hd.
-    let law = c.exact_answers_are_recited.ensures.census p asks (line ∷ lines) quiet in
-    let as_told = recites-as (reverse c.list.new.recital.items) told (place g now nothing_yet) after asks (line ∷ lines) items_are place_is in
-    ((λ f. as_told.0 (law.0 f)), (λ r. law.1 (as_told.1 r))))
+    (λ asks line lines hd. same_lines asks (line ∷ lines))
+    (λ asks line lines n. same_lines asks (line ∷ lines))
     c.recite.ensures

@@ -1,3 +1,4 @@
+use Rattle.std.specs.Prelude.{◌↔◌}
 use Rattle.std.proofs.Common.{◌≡◌, ◌≢◌, ℕ, Bool, List, [], ◌∷◌, Some, reverse, refl, sym, ◌∙◌, ap, subst}
 use Rattle.std.proofs.lemmas.Bool.{true≢false}
 use Rattle.cc_lists.specs.Members.{has}
@@ -8,7 +9,7 @@ use Rattle.cc_model.specs.declared.item.Refusal.TheVariants as refusals
 use Rattle.cc_model.specs.declared.item.Reply.{Reply}
 use Rattle.cc_model.specs.declared.item.Reply.TheVariants as replies
 use Rattle.cc_model.specs.Answers.{Step, explaining, items_of, replying}
-use Rattle.cc_model.specs.Asks.{taken}
+use Rattle.cc_model.specs.Asks.{Ask, taken}
 use Rattle.cc_model.specs.Derivations.{derivation, done_or_nothing, is_led_to, leads_made, named, needed_for, why_of}
 use Rattle.cc_model.specs.Graph.{Graph}
 use Rattle.cc_model.specs.Lawful.{graph_after}
@@ -29,7 +30,7 @@ returns-then-hear_reply c =
     let p = place_of c.args.self.now in
     let after = place_after p (taken (Why c.args.name)) (replying [] no_memory) in
     record {
-      kept = λ yes. c.hear_reply.ensures.between.kept;
+      kept = c.hear_reply.ensures.between.kept;
       yes = λ yes asks line lines hd.
           let is : line ≡ text_of_reply no_memory = (c.hear_reply.ensures.heard line hd).0 c.if-hear_reply.true in
           let law = c.reasons_are_recited.ensures.refused p c.args.name asks lines in
@@ -38,6 +39,8 @@ returns-then-hear_reply c =
             (λ g. subst (λ (l : List ℕ). Follows p (taken (Why c.args.name) ∷ asks) (l ∷ lines)) (sym is) (law.1 (on.0 g))),
           );
       no = λ no_line. absurd (true≢false no_line);
+      stands = λ no_line. absurd (true≢false no_line);
+      refused = λ no_line. absurd (true≢false no_line);
     }
 
 -- what is recited is what `why` answers
@@ -64,10 +67,13 @@ returns c =
     let items_are : reverse c.explain.new.recital.items ≡ told = c.in_ok-explain.ensures.items
     ∙ (ap (λ (r : Reply). items_of (explaining c.in_ok-steps.steps.items r)) c.done_or_nothing-reply.ensures
     ∙ reasons-are g x c.find.new.self.reach c.in_ok-steps.steps.items c.has.result (found ∙ ap (λ (h : Graph). derivation (leads_made h)) same_graph) c.in_ok-steps.ensures c.has.ensures) in
-    IsJudged-as c.args.heard (MayRecite (reverse c.explain.new.recital.items) (place_of c.hear_reply.new.self)) (MayAnswer p (taken (Why x))) c.recite.new.self c.recite.result
-    (λ asks line lines hd.
-    let other : line ≢ text_of_reply no_memory = λ e. true≢false (sym ((c.hear_reply.ensures.heard line hd).1 e) ∙ c.if-hear_reply.false) in
+    let told_lines : (asks : List Ask) (line : List ℕ) (lines : List (List ℕ)) → line ≢ text_of_reply no_memory →
+    MayAnswer p (taken (Why x)) asks (line ∷ lines) ↔ MayRecite (reverse c.explain.new.recital.items) (place_of c.hear_reply.new.self) asks (line ∷ lines) =
+    λ asks line lines other.
     let law = c.reasons_are_recited.ensures.told p x asks line lines other in
     let as_told = recites-as (reverse c.explain.new.recital.items) told (place_of c.hear_reply.new.self) after asks (line ∷ lines) items_are place_is in
-    ((λ f. as_told.0 (law.0 f)), (λ r. law.1 (as_told.1 r))))
+    ((λ f. as_told.0 (law.0 f)), (λ r. law.1 (as_told.1 r))) in
+    IsJudged-as c.args.heard (MayRecite (reverse c.explain.new.recital.items) (place_of c.hear_reply.new.self)) (MayAnswer p (taken (Why x))) c.recite.new.self c.recite.result
+    (λ asks line lines hd. told_lines asks line lines (λ e. true≢false (sym ((c.hear_reply.ensures.heard line hd).1 e) ∙ c.if-hear_reply.false)))
+    (λ asks line lines n. told_lines asks line lines n)
     c.recite.ensures

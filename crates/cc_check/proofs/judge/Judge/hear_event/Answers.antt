@@ -1,12 +1,28 @@
-use Rattle.std.proofs.Common.{refl, sym, subst, ◌∙◌}
+use Rattle.std.proofs.Common.{refl, sym, ap, subst, ◌∙◌}
 use Rattle.cc_verdict.specs.GoingOn.{ListsAllIn}
 use Rattle.cc_verdict.specs.Hearing.{MayCome}
-use Rattle.cc_check.specs.Standing.{hearing_in}
+use Rattle.cc_check.specs.Standing.{hearing_in, position_in}
 use Rattle.cc_check.proofs.Kept.{all-in, heard-event, kept-event}
 use Rattle.cc_check.proofs.judge.Judge.hear_event.Goals as goal
 
+pub returns-then-not-branch-clause-kept : goal.returns-then-not-branch-clause-kept
+returns-then-not-branch-clause-kept c = record {
+  well_made = c.requires.kept.well_made;
+  limits = c.requires.kept.limits;
+  listed = c.requires.kept.listed;
+  new = c.requires.kept.new;
+  all_listed = c.requires.kept.all_listed;
+  known = c.in_ok-is_of_garbage.ensures.known;
+}
+
+pub returns-then-not-branch-clause-stays : goal.returns-then-not-branch-clause-stays
+returns-then-not-branch-clause-stays c = λ no. ap (position_in c.args.self.now) c.requires.answer
+
+pub returns-then-not-may_come-clause-stays : goal.returns-then-not-may_come-clause-stays
+returns-then-not-may_come-clause-stays c = λ no. ap (position_in c.args.self.now) c.requires.answer
+
 pub returns-clause-kept : goal.returns-clause-kept
-returns-clause-kept c = λ yes.
+returns-clause-kept c =
     let j = c.args.self.now in
     let a = c.args.answer in
     let may : MayCome (hearing_in j a) c.args.event = record {

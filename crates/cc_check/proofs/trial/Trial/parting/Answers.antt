@@ -1,11 +1,19 @@
-use Rattle.std.proofs.Common.{arith}
-use Rattle.cc_check.proofs.Trials.{parts-there, early-there}
+use Rattle.std.proofs.Common.{◌≡◌, None, sym, ◌∙◌, arith}
+use Rattle.cc_check.proofs.Trials.{blame_of, early-there, parts-there, taken-same}
 use Rattle.cc_check.proofs.trial.Trial.parting.Goals as goal
 
-pub returns-then-not-self-clause-line : goal.returns-then-not-self-clause-line
-returns-then-not-self-clause-line c = λ number is limits script lines tried.
-    parts-there limits script c.args.self.now lines number (grind arith) (cc) tried
+pub returns-in-Some-clause-line : goal.returns-in-Some-clause-line
+returns-in-Some-clause-line c = λ b is limits script lines tried.
+    let same : blame_of c.args.self.now c.in-Some.cause ≡ b = cc in
+    parts-there limits script c.args.self.now lines b c.in-Some.cause (sym c.take.ensures.value ∙ c.in-Some.is) same tried
+
+pub returns-in-Lawful-clause-lawful : goal.returns-in-Lawful-clause-lawful
+returns-in-Lawful-clause-lawful c = λ is limits script text count tried.
+    c.verdict.ensures.lawful c.in-Lawful.is limits script text count
+    (taken-same limits script c.args.self.now c.take.new.self _ (sym c.take.ensures.value ∙ c.in_default.is) c.take.ensures.after tried)
 
 pub returns-in-Unlawful-clause-end : goal.returns-in-Unlawful-clause-end
 returns-in-Unlawful-clause-end c = λ is limits script text count tried.
-    early-there limits script c.args.self.now text (grind arith) (c.verdict.ensures.unlawful c.in-Unlawful.is limits script text count tried) tried
+    let none : c.args.self.now.cause ≡ None = sym c.take.ensures.value ∙ c.in_default.is in
+    early-there limits script c.args.self.now text none
+    (c.verdict.ensures.unlawful c.in-Unlawful.is limits script text count (taken-same limits script c.args.self.now c.take.new.self _ none c.take.ensures.after tried)) tried

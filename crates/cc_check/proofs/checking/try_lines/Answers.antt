@@ -1,8 +1,7 @@
-use Rattle.std.proofs.Common.{◌≡◌, Err, sym, ◌∙◌, arith}
+use Rattle.std.proofs.Common.{◌≡◌, Err, arith}
 use Rattle.cc_check.specs.declared.verdict.CheckStop.TheVariants.{Fault, Limit}
-use Rattle.cc_check.specs.declared.verdict.Verdict.TheVariants.{Lawful, Unlawful}
-use Rattle.cc_check.proofs.Endings.{broken-unended, found-lawful, found-over, found-unlawful, reads-within}
-use Rattle.cc_check.proofs.checking.check_lines.Goals as goal
+use Rattle.cc_check.proofs.Endings.{all-tried, broken-unended, found-over, reads-within}
+use Rattle.cc_check.proofs.checking.try_lines.Goals as goal
 
 pub returns-in_err-hear_all-clause-over : goal.returns-in_err-hear_all-clause-over
 returns-in_err-hear_all-clause-over g c = λ is.
@@ -21,19 +20,10 @@ returns-in_err-hear_all-clause-end_unread g c = λ is.
     broken-unended c.args.limits c.args.script.now _ _ _ _ _ _ c.in_ok-trial.trial c.hear_all.new.trial c.requires.within c.requires.start c.hear_all.ensures.limit
     c.hear_all.ensures.reads c.in_ok-trial.ensures.tried (c.hear_all.ensures.fault was)
 
-pub returns-clause-lawful : goal.returns-clause-lawful
-returns-clause-lawful g c = λ is.
-    let found : c.verdict.result ≡ Lawful = cc in
-    found-lawful c.args.limits c.args.script.now _ _ _ _ _ _ c.in_ok-trial.trial c.hear_all.new.trial c.requires.within c.requires.start c.hear_all.ensures.limit
-    c.hear_all.ensures.reads c.in_ok-trial.ensures.tried c.in_ok-hear_all.ensures.whole
-    (λ text count. c.verdict.ensures.lawful found c.args.limits c.args.script.now text (count ∙ sym c.taken.ensures))
-
-pub returns-clause-unlawful : goal.returns-clause-unlawful
-returns-clause-unlawful g c = λ is.
-    let found : c.verdict.result ≡ Unlawful = cc in
-    found-unlawful c.args.limits c.args.script.now _ _ _ _ _ _ c.in_ok-trial.trial c.hear_all.new.trial c.requires.within c.requires.start c.hear_all.ensures.limit
-    c.hear_all.ensures.reads c.in_ok-trial.ensures.tried c.in_ok-hear_all.ensures.whole
-    (λ text count. c.verdict.ensures.unlawful found c.args.limits c.args.script.now text (count ∙ sym c.taken.ensures))
+pub returns-clause-tried : goal.returns-clause-tried
+returns-clause-tried g c =
+    all-tried c.args.limits c.args.script.now _ _ _ _ _ _ c.in_ok-trial.trial c.hear_all.new.trial c.requires.within c.requires.start c.hear_all.ensures.limit
+    c.hear_all.ensures.reads c.in_ok-trial.ensures.tried c.in_ok-hear_all.ensures.whole _ c.taken.ensures
 
 pub returns-clause-reads : goal.returns-clause-reads
 returns-clause-reads g c =

@@ -1,0 +1,50 @@
+use Rattle.std.proofs.Common.{◌≡◌, List, [], reverse, refl, sym, ap, ◌∙◌, subst}
+use Rattle.cc_lists.specs.Members.{Among}
+use Rattle.cc_lists.proofs.Members.{has-among, has-there}
+use Rattle.cc_names.specs.declared.name.Name.{Name}
+use Rattle.cc_names.specs.Names.{same_name}
+use Rattle.cc_names.proofs.NameTests.{same_name-exact}
+use Rattle.cc_model.specs.Derivations.{named}
+use Rattle.cc_model.specs.Listed.{census_order}
+use Rattle.cc_model.specs.Lawful.{state_of}
+use Rattle.cc_model.specs.Quiet.{ListsReached}
+use Rattle.cc_verdict.specs.GoingOn.{CanGoOn}
+use Rattle.cc_verdict.specs.Positions.{Position, reciting}
+use Rattle.cc_check.specs.declared.judge.Judge.{Judge}
+use Rattle.cc_check.specs.Standing.{asks_left, place_of, position_in, position_of, row_meant}
+use Rattle.cc_check.proofs.Ahead.{IsStuck, stuck}
+use Rattle.cc_check.proofs.Found.{census-listed, exactly-from, found-reached, reached-found}
+use Rattle.cc_check.proofs.Kept.{all-of}
+use Rattle.cc_check.proofs.judge.Judge.dead_end.Goals as goal
+
+pub returns : goal.returns
+returns c =
+    let j = c.args.self.now in
+    let x = c.in-Some-first_unfound.name in
+    let here : position_of j ≡ reciting (reverse j.recital.items) (place_of j) = ap (position_in j) c.in_default.is in
+    let st : IsStuck j.graph j.listed j.row (asks_left c.args.script) =
+    stuck j.graph j.listed j.row (asks_left c.args.script) (subst (λ (p : Position). ¬ (CanGoOn p (asks_left c.args.script))) here c.requires.dead) in
+    let names_are = c.as_slice.ensures.value ∙ c.in_ok-names.ensures.names in
+    record {
+      items = reverse j.recital.items;
+      place = place_of j;
+      stands = here;
+      row = ap row_meant st.over;
+      census = st.census;
+      listed = census-listed j.listed x (subst (Among x) names_are c.in-Some-first_unfound.ensures.some.0);
+      unreached = λ r. c.in-Some-first_unfound.ensures.some.1 (has-among same_name same_name-exact (named c.find.new.self.reach) x
+          (reached-found j.graph c.find.new.self x c.requires.kept.well_made c.in_ok-find.ensures r));
+    }
+
+pub unreachable-requires : goal.unreachable-requires
+unreachable-requires c =
+    let j = c.args.self.now in
+    let here : position_of j ≡ reciting (reverse j.recital.items) (place_of j) = ap (position_in j) c.in_default.is in
+    let st : IsStuck j.graph j.listed j.row (asks_left c.args.script) =
+    stuck j.graph j.listed j.row (asks_left c.args.script) (subst (λ (p : Position). ¬ (CanGoOn p (asks_left c.args.script))) here c.requires.dead) in
+    let names_are = c.as_slice.ensures.value ∙ c.in_ok-names.ensures.names in
+    let quiet : ListsReached (state_of j.graph j.listed) =
+    exactly-from j.graph c.find.new.self c.requires.kept.well_made c.in_ok-find.ensures j.listed _ names_are c.in-None.ensures.none
+    (λ x m. (all-of j c.requires.kept c.in_default.is).listed x (found-reached j.graph c.find.new.self x c.requires.kept.well_made c.in_ok-find.ensures
+    (has-there same_name same_name-exact (named c.find.new.self.reach) x m))) in
+    st.unquiet quiet
