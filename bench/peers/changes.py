@@ -3,102 +3,47 @@
 
     bench/peers/changes.py [--count N] [--first SEED] [--lines N] [PROGRAM [WORD ..]]
 
-A script is one of scripts.py. The program answers it, or `ccreplay replay` if none is named. A change drops, doubles, swaps or moves a line, writes another
-number or another reply, puts an event in, or cuts the text. Of each changed transcript these are tested:
+A script is one of scripts.py. The program answers it, or `ccreplay replay` if none is named. A change drops, doubles, swaps or
+moves a line, writes another number or another reply, puts an event in, or cuts the text. Of each changed transcript these are
+tested:
 
 - Where cccheck says `lawful`, `ccreplay check` says so too.
 - Else the line that it names is that of the change or one behind it.
 - The lines before that line, with an ending that is made here, are lawful for `ccreplay check`.
 - With that line, and each of some endings, they are not.
+- What cccheck says of the line is the case (causes.py).
 
 It prints how many changes of each kind parted at the change, behind it, at the end, or not at all. The status is 0 if all tests
 passed. CCREPLAY and CCCHECK name other programs than those of crates/ccreplay/out and crates/cccheck/out.
 """
 
 import argparse
-import os
 import random
 import re
 import subprocess
 import sys
 import tempfile
 
-from judge import CCCHECK, ROOT, must_be_there, verdict
+from answers import CCREPLAY, Listed, answers_of_ours, asked, is_refused, is_reply, replayed, split, with_refusals
+from causes import fault_of_cause
+from judge import CCCHECK, must_be_there, verdict
 from scripts import made
 
-CCREPLAY = os.environ.get("CCREPLAY", f"{ROOT}/crates/ccreplay/out/ccreplay")
 KINDS = [
-    "dropped", "doubled", "swapped", "moved", "another number", "another reply", "event put in", "event moved", "cut", "no line feed",
+    "dropped", "doubled", "swapped", "moved", "another number", "another reply", "event put in", "event moved",
+    "cut", "no line feed",
 ]
 REPLIES = [
     "= ok", "= none", "= #1", "= #2", "= @1", "= ~1", "= census 0",
     "! empty", "! kind", "! slot", "! line", "! long", "! full", "! nomem",
 ]
-MADE = {"native", "script", "weakmap", "proxy"}
 LINE = re.compile(r"line ([1-9][0-9]*)\b.*")
-
-
-def replayed(script, program=(CCREPLAY, "replay")):
-    """The lines of our transcript of a script, or of another program's."""
-    ran = subprocess.run(program, input=script.encode(), capture_output=True, check=True)
-    return ran.stdout.decode().splitlines()
 
 
 def is_lawful(script, lines):
     text = script + "".join(f"{line}\n" for line in lines)
     ran = subprocess.run([CCREPLAY, "check", str(len(script.encode()))], input=text.encode(), capture_output=True)
     return ran.stdout == b"lawful\n"
-
-
-def is_reply(line):
-    return line[:2] in ("= ", "! ")
-
-
-def is_refused(answer):
-    return answer[-1].startswith("!")
-
-
-def asked(lines):
-    """The lines of a script that are answered: each with its first word, or none where it is too long."""
-    answered = []
-    for place, line in enumerate(lines):
-        words = [it for it in line.removesuffix("\r").split(" ") if it]
-        if len(line) > 120:
-            answered.append((place, ""))
-        elif words and not words[0].startswith("%"):
-            answered.append((place, words[0]))
-    return answered
-
-
-def split(lines):
-    """The answers that a transcript has whole, and the lines behind the last reply."""
-    answers, answer = [], []
-    for line in lines:
-        answer.append(line)
-        if is_reply(line):
-            answers.append(answer)
-            answer = []
-    return answers, answer
-
-
-class Listed:
-    """The names that a census lists."""
-
-    def __init__(self):
-        self.names = []
-
-    def take(self, word, lines):
-        """Goes on over the lines of an answer to a command with this word."""
-        for line in lines:
-            if line.startswith("- free ") and line[7:] in self.names:
-                self.names.remove(line[7:])
-            if line[:3] in ("= #", "= @", "= ~") and word in MADE | {"wrap"} and line[2:] not in self.names:
-                self.names.append(line[2:])
-
-    def census(self):
-        order = sorted((it for it in self.names if it[0] == "#"), key=lambda it: int(it[1:]))
-        order += [it for it in self.names if it[0] != "#"]
-        return [f"+ {it}" for it in order] + [f"= census {len(order)}"]
 
 
 def with_ending(lines, front, reply=None):
@@ -110,11 +55,7 @@ def with_ending(lines, front, reply=None):
     if len(answers) > len(commands):
         return front
     answers_so_far = answers + [rest + [reply]] if reply else answers
-    undone = {
-        place for (place, word), answer in zip(commands, answers_so_far)
-        if answer[-1] == "! nomem" and word not in ("slice", "collect")
-    }
-    ours = split(replayed("".join("no command\n" if place in undone else f"{line}\n" for place, line in enumerate(lines))))[0]
+    ours = answers_of_ours(with_refusals(lines, answers_so_far))
     ending, listed, ours_listed = [], Listed(), Listed()
     for (_, word), answer, of_ours in zip(commands, answers, ours):
         listed.take(word, answer)
@@ -224,6 +165,8 @@ def fault_of(folder, lines, transcript, text):
             endings += [with_ending(lines, front, "! nomem"), with_ending(lines, front + ["- abandon"], "! nomem")]
         if any(is_lawful(script, it) for it in endings):
             return where, f"a lawful transcript goes on with that line, and it says {said}"
+        fault = fault_of_cause(lines, front, said)
+        return where, fault and f"{fault}, and it says {said}"
     return where, None
 
 

@@ -53,11 +53,13 @@ class Model:
             return True
         word = form.split()[0]
         first = self.at(operands[0]) if letters and letters[0] in "NS" else None
-        if word in ("set", "put", "expose"):
-            return first.kind == "map" or int(operands[1]) >= len(first.slots) or (word == "expose" and self.is_other(first, operands, 1, "s"))
+        if word in ("set", "put"):
+            return self.has_no_slot(first, operands[1])
+        if word == "expose":
+            return self.has_no_slot(first, operands[1]) or self.is_other(first, operands[1], "s")
         if word in ("get", "take"):
             holder = self.at(operands[1])
-            return holder.kind == "map" or int(operands[2]) >= len(holder.slots) or self.is_other(holder, operands, 2, operands[0][0])
+            return self.has_no_slot(holder, operands[2]) or self.is_other(holder, operands[2], operands[0][0])
         if word == "wset":
             return first.kind != "map"
         if word == "wget":
@@ -67,8 +69,12 @@ class Model:
         return False
 
     @staticmethod
-    def is_other(holder, operands, place, bank):
-        held = holder.slots[int(operands[place])]
+    def has_no_slot(holder, index):
+        return holder.kind == "map" or int(index) >= len(holder.slots)
+
+    @staticmethod
+    def is_other(holder, index, bank):
+        held = holder.slots[int(index)]
         return held is not None and (held.kind == "native") != (bank == "n")
 
     def do(self, form, operands):
