@@ -11,7 +11,7 @@ use Rattle.cc_model.specs.declared.command.Command.{Command}
 use Rattle.cc_model.specs.declared.item.Event.{Event}
 use Rattle.cc_model.specs.declared.item.Event.TheVariants.{Unlinked, Freed, Abandoned}
 use Rattle.cc_model.specs.Answers.{Step}
-use Rattle.cc_model.specs.Derivations.{leads_made, path_to, needed_for, derivation, named}
+use Rattle.cc_model.specs.Derivations.{leads_made, path_to, needed_for, named}
 use Rattle.cc_model.specs.Graph.{Graph}
 use Rattle.cc_model.specs.Lawful.{may_free, may_unlink, runs_allowed}
 use Rattle.cc_model.specs.Reached.{Reached}

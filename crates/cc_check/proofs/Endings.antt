@@ -1,7 +1,6 @@
 -- HOW A CHECK ENDS: from lines that were given and tried to what is told of the bytes taken.
 use Rattle.std.proofs.Common.{◌≡◌, ℕ, ◌+◌, ◌-◌, ◌≤◌, Bool, true, false, List, [], length, Option, Result, Err, refl, sym, ap, ◌∙◌, subst, arith}
 use Rattle.cc_names.specs.Allowance.{Allowance}
-use Rattle.cc_model.specs.Lines.{lines_of}
 use Rattle.cc_outside.specs.Reads.{Reads}
 use Rattle.cc_reader.specs.declared.lines.Line.{Line}
 use Rattle.cc_reader.specs.declared.read_stop.ReadStop.{ReadStop}

@@ -14,3 +14,4 @@ pub mod Ranges
 pub mod Causing
 pub mod Read
 pub mod ReadOn
+pub mod ItemLines

@@ -6,7 +6,7 @@ use Rattle.std.proofs.lemmas.Bool.{and_parts}
 use Rattle.cc_lists.specs.Members.{Among}
 use Rattle.cc_model.specs.declared.dialect.Dialect.{Dialect}
 use Rattle.cc_model.specs.declared.dialect.Dialect.TheVariants.{Start, One, Two}
-use Rattle.cc_model.specs.Asks.{Ask, taken, command_of, ask_of, asks_from, asks_of}
+use Rattle.cc_model.specs.Asks.{Ask, taken, command_of, ask_of, asks_from}
 use Rattle.cc_model.specs.Lines.{lines_of}
 use Rattle.cc_laws_run.specs.Running.{ask_in_range}
 use Rattle.cc_laws_run.proofs.PlainRanges.{asks_of-range}

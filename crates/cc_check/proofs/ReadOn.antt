@@ -2,7 +2,7 @@
 use Rattle.std.proofs.Common.{◌≡◌, ℕ, zero, suc, ◌+◌, false, List, [], ◌∷◌, drop, Some, slice_get, sym, ◌∙◌, ap, subst, arith}
 use Rattle.cc_model.specs.Asks.{Ask}
 use Rattle.cc_check.specs.declared.script.Script.{Script}
-use Rattle.cc_check.specs.Judging.{HasAnswer, IsReadOf, asks_nothing}
+use Rattle.cc_check.specs.Judging.{HasAnswer, asks_nothing}
 use Rattle.cc_check.specs.Standing.{asks_left}
 
 -- what is left stands behind as many asks as were asked

@@ -17,7 +17,7 @@ short-decimal n small =
     let wide : n < 2 ^ 64 = omega arith in
     length-decimal-le 10 n (lit< tt) few wide
 
-short-name : (x : Name) → number_of x ≤ 4294967295 → length (text_of_name x) ≤ 11
+pub short-name : (x : Name) → number_of x ≤ 4294967295 → length (text_of_name x) ≤ 11
 short-name (Native k) small = omega (arith, short-decimal k.0 small)
 short-name (Script k) small = omega (arith, short-decimal k.0 small)
 short-name (Reflector k) small = omega (arith, short-decimal k.0 small)

@@ -21,6 +21,7 @@ use Rattle.cc_verdict.specs.Positions.{Position, GoesOn, reciting, within}
 use Rattle.cc_check.specs.declared.cause.Cause.{Cause}
 use Rattle.cc_check.specs.declared.heard.Heard.{Heard}
 use Rattle.cc_check.specs.declared.cause.Cause.TheVariants as cause
+use Rattle.cc_check.specs.Items.{IsNoItem}
 use Rattle.cc_check.specs.Judging.{HasAnswer, begins_with_census, from_next, no_memory_line, reply_due}
 use Rattle.cc_check.specs.Standing.{IsHeard, IsNumberedIn}
 
@@ -111,6 +112,7 @@ Within q P = (h : Hearing) × (q ≡ within h) × P h
 
 -- THE CAUSE HOLDS OF THE LINE where the check stands before it, with these asks left behind the answer
 abbrev pub IsCause : Cause → Position → List Ask → List ℕ → Type 0
+IsCause cause.NoItem q asks line = IsNoItem line
 IsCause cause.Over q asks line = IsOver q asks
 IsCause (cause.Forbidden e) q asks line = Within q (λ h. IsForbidden e h line)
 IsCause (cause.Misplaced e) q asks line = Within q (λ h. IsMisplaced e h line)

@@ -1,5 +1,6 @@
 pub mod Standing
 pub mod Judging
+pub mod Items
 pub mod Causes
 pub mod Stops
 pub mod Checked

@@ -6,6 +6,8 @@ use cc_names::Name;
 /// Why no lawful transcript goes on with a line. Where several causes hold of one line, the first of them is told.
 #[derive(Drop)]
 pub enum Cause {
+    /// The line is that of no item.
+    NoItem,
     /// Nothing is asked any more.
     Over,
     /// The command may not have this event at all.

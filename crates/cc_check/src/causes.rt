@@ -28,6 +28,9 @@ impl Judge {
         requires refused { (line : List ℕ) → IsHeard heard line → IsRefusedAt (position_of self.old) (asks_left script) line }
         ensures { IfOk result (λ c. (line : List ℕ) → IsHeard heard.entry line → IsCause c (position_of self.old) (asks_left script.entry) line) }
     {
+        if !heard.may_be_item() {
+            return Ok(Cause::NoItem);
+        }
         if let Some(answer) = self.answer {
             return self.cause_within(answer, heard);
         }

@@ -1,10 +1,11 @@
 //! A line of a transcript, and what it says.
 
-ghost use Rattle.std.specs.Prelude.{◌≡◌, ◌↔◌, ◌≤◌, ℕ, List, Some, IfSome, IsTrue, decimal};
+ghost use Rattle.std.specs.Prelude.{◌≡◌, ◌↔◌, ◌≤◌, ℕ, List, false, Some, IfSome, IsTrue, decimal};
 ghost use Rattle.cc_names.specs.declared.name.Name.{Name as TheName};
 ghost use Rattle.cc_names.specs.Names.{number_of, text_of_name};
 ghost use Rattle.cc_model.specs.declared.item.Event.{Event as TheEvent};
 ghost use Rattle.cc_model.specs.Texts.{text_of_event, words_of};
+ghost use Rattle.cc_check.specs.Items.{IsNoItem};
 ghost use Rattle.cc_check.specs.Standing.{IsHeard, IsNumberedIn};
 ghost use Rattle.cc_check.specs.Tried.{bytes_of};
 
@@ -44,6 +45,23 @@ impl<'a> Heard<'a> {
             Heard::Text(text) => text.len() as u64 + 1,
             Heard::Long => 0,
         }
+    }
+
+    /// Whether the line may be that of an item. Of an item that is no event it is asked only how its line begins.
+    pub(crate) fn may_be_item(self) -> bool
+        ensures { result ≡ false → (line : List ℕ) → IsHeard self.entry line → IsNoItem line }
+    {
+        let Heard::Text(text) = self else {
+            return false;
+        };
+        if text.is_empty() {
+            return false;
+        }
+        let mark = text[0];
+        if mark == b'-' {
+            return self.event().is_some();
+        }
+        mark == b'=' || mark == b'!' || mark == b'+' || mark == b':'
     }
 
     /// The event that the line tells; none where it tells none.

@@ -74,6 +74,7 @@ fn without_return(line: &[u8]) -> &[u8] {
 /// Appends why no lawful transcript goes on.
 fn put_cause(out: &mut Vec<u8>, cause: &Cause) -> Result<(), NoMemory> {
     match cause {
+        Cause::NoItem => put(out, b"no line of an answer"),
         Cause::Over => put(out, b"nothing is asked any more"),
         Cause::Forbidden(event) => put_forbidden(out, *event),
         Cause::Misplaced(event) => put_misplaced(out, *event),

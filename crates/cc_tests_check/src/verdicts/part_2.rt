@@ -26,7 +26,7 @@ const EXAMPLES: [Example; 20] = [
         script: b"native n0 0\n",
         transcript: b" = #1\n",
         verdict: Verdict::Unlawful,
-        told: b"line 1, answer to line 1 (native n0 0): the reply is = #1\n",
+        told: b"line 1, answer to line 1 (native n0 0): no line of an answer\n",
     },
     // Each line of a transcript ends with a line feed, the last too.
     Example {
@@ -59,7 +59,7 @@ const EXAMPLES: [Example; 20] = [
         script: b"native n0 0\n",
         transcript: b"\n= #1\n",
         verdict: Verdict::Unlawful,
-        told: b"line 1, answer to line 1 (native n0 0): the reply is = #1\n",
+        told: b"line 1, answer to line 1 (native n0 0): no line of an answer\n",
     },
     // The reply of another command is wrong.
     Example {
@@ -92,7 +92,7 @@ const EXAMPLES: [Example; 20] = [
         script: b"native n0 0\n",
         transcript: b"aaaaaaaaaaaaaaaaaaaaaaaaaaaaaaaaaaaaaaaaaaaaaaaaaaaaaaaaaaaaaaaaaaaaaaaaaaaaaaaaaaaaaaaaaaaaaaaaaaaaaaaaaaaaaaaaaaaaaaaaa\n",
         verdict: Verdict::Unlawful,
-        told: b"line 1, answer to line 1 (native n0 0): the reply is = #1\n",
+        told: b"line 1, answer to line 1 (native n0 0): no line of an answer\n",
     },
     // A line of more than 120 bytes of the script has an answer.
     Example {
@@ -136,7 +136,7 @@ const EXAMPLES: [Example; 20] = [
         script: b"native n0 0\ndrop n0\n",
         transcript: b"= #1\n- free #01\n= ok\n",
         verdict: Verdict::Unlawful,
-        told: b"line 2, answer to line 2 (drop n0): the reply is = ok\n",
+        told: b"line 2, answer to line 2 (drop n0): no line of an answer\n",
     },
     // A name's number has no sign.
     Example {
@@ -147,7 +147,7 @@ const EXAMPLES: [Example; 20] = [
         script: b"native n0 0\ndrop n0\n",
         transcript: b"= #1\n- free #+1\n= ok\n",
         verdict: Verdict::Unlawful,
-        told: b"line 2, answer to line 2 (drop n0): the reply is = ok\n",
+        told: b"line 2, answer to line 2 (drop n0): no line of an answer\n",
     },
     // A name has a number.
     Example {
@@ -158,7 +158,7 @@ const EXAMPLES: [Example; 20] = [
         script: b"native n0 0\ndrop n0\n",
         transcript: b"= #1\n- free #\n= ok\n",
         verdict: Verdict::Unlawful,
-        told: b"line 2, answer to line 2 (drop n0): the reply is = ok\n",
+        told: b"line 2, answer to line 2 (drop n0): no line of an answer\n",
     },
     // A number is never used again.
     Example {

@@ -1,4 +1,4 @@
-use Rattle.std.proofs.Common.{◌≡◌, List, ℕ, [], Some, None, refl, sym, ap, ◌∙◌, subst}
+use Rattle.std.proofs.Common.{◌≡◌, Some, None, refl, sym, ap, ◌∙◌}
 use Rattle.cc_model.specs.Texts.{text_of_reply}
 use Rattle.cc_check.specs.Standing.{hearing_in}
 use Rattle.cc_check.proofs.Causing.{heard-some}

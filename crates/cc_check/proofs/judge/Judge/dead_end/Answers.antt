@@ -1,16 +1,13 @@
-use Rattle.std.proofs.Common.{◌≡◌, List, [], reverse, refl, sym, ap, ◌∙◌, subst}
+use Rattle.std.proofs.Common.{◌≡◌, reverse, ap, ◌∙◌, subst}
 use Rattle.cc_lists.specs.Members.{Among}
 use Rattle.cc_lists.proofs.Members.{has-among, has-there}
-use Rattle.cc_names.specs.declared.name.Name.{Name}
 use Rattle.cc_names.specs.Names.{same_name}
 use Rattle.cc_names.proofs.NameTests.{same_name-exact}
 use Rattle.cc_model.specs.Derivations.{named}
-use Rattle.cc_model.specs.Listed.{census_order}
 use Rattle.cc_model.specs.Lawful.{state_of}
 use Rattle.cc_model.specs.Quiet.{ListsReached}
 use Rattle.cc_verdict.specs.GoingOn.{CanGoOn}
 use Rattle.cc_verdict.specs.Positions.{Position, reciting}
-use Rattle.cc_check.specs.declared.judge.Judge.{Judge}
 use Rattle.cc_check.specs.Standing.{asks_left, place_of, position_in, position_of, row_meant}
 use Rattle.cc_check.proofs.Ahead.{IsStuck, stuck}
 use Rattle.cc_check.proofs.Found.{census-listed, exactly-from, found-reached, reached-found}

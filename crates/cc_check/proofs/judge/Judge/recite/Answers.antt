@@ -1,10 +1,8 @@
-use Rattle.std.proofs.Common.{◌≡◌, ◌-◌, ℕ, List, ◌∷◌, reverse, take, refl, sym, ◌∙◌, ap, subst, arith}
+use Rattle.std.proofs.Common.{◌≡◌, ◌-◌, List, ◌∷◌, reverse, take, sym, ◌∙◌, ap, subst, arith}
 use Rattle.std.proofs.lemmas.Bool.{true≢false, false≢true}
 use Rattle.cc_model.specs.declared.item.Item.{Item}
 use Rattle.cc_verdict.specs.Following.{Recites}
 use Rattle.cc_verdict.specs.Positions.{Position, GoesOn, reciting}
-use Rattle.cc_check.specs.Judging.{IsRefusedAt}
-use Rattle.cc_check.specs.declared.judge.Judge.{Judge}
 use Rattle.cc_check.specs.Standing.{IsNewIn, ListsAllOf, place_of, position_in, position_of}
 use Rattle.cc_check.proofs.Kept.{all-of}
 use Rattle.cc_check.proofs.Judged.{last-first, refused-same, stands-same}

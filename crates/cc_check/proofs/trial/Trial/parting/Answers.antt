@@ -1,4 +1,4 @@
-use Rattle.std.proofs.Common.{◌≡◌, None, sym, ◌∙◌, arith}
+use Rattle.std.proofs.Common.{◌≡◌, None, sym, ◌∙◌}
 use Rattle.cc_check.proofs.Trials.{blame_of, early-there, parts-there, taken-same}
 use Rattle.cc_check.proofs.trial.Trial.parting.Goals as goal
 
