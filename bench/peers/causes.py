@@ -38,8 +38,8 @@ class Position:
         return "! nomem" if is_given_up else self.due[-1]
 
     def answer_left(self):
-        """What is left of an answer that has one text: a census, or a line that is no command."""
-        whole = self.due if is_refused(self.due) else self.listed.census()
+        """What is left of an answer that has one text: that to a census, to `why`, or to a line that is no command."""
+        whole = self.due if is_refused(self.due) or self.word == "why" else self.listed.census()
         return whole[len(self.rest):] if whole[:len(self.rest)] == self.rest else None
 
     def path(self, name):
@@ -69,6 +69,7 @@ CAUSES = [
     ("no line of an answer", lambda at: at.line[:1] in "+:" or not ITEM.fullmatch(at.line)),
     ("the reply is (.*)", lambda at, reply: at.reply() == reply != at.line),
     ("the census lists (.*) here", lambda at, name: at.answer_left()[0] == f"+ {name}" != at.line),
+    ("the step here is (.*)", lambda at, step: at.answer_left()[0] == step != at.line),
     ("the answer ends here: (.*)", lambda at, reply: at.answer_left() == [reply] != [at.line]),
     (f"{EVENT}, and this command may not (?:free|unlink) it", lambda at, *event: at.has_event(*event) and may_not(at, *event)),
     (
