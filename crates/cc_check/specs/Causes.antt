@@ -175,5 +175,5 @@ pub data IsPart (p : Position) (asks : List Ask) (heard : Heard) (left : List As
 pub data IsBlamed (limits : Allowance) (script : List ℕ) (before : List (List ℕ)) (line : List ℕ) (asked : ℕ) (c : Cause) : Type 0 where
   at_line : (q : Position) → HasAnswer (asks_of script) asked → StandsBefore limits script before asked q → IsCause c q (drop asked (asks_of script)) line →
       IsBlamed limits script before line asked c
-  behind_line : (q : Position) → HasAnswer (asks_of script) asked → StandsBehind limits script (before ++ line ∷ []) asked q → IsDeadEnd c q (drop asked (asks_of script)) →
-      IsBlamed limits script before line asked c
+  behind_line : (q : Position) → HasAnswer (asks_of script) asked → StandsBehind limits script (before ++ line ∷ []) asked q →
+      IsDeadEnd c q (drop asked (asks_of script)) → IsBlamed limits script before line asked c

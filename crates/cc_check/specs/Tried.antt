@@ -35,7 +35,8 @@ IsReady t = t.is_lawful ≡ true → IsKept t.judge × CanGoOn (position_of t.ju
 -- the cause for which the line with this number, counted from 0, parts, where there is one
 abbrev pub IsBlamedIn : Allowance → List ℕ → List (List ℕ) → ℕ → ℕ → Option Cause → Type 0
 IsBlamedIn limits script lines n asked None = Unit {0}
-IsBlamedIn limits script lines n asked (Some c) = (line : List ℕ) → slice_get lines n ≡ Some line → IsBlamed limits script (take n lines) line asked c
+IsBlamedIn limits script lines n asked (Some c) = (line : List ℕ) → slice_get lines n ≡ Some line →
+    IsBlamed limits script (take n lines) line asked c
 
 -- THE LINES WERE TRIED: whatever lines come behind them, they answer the script exactly where the judge lets them come; and
 -- where some can, the bytes of those tried are counted. So are the lines with which a lawful transcript begins: all of them, or those

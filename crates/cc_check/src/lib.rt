@@ -5,6 +5,9 @@
 //! the listed names, an event with what no register reaches. What the registers reach is found once for a command that frees or
 //! unlinks something, in time that goes with what is reached.
 //!
+//! Where a line may not come, the judge stands in the answer that the line is none of, and is asked once why. So a cause costs nothing
+//! before the line that has one. `specs/Causes.antt` says of each cause what is the case.
+//!
 //! No heap, no colour, no count and no collection stands behind it: a transcript of any collector may be checked.
 #![tactic(auto)]
 

@@ -5,7 +5,7 @@
 use crate::example::{Example, are_judged};
 use cc_check::Verdict;
 
-const EXAMPLES: [Example; 11] = [
+const EXAMPLES: [Example; 14] = [
     // A reflector that is listed takes no memory.
     Example {
         name: "wrap_refused_memory",
@@ -126,6 +126,39 @@ const EXAMPLES: [Example; 11] = [
         transcript: b"= #1\n: #1 n0\n= ok\n",
         verdict: Verdict::Unlawful,
         told: b"line 2, answer to line 2 (why #1): the answer ends here: ! line\n",
+    },
+    // The line of the script is counted with the blank lines and comments before it.
+    Example {
+        name: "lines_of_the_script_are_all_counted",
+        natives: 1000000,
+        scripts: 1000000,
+        bytes: 4294967295,
+        script: b"\n% a comment\nnative n0 0\n\ndrop n0\n\n",
+        transcript: b"= #1\n= #1\n",
+        verdict: Verdict::Unlawful,
+        told: b"line 2, answer to line 5 (drop n0): the reply is = ok\n",
+    },
+    // Nothing is freed behind the abandonment of a collection.
+    Example {
+        name: "freed_behind_an_abandonment",
+        natives: 1000000,
+        scripts: 1000000,
+        bytes: 4294967295,
+        script: b"native n0 1\nset n0 0 n0\ndrop n0\ncollect\n",
+        transcript: b"= #1\n= ok\n= ok\n- abandon\n- free #1\n! nomem\n",
+        verdict: Verdict::Unlawful,
+        told: b"line 5, answer to line 4 (collect): #1 is freed behind an abandonment\n",
+    },
+    // What was freed may not be unlinked.
+    Example {
+        name: "unlinked_behind_its_free",
+        natives: 1000000,
+        scripts: 1000000,
+        bytes: 4294967295,
+        script: b"native n0 1\nset n0 0 n0\ndrop n0\ncollect\n",
+        transcript: b"= #1\n= ok\n= ok\n- free #1\n- unlink #1\n= ok\n",
+        verdict: Verdict::Unlawful,
+        told: b"line 5, answer to line 4 (collect): #1 is unlinked, but it is not there any more, or never was\n",
     },
 ];
 
