@@ -1,4 +1,4 @@
-//! A native of the counted heap is unlinked, and known as such.
+//! Natives of the counted heap: one is unlinked, and known as such; one that leaves the heap leaves a walk.
 ghost use Rattle.std.specs.Prelude.{◌≡◌, []};
 ghost use Rattle.cc_counted.specs.Owning.{AreOwned};
 
@@ -11,6 +11,14 @@ use std::alloc::Global;
 fn is_unlinked(natives: &Counted, key: NKey) -> bool {
     match natives.number(key) {
         Some(_) => natives.unlinked(key),
+        None => false,
+    }
+}
+
+/// Whether a native stands at a key, and is in the walk.
+fn is_walked(natives: &Counted, key: NKey) -> bool {
+    match natives.number(key) {
+        Some(_) => natives.walked(key),
         None => false,
     }
 }
@@ -39,4 +47,35 @@ fn new_native_unlinks(alloc: Global) -> bool {
 #[test]
 fn unlinked_native_is_known(rt: HostRuntime) {
     assert!(rt; new_native_unlinks(rt.alloc()));
+}
+
+/// Of two natives that wait in a walk one is released: whether the other alone is given, once, and is out of it in the end.
+fn walks(natives: &mut Counted, out: &mut Counter) -> bool
+    requires first { AreOwned [] natives.old }
+    requires empty { natives.old.natives ≡ [] }
+{
+    let Ok(kept) = natives.create(NativeNo(1), 0) else {
+        return false;
+    };
+    let Ok(released) = natives.create(NativeNo(2), 0) else {
+        return false;
+    };
+    natives.walk_add(kept);
+    natives.walk_add(released);
+    natives.release(released, out);
+    let given = is_walked(natives, kept) & (natives.walk_next() == Some(kept));
+    let none = natives.walk_next().is_none();
+    natives.walk_clear();
+    given & none & !is_walked(natives, kept)
+}
+
+fn new_natives_are_walked(alloc: Global) -> bool {
+    let mut natives = Counted::new(alloc);
+    let mut out = Counter::new();
+    walks(&mut natives, &mut out)
+}
+
+#[test]
+fn a_walk_does_not_give_a_native_that_is_gone(rt: HostRuntime) {
+    assert!(rt; new_natives_are_walked(rt.alloc()));
 }
