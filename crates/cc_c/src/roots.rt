@@ -85,7 +85,7 @@ pub extern "C" fn cc_native_root(
     };
     let answer = session.native_root(r as RegNo);
     *c = Collector::of(session);
-    if r >= NUMBERED_ROOTS {
+    if r as RegNo >= NUMBERED_ROOTS {
         return INDEX;
     }
     *held = show_any(answer);
@@ -113,7 +113,7 @@ pub extern "C" fn cc_script_root(
     };
     let answer = session.script_root(r as RegNo);
     *c = Collector::of(session);
-    if r >= NUMBERED_ROOTS {
+    if r as RegNo >= NUMBERED_ROOTS {
         return INDEX;
     }
     *held = show_any(answer);
