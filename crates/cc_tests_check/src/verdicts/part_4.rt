@@ -5,7 +5,7 @@
 use crate::example::{Example, are_judged};
 use cc_check::Verdict;
 
-const EXAMPLES: [Example; 14] = [
+const EXAMPLES: [Example; 20] = [
     // A reflector that is listed takes no memory.
     Example {
         name: "wrap_refused_memory",
@@ -159,6 +159,72 @@ const EXAMPLES: [Example; 14] = [
         transcript: b"= #1\n= ok\n= ok\n- free #1\n- unlink #1\n= ok\n",
         verdict: Verdict::Unlawful,
         told: b"line 5, answer to line 4 (collect): #1 is unlinked, but it is not there any more, or never was\n",
+    },
+    // A transcript that leaves out the answer to the only command is wrong.
+    Example {
+        name: "missing_answer",
+        natives: 1000000,
+        scripts: 1000000,
+        bytes: 4294967295,
+        script: b"drop n0\n",
+        transcript: b"",
+        verdict: Verdict::Unlawful,
+        told: b"end: a lawful transcript goes on\n",
+    },
+    // Names are listed by a census alone.
+    Example {
+        name: "names_listed_by_a_drop",
+        natives: 1000000,
+        scripts: 1000000,
+        bytes: 4294967295,
+        script: b"native n0 0\ndrop n0\n",
+        transcript: b"= #1\n+ #1\n= ok\n",
+        verdict: Verdict::Unlawful,
+        told: b"line 2, answer to line 2 (drop n0): the reply is = ok\n",
+    },
+    // A line of more than 120 bytes is answered as a long one, and not as one outside the grammar.
+    Example {
+        name: "long_line_called_bad",
+        natives: 1000000,
+        scripts: 1000000,
+        bytes: 4294967295,
+        script: b"aaaaaaaaaaaaaaaaaaaaaaaaaaaaaaaaaaaaaaaaaaaaaaaaaaaaaaaaaaaaaaaaaaaaaaaaaaaaaaaaaaaaaaaaaaaaaaaaaaaaaaaaaaaaaaaaaaaaaaaaa\n",
+        transcript: b"! line\n",
+        verdict: Verdict::Unlawful,
+        told: b"line 1, answer to line 1: the answer ends here: ! long\n",
+    },
+    // A line that is not in the grammar is answered as such, and not as a long one.
+    Example {
+        name: "bad_line_called_long",
+        natives: 1000000,
+        scripts: 1000000,
+        bytes: 4294967295,
+        script: b"dorp n0\n",
+        transcript: b"! long\n",
+        verdict: Verdict::Unlawful,
+        told: b"line 1, answer to line 1 (dorp n0): the answer ends here: ! line\n",
+    },
+    // A line of more than 120 bytes has no events.
+    Example {
+        name: "event_under_a_long_line",
+        natives: 1000000,
+        scripts: 1000000,
+        bytes: 4294967295,
+        script: b"aaaaaaaaaaaaaaaaaaaaaaaaaaaaaaaaaaaaaaaaaaaaaaaaaaaaaaaaaaaaaaaaaaaaaaaaaaaaaaaaaaaaaaaaaaaaaaaaaaaaaaaaaaaaaaaaaaaaaaaaa\n",
+        transcript: b"- abandon\n! long\n",
+        verdict: Verdict::Unlawful,
+        told: b"line 1, answer to line 1: the answer ends here: ! long\n",
+    },
+    // A line that is not in the grammar has no events.
+    Example {
+        name: "event_under_a_bad_line",
+        natives: 1000000,
+        scripts: 1000000,
+        bytes: 4294967295,
+        script: b"dorp n0\n",
+        transcript: b"- abandon\n! line\n",
+        verdict: Verdict::Unlawful,
+        told: b"line 1, answer to line 1 (dorp n0): the answer ends here: ! line\n",
     },
 ];
 
