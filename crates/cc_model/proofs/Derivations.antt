@@ -11,7 +11,7 @@ use Rattle.cc_lists.proofs.Counting.{count_by-below, count_by-some, counted_is, 
 use Rattle.cc_lists.proofs.CountsOf.{false-left, count_by-agree}
 use Rattle.cc_names.specs.declared.name.Name.{Name}
 use Rattle.cc_names.specs.declared.register.Reg.{Reg}
-use Rattle.cc_names.specs.declared.register.Reg.TheVariants.{N, S}
+use Rattle.cc_names.specs.declared.register.Reg.TheVariants.{N, S, W}
 use Rattle.cc_names.specs.Names.{same_name}
 use Rattle.cc_names.proofs.NameTests.{same_name-true, same_name-refl, same_name-exact}
 use Rattle.cc_model.specs.declared.item.Reason.{Reason}
@@ -26,6 +26,7 @@ use Rattle.cc_model.specs.Derivations.{Leads, Walk, named, steps_of, is_found, w
 abbrev pub IsHeldBy : Leads → Reg → Name → Type 0
 IsHeldBy l (N k) x = slice_index_or l.native_registers k None ≡ Some x
 IsHeldBy l (S k) x = slice_index_or l.script_registers k None ≡ Some x
+IsHeldBy l (W k) x = ⊥
 
 -- THAT A STEP FOLLOWS from others
 abbrev pub Follows : Leads → List Step → Name → Reason → Type 0
@@ -245,6 +246,7 @@ HasNamesOf names ss = (x : Name) → Among x (named ss) → Among x names
 pub named-within : (l : Leads) (names : List Name) → AreWithin l names → (ss : List Step) (x : Name) (r : Reason) → Follows l ss x r → Among x names
 named-within l names within ss x (Root (N k)) f = within.natives x (content-at x l.native_registers k f)
 named-within l names within ss x (Root (S k)) f = within.scripts x (content-at x l.script_registers k f)
+named-within l names within ss x (Root (W k)) f = absurd f
 named-within l names within ss x (Edge y) f = within.places y x f.1
 named-within l names within ss x (Pair m k) f = within.joined (record { the_map = m; key = k; value = x }) f.2
 
