@@ -11,7 +11,7 @@ use Rattle.cc_lists.proofs.Counting.{count_by-below, count_by-some, counted_is, 
 use Rattle.cc_lists.proofs.CountsOf.{false-left, count_by-agree}
 use Rattle.cc_names.specs.declared.name.Name.{Name}
 use Rattle.cc_names.specs.declared.register.Reg.{Reg}
-use Rattle.cc_names.specs.declared.register.Reg.TheVariants.{N, S}
+use Rattle.cc_names.specs.declared.register.Reg.TheVariants.{N, S, W}
 use Rattle.cc_names.specs.Names.{same_name}
 use Rattle.cc_names.proofs.NameTests.{same_name-true, same_name-refl, same_name-exact}
 use Rattle.cc_model.specs.declared.item.Reason.{Reason}
@@ -20,12 +20,13 @@ use Rattle.cc_model.specs.Answers.{Step}
 use Rattle.cc_model.specs.Slots.{Slots, contents}
 use Rattle.cc_model.specs.Entries.{Entry, Joint, joints_of, joints}
 use Rattle.cc_model.proofs.Reaching.{content-at}
-use Rattle.cc_model.specs.Derivations.{Leads, Walk, named, steps_of, is_found, with_step, with_bank, nothing_found, rooted, with_edges, with_joint, with_joints, is_member, with_entries, with_object, walked_first, walk, derivation, grounds, with_needed, needed_for, path_to, is_led_to}
+use Rattle.cc_model.specs.Derivations.{Leads, AreWithin, Walk, named, steps_of, is_found, with_step, with_bank, nothing_found, rooted, with_edges, with_joint, with_joints, is_member, with_entries, with_object, walked_first, walk, derivation, grounds, with_needed, needed_for, path_to, is_led_to}
 
 -- what holds a name in a register
 abbrev pub IsHeldBy : Leads → Reg → Name → Type 0
 IsHeldBy l (N k) x = slice_index_or l.native_registers k None ≡ Some x
 IsHeldBy l (S k) x = slice_index_or l.script_registers k None ≡ Some x
+IsHeldBy l (W k) x = ⊥
 
 -- THAT A STEP FOLLOWS from others
 abbrev pub Follows : Leads → List Step → Name → Reason → Type 0
@@ -230,14 +231,6 @@ needed-front (s ∷ front) more x e = ap (with_needed s) (needed-front front mor
 
 -- THE WALK ENDS
 
--- which names the steps can have
-pub record AreWithin (l : Leads) (names : List Name) : Type 0 where
-  pub natives : (x : Name) → Among x (contents l.native_registers) → Among x names
-  pub scripts : (x : Name) → Among x (contents l.script_registers) → Among x names
-  pub places : (y x : Name) → Among x (contents (l.places y)) → Among x names
-  pub joined : (j : Joint) → Among j (joints l.entries) → Among j.value names
-  pub enough : length names ≤ l.objects
-
 -- each name is one of them
 abbrev pub HasNamesOf : List Name → List Step → Type 0
 HasNamesOf names ss = (x : Name) → Among x (named ss) → Among x names
@@ -245,6 +238,7 @@ HasNamesOf names ss = (x : Name) → Among x (named ss) → Among x names
 pub named-within : (l : Leads) (names : List Name) → AreWithin l names → (ss : List Step) (x : Name) (r : Reason) → Follows l ss x r → Among x names
 named-within l names within ss x (Root (N k)) f = within.natives x (content-at x l.native_registers k f)
 named-within l names within ss x (Root (S k)) f = within.scripts x (content-at x l.script_registers k f)
+named-within l names within ss x (Root (W k)) f = absurd f
 named-within l names within ss x (Edge y) f = within.places y x f.1
 named-within l names within ss x (Pair m k) f = within.joined (record { the_map = m; key = k; value = x }) f.2
 

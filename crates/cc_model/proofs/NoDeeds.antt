@@ -1,11 +1,11 @@
--- A COMMAND THAT DOES NO DEED is in range, passes its checks, takes no memory as a deed, and leaves the graph and the listed names.
+-- A COMMAND THAT DOES NO DEED passes its checks, takes no memory as a deed, and leaves the graph and the listed names.
 use Rattle.std.proofs.Common.{◌≡◌, true, false, List, Option, None, ◌∙◌, ap, arith}
 use Rattle.cc_names.specs.declared.name.Name.{Name}
 use Rattle.cc_model.specs.declared.command.Command.{Command}
 use Rattle.cc_model.specs.declared.item.Reply.{Reply}
 use Rattle.cc_model.specs.declared.item.Reply.TheVariants.{Done}
 use Rattle.cc_model.specs.Ranges.{in_range}
-use Rattle.cc_model.specs.Mutating.{is_deed, class_of}
+use Rattle.cc_model.specs.Mutating.{is_deed, is_units, class_of}
 use Rattle.cc_model.specs.Checks.{Objects, refusal_of, reply_if_taken, refused_or, reply_of}
 use Rattle.cc_model.specs.Deeds.{nothing_done, deed_of}
 use Rattle.cc_model.specs.Graph.{Graph, objects_of, done_to, changed, unless_refused, step}
@@ -14,11 +14,11 @@ use Rattle.cc_model.specs.Effects.{takes_memory}
 use Rattle.cc_model.specs.Listed.{after_reply}
 use Rattle.cc_model.specs.Lawful.{graph_after}
 
-module _ (c : Command) (none : is_deed (class_of c) ≡ false) where
-  -- it names no register that is out of range
-  pub no_deed-in_range : in_range c ≡ true
-  no_deed-in_range = grind arith
+-- a command that runs units of a collection is in range
+pub units-in_range : (c : Command) → is_units (class_of c) ≡ true → in_range c ≡ true
+units-in_range c e = grind arith
 
+module _ (c : Command) (none : is_deed (class_of c) ≡ false) where
   -- no check refuses it
   pub no_deed-allowed : (o : Objects) → refusal_of o c ≡ None
   unfolding refusal_of

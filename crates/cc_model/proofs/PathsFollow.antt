@@ -7,7 +7,7 @@ use Rattle.cc_lists.specs.Members.{Among, has}
 use Rattle.cc_lists.proofs.Members.{Among-left, Among-right, Among-append, has-there, has-among}
 use Rattle.cc_lists.proofs.Counting.{count_by-cons}
 use Rattle.cc_names.specs.declared.name.Name.{Name}
-use Rattle.cc_names.specs.declared.register.Reg.TheVariants.{N, S}
+use Rattle.cc_names.specs.declared.register.Reg.TheVariants.{N, S, W}
 use Rattle.cc_names.specs.Names.{same_name}
 use Rattle.cc_names.proofs.NameTests.{same_name-exact}
 use Rattle.cc_model.specs.declared.item.Reason.{Reason}
@@ -112,6 +112,7 @@ needed-last (s ∷ ss) x m = go (needed-last ss x) (has same_name (named ss) x) 
 graph-follows : (g : Graph) (before : List Step) (x : Name) (r : Reason) → Follows (leads_made g) before x r → paths.Follows g before x r
 graph-follows g before x (Root (N k)) f = held (N k) x f
 graph-follows g before x (Root (S k)) f = held (S k) x f
+graph-follows g before x (Root (W k)) f = absurd f
 graph-follows g before x (Edge y) f = edge y x (has-among same_name same_name-exact (named before) y f.0) f.1
 graph-follows g before x (Pair m k) f =
     let j : Joint = record { the_map = m; key = k; value = x } in

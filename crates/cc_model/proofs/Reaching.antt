@@ -11,7 +11,7 @@ use Rattle.cc_lists.proofs.Least.{derive-root, derive-along}
 use Rattle.cc_names.specs.declared.name.Name.{Name}
 use Rattle.cc_names.specs.declared.name.Name.TheVariants.{Native, Script, Reflector}
 use Rattle.cc_names.specs.declared.register.Reg.{Reg}
-use Rattle.cc_names.specs.declared.register.Reg.TheVariants.{N, S}
+use Rattle.cc_names.specs.declared.register.Reg.TheVariants.{N, S, W}
 use Rattle.cc_names.specs.Names.{native, object, reflector, same_name}
 use Rattle.cc_names.proofs.NameTests.{same_name-exact}
 use Rattle.cc_model.specs.Slots.{Slots, contents, from_to}
@@ -83,6 +83,7 @@ with-edge-named g (Reflector k) y m = go (native_in g k.0) refl m
 root-among : (g : Graph) (r : Reg) (x : Name) → register g r ≡ Some x → Among x (roots_of g)
 root-among g (N r) x e = Among-left x (contents g.native_registers) (contents g.script_registers) (content-at x g.native_registers r e)
 root-among g (S r) x e = Among-right x (contents g.native_registers) (contents g.script_registers) (content-at x g.script_registers r e)
+root-among g (W r) x e = absurd (content-at x [] r e)
 
 -- what is reached is derived
 pub reached-derived : (g : Graph) (x : Name) → Reached g x → Least (reach_rules g) x

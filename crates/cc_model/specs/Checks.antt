@@ -8,7 +8,7 @@ use Rattle.cc_names.specs.declared.register.Reg.{Reg}
 use Rattle.cc_names.specs.declared.register.Reg.TheVariants.{N, S}
 use Rattle.cc_names.specs.Names.{native, object, reflector, is_native, is_script, is_reflector}
 use Rattle.cc_model.specs.declared.command.Command.{Command}
-use Rattle.cc_model.specs.declared.command.Command.TheVariants.{Native, Script, WeakMap, Proxy, CopyNative, CopyScript, Set, Get, Move, Put, Take, Wrap, Unwrap, Preserve, SetEntry, GetEntry, Expose}
+use Rattle.cc_model.specs.declared.command.Command.TheVariants.{Native, Script, WeakMap, Proxy, CopyNative, CopyScript, Set, Get, Move, Put, Take, Wrap, Unwrap, Preserve, SetEntry, GetEntry, Expose, Weak}
 use Rattle.cc_model.specs.declared.item.Refusal.{Refusal}
 use Rattle.cc_model.specs.declared.item.Refusal.TheVariants.{Empty, Kind, Slot, Full}
 use Rattle.cc_model.specs.declared.item.Reply.{Reply}
@@ -76,6 +76,7 @@ needed (Preserve s) = S s ∷ []
 needed (SetEntry m k v) = S m ∷ S k ∷ map S (option_to_list v)
 needed (GetEntry d m k) = S m ∷ S k ∷ []
 needed (Expose s i) = N s ∷ []
+needed (Weak w s) = N s ∷ []
 needed _ = []
 
 abbrev pub lacks_object : Objects → Command → Bool
@@ -172,6 +173,7 @@ reply_if_taken o (Wrap d s) = named_or_nothing (reflector_of (o.register (N s)))
 reply_if_taken o (Unwrap d s) = named_or_nothing (native_of (o.register (S s)))
 reply_if_taken o (GetEntry d m k) = named_or_nothing (value_at o (o.register (S m)) (o.register (S k)))
 reply_if_taken o (Expose s i) = named_or_nothing (slot_at o (N s) i)
+reply_if_taken o (Weak w s) = named_or_nothing (o.register (N s))
 reply_if_taken o _ = Done
 
 abbrev pub refused_or : Option Refusal → Reply → Reply

@@ -1,25 +1,33 @@
--- Slices, whole collections, and `gc`.
+-- Slices, whole collections, `gc`, and script markings.
 use Rattle.std.specs.Prelude.{ℕ, zero, suc, ◌+◌, Bool, true, false, List, [], ◌∷◌, ◌++◌, length, Option, Some, None, is_some}
 use Rattle.cc_names.specs.Allowance.{Allowance}
+use Rattle.cc_names.specs.Sizes.{weak_length}
 use Rattle.cc_model.specs.declared.item.Event.{Event}
 use Rattle.cc_model.specs.declared.item.Refusal.TheVariants.{NoMemory}
 use Rattle.cc_model.specs.declared.item.Reply.{Reply}
 use Rattle.cc_model.specs.declared.item.Reply.TheVariants.{Done, Refused}
+use Rattle.cc_model.specs.Mutating.{Running, so_many, whole}
+use Rattle.cc_model.specs.Slots.{Slots, empty_slots}
 use Rattle.cc_model.specs.Heap.{Heap, Outcome, empty_heap}
 use Rattle.cc_model.specs.View.{view}
 use Rattle.cc_model.specs.Sweep.{collect_scripts}
+use Rattle.cc_model.specs.Marking.{NewMarks, begun_marks, is_scanned, scanned, ended_marks}
 use Rattle.cc_model.specs.Snapshot.{Snapshot}
 use Rattle.cc_model.specs.Units.{first_names}
 use Rattle.cc_model.specs.End.{Progress, went_on, at_end, refused, UnitDone, unit, may_be_refused}
 
--- the heaps, the running collection, and the answers of memory that are left
+-- the heaps, what weak registers note, the script marking that goes on, the running collection, and the answers of memory that
+-- are left
 pub record Machine : Type 0 where
   pub heap : Heap
+  pub weak : Slots
+  pub marking : Option NewMarks
   pub snapshot : Option Snapshot
   pub memory : List Bool
 
+-- with empty weak registers, where no marking goes on
 abbrev pub machine_at : Heap → Option Snapshot → List Bool → Machine
-machine_at h s memory = record { heap = h; snapshot = s; memory = memory }
+machine_at h s memory = record { heap = h; weak = empty_slots weak_length; marking = None; snapshot = s; memory = memory }
 
 abbrev pub empty_machine : Allowance → List Bool → Machine
 empty_machine limits memory = machine_at (empty_heap limits) None memory
@@ -111,6 +119,35 @@ then_scripts d = with_outcome d (collect_scripts d.machine.heap)
 -- GC: a running collection is ended first; where that is refused memory, it is abandoned, and gc goes on
 unfoldable pub gc : Machine → UnitsDone
 gc m = then_scripts (finish_running m)
+
+-- MARK: a running collection is ended first, as `gc` does; then a marking begins where none goes on, and no second one does
+
+-- one unit of it: it begins, or one object is scanned, or it ends where none is left to scan
+abbrev pub one_marked : Machine → List Event → UnitsDone
+one_marked m events = elim m.marking [
+  | None ↦ units_came (record m { marking = Some (begun_marks m.heap) }) events went_on
+  | Some marks ↦ elim (is_scanned marks) [
+    | true ↦ with_outcome (units_came (record m { marking = None }) events at_end) (ended_marks m.heap marks)
+    | false ↦ units_came (record m { marking = Some (scanned m.heap marks) }) events went_on
+  ]
+]
+
+-- n units, or fewer where one ends the marking
+abbrev pub units_marked : ℕ → UnitsDone → UnitsDone
+units_marked zero d = d
+units_marked (suc n) d = elim d.progress [
+  | went_on ↦ units_marked n (one_marked d.machine d.events)
+  | at_end ↦ d
+  | refused ↦ d
+]
+
+unfoldable pub mark : ℕ → Machine → UnitsDone
+mark n m = units_marked n (starting_anew (finish_running m))
+
+-- script objects collected at once, or in so many units of a marking
+abbrev pub run_scripts : Machine → Running → UnitsDone
+run_scripts m whole = gc m
+run_scripts m (so_many n) = mark n m
 
 -- the reply to a slice and to a collection
 abbrev pub reply_to_units : Progress → Reply

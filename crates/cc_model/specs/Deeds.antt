@@ -3,9 +3,9 @@
 use Rattle.std.specs.Prelude.{ℕ, Option, None, option_map, option_and_then}
 use Rattle.cc_names.specs.declared.name.Name.{Name}
 use Rattle.cc_names.specs.declared.register.Reg.{Reg}
-use Rattle.cc_names.specs.declared.register.Reg.TheVariants.{N, S}
+use Rattle.cc_names.specs.declared.register.Reg.TheVariants.{N, S, W}
 use Rattle.cc_model.specs.declared.command.Command.{Command}
-use Rattle.cc_model.specs.declared.command.Command.TheVariants.{Native, Script, WeakMap, Proxy, CopyNative, CopyScript, Drop, Set, Get, Move, Put, Take, Wrap, Unwrap, Preserve, SetEntry, GetEntry, Expose}
+use Rattle.cc_model.specs.declared.command.Command.TheVariants.{Native, Script, WeakMap, Proxy, CopyNative, CopyScript, Drop, Set, Get, Move, Put, Take, Wrap, Unwrap, Preserve, SetEntry, GetEntry, Expose, Weak}
 use Rattle.cc_model.specs.Checks.{Objects, slot_at, value_at, native_of}
 
 -- What is held, written or read is an object, or nothing. d and s are registers, i and j are slots.
@@ -37,6 +37,8 @@ pub data Deed : Type 0 where
   entry_written : (m k v : Option Name) → Deed
   -- x is exposed
   object_exposed : (x : Option Name) → Deed
+  -- weak register w notes x from now on, or nothing
+  weak_written : (w : ℕ) (x : Option Name) → Deed
 
 -- what a source gives to a slot
 abbrev pub source_of : Objects → Option Reg → Option Name
@@ -52,6 +54,7 @@ deed_of o (CopyNative d s) = native_held d (o.register (N s))
 deed_of o (CopyScript d s) = script_copied d (o.register (S s))
 deed_of o (Drop (N d)) = native_held d None
 deed_of o (Drop (S d)) = script_copied d None
+deed_of o (Drop (W w)) = weak_written w None
 deed_of o (Set d i r) = native_stored d i (source_of o r)
 deed_of o (Get (N d) s i) = native_held d (slot_at o (N s) i)
 deed_of o (Get (S d) s i) = script_held d (slot_at o (N s) i)
@@ -64,4 +67,5 @@ deed_of o (Preserve s) = reflector_preserved (o.register (S s))
 deed_of o (SetEntry m k v) = entry_written (o.register (S m)) (o.register (S k)) (source_of o (option_map S v))
 deed_of o (GetEntry d m k) = script_held d (value_at o (o.register (S m)) (o.register (S k)))
 deed_of o (Expose s i) = object_exposed (slot_at o (N s) i)
+deed_of o (Weak w s) = weak_written w (o.register (N s))
 deed_of o _ = nothing_done

@@ -3,7 +3,7 @@ use Rattle.std.specs.Prelude.{ℕ, ◌+◌, Bool, true, false, not, [], ◌∷�
 use Rattle.cc_names.specs.declared.name.Name.{Name}
 use Rattle.cc_names.specs.declared.name.Name.TheVariants as name
 use Rattle.cc_names.specs.declared.register.Reg.{Reg}
-use Rattle.cc_names.specs.declared.register.Reg.TheVariants.{N, S}
+use Rattle.cc_names.specs.declared.register.Reg.TheVariants.{N, S, W}
 use Rattle.cc_names.specs.declared.kind.Kind.{Kind}
 use Rattle.cc_names.specs.declared.kind.Kind.TheVariants.{Plain, Reflector, Map, Proxy as proxy_kind}
 use Rattle.cc_names.specs.Names.{native, object, reflector}
@@ -13,7 +13,7 @@ use Rattle.cc_model.specs.Banks.{of_natives, of_scripts}
 use Rattle.cc_model.specs.Slots.{reflector_slots}
 use Rattle.cc_model.specs.Entries.{with_entry, without_entry}
 use Rattle.cc_model.specs.Checks.{slot_at, value_at, reflector_of}
-use Rattle.cc_model.specs.Deeds.{Deed, nothing_done, native_made, plain_made, map_made, proxy_made, native_held, script_held, script_copied, native_stored, slot_moved, script_stored, reflector_held, reflector_preserved, entry_written, object_exposed, deed_of}
+use Rattle.cc_model.specs.Deeds.{Deed, nothing_done, native_made, plain_made, map_made, proxy_made, native_held, script_held, script_copied, native_stored, slot_moved, script_stored, reflector_held, reflector_preserved, entry_written, object_exposed, weak_written, deed_of}
 use Rattle.cc_model.specs.Heap.{Heap, Outcome, silently, new_script, native_to_make, register, objects_of, delegate_at, has_reflector, set_register, lengthen, set_slot, preserve, touch}
 use Rattle.cc_model.specs.Cascade.{add_ref, take_up, let_go}
 use Rattle.cc_model.specs.Exposure.{exposed}
@@ -58,6 +58,7 @@ hold_script h d x = set_register (exposed h x) (S d) x
 abbrev pub root_at : Heap → Reg → Option Name → Outcome
 root_at h (N d) x = hold_native (lengthen h of_natives (d + 1)) d x
 root_at h (S d) x = silently (hold_script (lengthen h of_scripts (d + 1)) d x)
+root_at h (W d) x = silently h
 
 -- a native with the next number, count 1, in the buffer without the purple mark
 abbrev pub with_native : Heap → ℕ → Heap
@@ -126,6 +127,7 @@ done_in h (reflector_held d x) = silently (set_register (wrapped h x) (S d) (ref
 done_in h (reflector_preserved x) = silently (preserve h x)
 done_in h (entry_written m k v) = silently (set_entry h m k v)
 done_in h (object_exposed x) = silently (exposed h x)
+done_in h (weak_written w x) = silently h
 
 -- THE EFFECTS of a command that passes its checks and has its memory
 unfoldable pub effects : Heap → Command → Outcome

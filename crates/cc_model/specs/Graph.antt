@@ -6,15 +6,15 @@ use Rattle.cc_names.specs.declared.name.Name.TheVariants as name
 use Rattle.cc_names.specs.declared.register.Reg.{Reg}
 use Rattle.cc_names.specs.declared.register.Reg.TheVariants.{N, S}
 use Rattle.cc_names.specs.Names.{native, object}
-use Rattle.cc_names.specs.Sizes.{bank_length}
+use Rattle.cc_names.specs.Sizes.{bank_length, weak_length}
 use Rattle.cc_model.specs.declared.command.Command.{Command}
 use Rattle.cc_model.specs.declared.item.Refusal.{Refusal}
 use Rattle.cc_model.specs.declared.item.Reply.{Reply}
-use Rattle.cc_model.specs.Banks.{Bank, of_natives, of_scripts, bank_of, place_in_bank}
+use Rattle.cc_model.specs.Banks.{Bank, of_natives, of_scripts, of_weak, bank_of, place_in_bank}
 use Rattle.cc_model.specs.Slots.{Slots, empty_slots, lengthened, reflector_slots}
 use Rattle.cc_model.specs.Entries.{Entry, value_in, with_entry, without_entry}
 use Rattle.cc_model.specs.Checks.{Objects, slot_at, reflector_of, refusal_of, reply_of}
-use Rattle.cc_model.specs.Deeds.{Deed, nothing_done, native_made, plain_made, map_made, proxy_made, native_held, script_held, script_copied, native_stored, slot_moved, script_stored, reflector_held, reflector_preserved, entry_written, object_exposed, deed_of}
+use Rattle.cc_model.specs.Deeds.{Deed, nothing_done, native_made, plain_made, map_made, proxy_made, native_held, script_held, script_copied, native_stored, slot_moved, script_stored, reflector_held, reflector_preserved, entry_written, object_exposed, weak_written, deed_of}
 
 -- a native: its slots, whether its reflector is preserved, and its reflector's slots, where it was ever wrapped
 pub record GraphNative : Type 0 where
@@ -33,10 +33,12 @@ pub data GraphScript : Type 0 where
   -- with its delegate
   proxy : Name → GraphScript
 
--- THE GRAPH. Native k, and script object k, stand at place k - 1. There is a bank of registers of each kind.
+-- THE GRAPH. Native k, and script object k, stand at place k - 1. There is a bank of registers of each kind. What weak registers
+-- note is kept beside them: it is no root.
 pub record Graph : Type 0 where
   pub native_registers : Slots
   pub script_registers : Slots
+  pub weak_registers : Slots
   pub natives : List GraphNative
   pub scripts : List GraphScript
   pub entries : List Entry
@@ -46,6 +48,7 @@ abbrev pub empty_graph : Allowance → Graph
 empty_graph limits = record {
   native_registers = empty_slots bank_length;
   script_registers = empty_slots bank_length;
+  weak_registers = empty_slots weak_length;
   natives = [];
   scripts = [];
   entries = [];
@@ -57,6 +60,7 @@ empty_graph limits = record {
 abbrev pub bank : Graph → Bank → Slots
 bank g of_natives = g.native_registers
 bank g of_scripts = g.script_registers
+bank g of_weak = []
 
 abbrev pub register : Graph → Reg → Option Name
 register g r = slice_index_or (bank g (bank_of r)) (place_in_bank r) None
@@ -114,9 +118,14 @@ source g r = option_and_then (register g) r
 abbrev pub with_bank : Graph → Bank → Slots → Graph
 with_bank g of_natives slots = record g { native_registers = slots }
 with_bank g of_scripts slots = record g { script_registers = slots }
+with_bank g of_weak slots = g
 
 abbrev pub set_register : Graph → Reg → Option Name → Graph
 set_register g r x = with_bank g (bank_of r) (slice_set (bank g (bank_of r)) (place_in_bank r) x)
+
+-- weak register w notes x
+abbrev pub set_weak : Graph → ℕ → Option Name → Graph
+set_weak g w x = record g { weak_registers = slice_set g.weak_registers w x }
 
 -- A BANK WITH n REGISTERS AT LEAST: those that come are empty. No command does this.
 abbrev pub lengthen : Graph → Bank → ℕ → Graph
@@ -222,6 +231,7 @@ done_to g (reflector_held d x) = set_register (wrapped g x) (S d) (reflector_of 
 done_to g (reflector_preserved x) = preserve g x
 done_to g (entry_written m k v) = set_entry g m k v
 done_to g (object_exposed x) = g
+done_to g (weak_written w x) = set_weak g w x
 
 -- what a command that is not refused makes of the graph
 unfoldable pub changed : Graph → Command → Graph

@@ -11,7 +11,7 @@ use Rattle.cc_names.specs.declared.kind.Colour.TheVariants.{White, Gray, Black}
 use Rattle.cc_names.specs.Names.{object, reflector, same_name}
 use Rattle.cc_names.specs.Sizes.{bank_length}
 use Rattle.cc_model.specs.declared.item.Event.{Event}
-use Rattle.cc_model.specs.Banks.{Bank, of_natives, of_scripts, bank_of, place_in_bank}
+use Rattle.cc_model.specs.Banks.{Bank, of_natives, of_scripts, of_weak, bank_of, place_in_bank}
 use Rattle.cc_model.specs.Slots.{Slots, empty_slots, lengthened}
 use Rattle.cc_model.specs.Entries.{Entry, value_in}
 use Rattle.cc_model.specs.Checks.{Objects}
@@ -96,9 +96,11 @@ after events o = record o { events = events ++ o.events }
 
 -- Reading
 
+-- weak registers hold nothing here: what they note stands beside the heaps
 abbrev pub bank : Heap → Bank → Slots
 bank h of_natives = h.native_registers
 bank h of_scripts = h.script_registers
+bank h of_weak = []
 
 abbrev pub register : Heap → Reg → Option Name
 register h r = slice_index_or (bank h (bank_of r)) (place_in_bank r) None
@@ -171,6 +173,7 @@ source h r = option_and_then (register h) r
 abbrev pub with_bank : Heap → Bank → Slots → Heap
 with_bank h of_natives slots = record h { native_registers = slots }
 with_bank h of_scripts slots = record h { script_registers = slots }
+with_bank h of_weak slots = h
 
 abbrev pub set_register : Heap → Reg → Option Name → Heap
 set_register h r x = with_bank h (bank_of r) (slice_set (bank h (bank_of r)) (place_in_bank r) x)

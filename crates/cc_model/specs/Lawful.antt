@@ -14,23 +14,24 @@ use Rattle.cc_model.specs.declared.item.Event.{Event}
 use Rattle.cc_model.specs.declared.item.Event.TheVariants.{Unlinked, Freed, Abandoned}
 use Rattle.cc_model.specs.Answers.{Answer, no_answer, replying, listing}
 use Rattle.cc_model.specs.Asks.{Ask, long, bad, taken}
-use Rattle.cc_model.specs.Mutating.{takes_memory_to_say, silence, path, census, whole, Class, says, does, runs as runs_some, collects_scripts, class_of, is_units, is_script_collection}
+use Rattle.cc_model.specs.Mutating.{takes_memory_to_say, silence, path, census, whole, Class, says, does, forgets, reads_weak, runs as runs_some, collects_scripts, class_of, is_units, is_script_collection}
 use Rattle.cc_model.specs.Checks.{refusal_of, value_at, reflector_of}
 use Rattle.cc_model.specs.Graph.{Graph, empty_graph, register, objects_of, step, reply_to}
 use Rattle.cc_model.specs.Reached.{Reached}
 use Rattle.cc_model.specs.Derivations.{leads_made, why_of}
-use Rattle.cc_model.specs.Listed.{listed, after_event, census_order}
+use Rattle.cc_model.specs.Listed.{listed, after_event, census_order, ended_after}
 
--- the graph so far, and the names that a census would list
+-- the graph so far, the names that a census would list, and those that have ended: an unlink or a free line had them
 pub record State : Type 0 where
   pub graph : Graph
   pub listed : List Name
+  pub ended : List Name
 
-abbrev pub state_of : Graph → List Name → State
-state_of g names = record { graph = g; listed = names }
+abbrev pub state_of : Graph → List Name → List Name → State
+state_of g names ended = record { graph = g; listed = names; ended = ended }
 
 abbrev pub start : Allowance → State
-start limits = state_of (empty_graph limits) []
+start limits = state_of (empty_graph limits) [] []
 
 abbrev pub is_without_memory : Reply → Bool
 is_without_memory (Refused NoMemory) = true
@@ -44,7 +45,7 @@ graph_after g c (Some reply) = elim (is_without_memory reply) [ true ↦ g | fal
 abbrev pub next : State → Ask → Answer → State
 next s long a = s
 next s bad a = s
-next s (taken c) a = state_of (graph_after s.graph c a.reply) (listed s.listed c a.events a.reply)
+next s (taken c) a = state_of (graph_after s.graph c a.reply) (listed s.listed c a.events a.reply) (ended_after s.ended a.events)
 
 -- The first clause: the reply
 
@@ -65,8 +66,10 @@ deed_may_want_memory s _ = false
 abbrev pub class_may_want_memory : State → Command → Class → Bool
 class_may_want_memory s c (says q) = takes_memory_to_say q
 class_may_want_memory s c does = deed_may_want_memory s c
+class_may_want_memory s c forgets = false
+class_may_want_memory s c (reads_weak d w) = false
 class_may_want_memory s c (runs_some u) = true
-class_may_want_memory s c collects_scripts = false
+class_may_want_memory s c (collects_scripts u) = false
 
 -- the commands that may want memory
 abbrev pub may_want_memory : State → Command → Bool
@@ -99,11 +102,11 @@ is_abandoning c reply = runs_units c && is_without_memory reply
 abbrev pub is_gc : Command → Bool
 is_gc c = is_script_collection (class_of c)
 
--- script objects are freed under `gc` alone
+-- script objects are freed under `gc` and `mark` alone
 abbrev pub may_free : Command → Name → Bool
 may_free c x = is_native x || is_gc c
 
--- natives are unlinked under `slice`, `collect` and `gc` alone
+-- natives are unlinked under `slice`, `collect`, `gc` and `mark` alone
 abbrev pub may_unlink : Command → Name → Bool
 may_unlink c x = is_native x && (runs_units c || is_gc c)
 
@@ -167,7 +170,7 @@ abbrev pub begins_with_at_most_one : List Event → Bool
 begins_with_at_most_one [] = true
 begins_with_at_most_one (e ∷ es) = has_none es
 
--- last under a collection that was refused memory, first under `gc`, nowhere else
+-- last under a collection that was refused memory, first under `gc` and `mark`, nowhere else
 abbrev pub has_abandonment_in_place : Command → Reply → List Event → Bool
 has_abandonment_in_place c reply es = elim (is_abandoning c reply) [
   | true ↦ ends_with_one es

@@ -32,6 +32,8 @@ pub mod Exposure
 pub mod Effects
 pub mod Colours
 pub mod Sweep
+pub mod Marking
+pub mod Skipping
 pub mod Snapshot
 pub mod Units
 pub mod End

@@ -1,4 +1,4 @@
--- The names that a census lists.
+-- The names that a census lists, and those that have ended.
 use Rattle.std.specs.Prelude.{List, [], ◌∷◌, ◌++◌, filter, Option, Some}
 use Rattle.cc_lists.specs.Members.{without, with_last}
 use Rattle.cc_names.specs.declared.name.Name.{Name}
@@ -23,6 +23,16 @@ after_event names Abandoned = names
 abbrev pub after_events : List Name → List Event → List Name
 after_events names [] = names
 after_events names (e ∷ es) = after_events (after_event names e) es
+
+-- THE ENDED NAMES after events: those that an unlink or a free line had, the last one first
+abbrev pub ended_with : List Name → Event → List Name
+ended_with names (Freed x) = x ∷ names
+ended_with names (Unlinked x) = x ∷ names
+ended_with names Abandoned = names
+
+abbrev pub ended_after : List Name → List Event → List Name
+ended_after names [] = names
+ended_after names (e ∷ es) = ended_after (ended_with names e) es
 
 -- what was made goes last; so does what `wrap` answered, where it is not there
 abbrev pub after_reply : List Name → Command → Option Reply → List Name

@@ -1,8 +1,9 @@
--- WHAT A COMMAND IS: it says something, does a deed, runs units of a collection, or collects script objects.
+-- WHAT A COMMAND IS: it says something, does a deed, forgets suspects, reads a weak register, runs units of a collection, or
+-- collects script objects.
 use Rattle.std.specs.Prelude.{ℕ, Bool, true, false}
 use Rattle.cc_names.specs.declared.name.Name.{Name}
 use Rattle.cc_model.specs.declared.command.Command.{Command}
-use Rattle.cc_model.specs.declared.command.Command.TheVariants.{Nothing, Version2, Why, Slice, Collect, Gc, Census}
+use Rattle.cc_model.specs.declared.command.Command.TheVariants.{Nothing, Version2, Forget, Deref, Why, Slice, Collect, Gc, Mark, Census}
 
 -- what is said, where all stays as it is
 pub data Saying : Type 0 where
@@ -20,7 +21,7 @@ takes_memory_to_say version = false
 takes_memory_to_say (path x) = true
 takes_memory_to_say census = false
 
--- units of collections: so many, or those of a whole one
+-- units of collections, or of script markings: so many, or those of a whole one
 pub data Running : Type 0 where
   so_many : ℕ → Running
   whole : Running
@@ -28,10 +29,13 @@ pub data Running : Type 0 where
 pub data Class : Type 0 where
   says : Saying → Class
   does : Class
+  forgets : Class
+  -- native register d holds what weak register w notes, where that has not ended
+  reads_weak : (d w : ℕ) → Class
   runs : Running → Class
-  collects_scripts : Class
+  collects_scripts : Running → Class
 
--- THE CLASS OF A COMMAND: all but seven words do a deed
+-- THE CLASS OF A COMMAND: all but ten words do a deed
 abbrev pub class_of : Command → Class
 class_of Nothing = says silence
 class_of Version2 = says version
@@ -39,26 +43,35 @@ class_of (Why x) = says (path x)
 class_of Census = says census
 class_of (Slice n) = runs (so_many n)
 class_of Collect = runs whole
-class_of Gc = collects_scripts
+class_of Gc = collects_scripts whole
+class_of (Mark n) = collects_scripts (so_many n)
+class_of Forget = forgets
+class_of (Deref d w) = reads_weak d w
 class_of _ = does
 
 abbrev pub is_deed : Class → Bool
 is_deed (says q) = false
 is_deed does = true
+is_deed forgets = false
+is_deed (reads_weak d w) = false
 is_deed (runs u) = false
-is_deed collects_scripts = false
+is_deed (collects_scripts u) = false
 
 abbrev pub is_units : Class → Bool
 is_units (says q) = false
 is_units does = false
+is_units forgets = false
+is_units (reads_weak d w) = false
 is_units (runs u) = true
-is_units collects_scripts = false
+is_units (collects_scripts u) = false
 
 abbrev pub is_script_collection : Class → Bool
 is_script_collection (says q) = false
 is_script_collection does = false
+is_script_collection forgets = false
+is_script_collection (reads_weak d w) = false
 is_script_collection (runs u) = false
-is_script_collection collects_scripts = true
+is_script_collection (collects_scripts u) = true
 
 -- THE COMMANDS OF THE MUTATOR: those that do a deed
 abbrev pub is_applied : Command → Bool

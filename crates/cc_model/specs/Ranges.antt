@@ -1,10 +1,10 @@
 -- The ranges of a command's numbers.
 use Rattle.std.specs.Prelude.{ℕ, Bool, true, ◌&&◌, Option, Some, None, nat_lt, nat_le}
 use Rattle.cc_names.specs.declared.register.Reg.{Reg}
-use Rattle.cc_names.specs.declared.register.Reg.TheVariants.{N, S}
+use Rattle.cc_names.specs.declared.register.Reg.TheVariants.{N, S, W}
 use Rattle.cc_names.specs.Sizes.{bank_length, most_slots}
 use Rattle.cc_model.specs.declared.command.Command.{Command}
-use Rattle.cc_model.specs.declared.command.Command.TheVariants.{Native, Script, WeakMap, Proxy, CopyNative, CopyScript, Drop, Set, Get, Move, Put, Take, Wrap, Unwrap, Preserve, SetEntry, GetEntry, Expose}
+use Rattle.cc_model.specs.declared.command.Command.TheVariants.{Native, Script, WeakMap, Proxy, CopyNative, CopyScript, Drop, Set, Get, Move, Put, Take, Wrap, Unwrap, Preserve, SetEntry, GetEntry, Expose, Forget, Weak, Deref, Mark}
 
 -- a register is one of its bank
 abbrev pub is_register : ℕ → Bool
@@ -13,9 +13,11 @@ is_register r = nat_lt r bank_length
 abbrev pub are_registers : ℕ → ℕ → Bool
 are_registers r s = is_register r && is_register s
 
+-- no line names a weak register yet
 abbrev pub is_reg : Reg → Bool
 is_reg (N r) = is_register r
 is_reg (S r) = is_register r
+is_reg (W r) = false
 
 abbrev pub is_source : Option Reg → Bool
 is_source None = true
@@ -49,4 +51,9 @@ in_range (Preserve s) = is_register s
 in_range (SetEntry m k v) = are_registers m k && is_script_source v
 in_range (GetEntry d m k) = is_register d && are_registers m k
 in_range (Expose s i) = is_register s
+-- no line asks these yet
+in_range Forget = false
+in_range (Weak w s) = false
+in_range (Deref d w) = false
+in_range (Mark n) = false
 in_range _ = true

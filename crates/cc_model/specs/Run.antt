@@ -1,8 +1,9 @@
 -- THE PLAIN RUN: the asks done on the heaps and the snapshot.
-use Rattle.std.specs.Prelude.{ℕ, Bool, true, false, not, ◌&&◌, List, [], ◌∷◌, ◌++◌, map, length, Option, Some, None}
+use Rattle.std.specs.Prelude.{ℕ, Bool, true, false, not, ◌&&◌, List, [], ◌∷◌, ◌++◌, map, length, Option, Some, None, option_map, option_and_then, slice_index_or, slice_set, if◌then◌else◌}
+use Rattle.std.specs.List.{list_any}
 use Rattle.cc_names.specs.Allowance.{Allowance}
 use Rattle.cc_names.specs.declared.name.Name.{Name}
-use Rattle.cc_names.specs.Names.{native}
+use Rattle.cc_names.specs.Names.{native, natives_in}
 use Rattle.cc_model.specs.declared.command.Command.{Command}
 use Rattle.cc_model.specs.declared.item.Refusal.{Refusal}
 use Rattle.cc_model.specs.declared.item.Refusal.TheVariants.{NoMemory, Long, Line}
@@ -10,13 +11,17 @@ use Rattle.cc_model.specs.declared.item.Reply.{Reply}
 use Rattle.cc_model.specs.declared.item.Reply.TheVariants.{Done, Refused, Census as counted}
 use Rattle.cc_model.specs.declared.item.Event.{Event}
 use Rattle.cc_model.specs.Answers.{Answer, no_answer, replying, listing, text_of_answers}
-use Rattle.cc_model.specs.Mutating.{takes_memory_to_say, Saying, silence, version, path, census, Running, so_many, whole, Class, says, does, runs, collects_scripts, class_of}
+use Rattle.cc_model.specs.Mutating.{takes_memory_to_say, Saying, silence, version, path, census, Running, so_many, whole, Class, says, does, forgets, reads_weak, runs, collects_scripts, class_of}
 use Rattle.cc_model.specs.Asks.{Ask, long, bad, taken, asks_of}
-use Rattle.cc_model.specs.Checks.{refusal_of, reply_if_taken}
-use Rattle.cc_model.specs.Heap.{Heap, Outcome, objects_of}
+use Rattle.cc_model.specs.Checks.{refusal_of, reply_if_taken, named_or_nothing}
+use Rattle.cc_model.specs.Slots.{Slots}
+use Rattle.cc_model.specs.Deeds.{Deed, weak_written, deed_of}
+use Rattle.cc_model.specs.Heap.{Heap, HeapNative, Outcome, native_at, objects_of}
 use Rattle.cc_model.specs.Derivations.{leads_in, why_of}
-use Rattle.cc_model.specs.Effects.{effects, takes_memory}
-use Rattle.cc_model.specs.Collecting.{Machine, UnitsDone, empty_machine, next_answer, later_answers, slice, collect, gc, reply_to_units}
+use Rattle.cc_model.specs.Effects.{effects, hold_native, takes_memory}
+use Rattle.cc_model.specs.Marking.{marking_after}
+use Rattle.cc_model.specs.Skipping.{forgotten}
+use Rattle.cc_model.specs.Collecting.{Machine, UnitsDone, empty_machine, next_answer, later_answers, slice, collect, gc, run_scripts, reply_to_units}
 
 -- one ask done
 pub record Turn : Type 0 where
@@ -37,6 +42,15 @@ with_answer_used m takes = elim takes [ true ↦ record m { memory = later_answe
 abbrev pub with_effects : Machine → Reply → Outcome → Turn
 with_effects m reply o = answering (record m { heap = o.heap }) o.events reply
 
+-- what weak registers note after a deed
+abbrev pub weak_after : Slots → Deed → Slots
+weak_after weak (weak_written w x) = slice_set weak w x
+weak_after weak _ = weak
+
+-- what a deed makes of what stands beside the heaps: of the weak registers, and of the new marks
+abbrev pub beside_deed : Machine → Deed → Machine
+beside_deed m d = record m { weak = weak_after m.weak d; marking = option_map (marking_after m.heap d) m.marking }
+
 -- memory is asked only where some is taken, and where it says no, nothing is done
 abbrev pub if_granted : Machine → Bool → (Machine → Turn) → Turn
 if_granted m takes done = elim (takes && not (next_answer m.memory)) [
@@ -46,13 +60,34 @@ if_granted m takes done = elim (takes && not (next_answer m.memory)) [
 
 abbrev pub unless_refused : Machine → Command → Option Refusal → Turn
 unless_refused m c (Some refusal) = answering m [] (Refused refusal)
-unless_refused m c None = if_granted m (takes_memory m.heap c) (λ n. with_effects n (reply_if_taken (objects_of m.heap) c) (effects m.heap c))
+unless_refused m c None = if_granted m (takes_memory m.heap c)
+    (λ n. with_effects (beside_deed n (deed_of (objects_of m.heap) c)) (reply_if_taken (objects_of m.heap) c) (effects m.heap c))
 
 -- A COMMAND OF THE MUTATOR: refused, refused memory, or done
 unfoldable pub mutate : Machine → Command → Turn
 mutate m c = unless_refused m c (refusal_of (objects_of m.heap) c)
 
 -- The other commands
+
+-- whether a native is in the heaps and was not unlinked
+abbrev pub is_usable_native : Option HeapNative → Bool
+is_usable_native None = false
+is_usable_native (Some n) = not n.unlinked
+
+abbrev pub is_usable : Heap → Name → Bool
+is_usable h x = list_any (λ k. is_usable_native (native_at h k)) (natives_in x)
+
+-- what weak register w notes, where its native is in the heaps and was not unlinked
+abbrev pub noted : Machine → ℕ → Option Name
+noted m w = option_and_then (λ x. if is_usable m.heap x then Some x else None) (slice_index_or m.weak w None)
+
+-- native register d holds it from then on, or nothing
+abbrev pub read_weak : Machine → ℕ → ℕ → Turn
+read_weak m d w = with_effects m (named_or_nothing (noted m w)) (hold_native m.heap d (noted m w))
+
+-- suspects that the registers reach over edges lose their mark
+abbrev pub forget_suspects : Machine → Turn
+forget_suspects m = answering (record m { heap = forgotten m.heap }) [] Done
 
 abbrev pub after_units : UnitsDone → Turn
 after_units d = answering d.machine d.events (reply_to_units d.progress)
@@ -83,8 +118,10 @@ run_units m whole = collect m
 abbrev pub do_class : Machine → Command → Class → Turn
 do_class m c (says q) = say m q
 do_class m c does = mutate m c
+do_class m c forgets = forget_suspects m
+do_class m c (reads_weak d w) = read_weak m d w
 do_class m c (runs u) = after_units (run_units m u)
-do_class m c collects_scripts = after_gc (gc m)
+do_class m c (collects_scripts u) = after_gc (run_scripts m u)
 
 abbrev pub do_command : Machine → Command → Turn
 do_command m c = do_class m c (class_of c)

@@ -4,7 +4,7 @@ use Rattle.cc_lists.specs.Members.{Among}
 use Rattle.cc_names.specs.declared.name.Name.{Name}
 use Rattle.cc_names.specs.declared.name.Name.TheVariants as name
 use Rattle.cc_names.specs.Names.{object, reflector, is_native, is_script}
-use Rattle.cc_names.specs.Sizes.{most_slots}
+use Rattle.cc_names.specs.Sizes.{most_slots, weak_length}
 use Rattle.cc_model.specs.Banks.{IsBankLength}
 use Rattle.cc_model.specs.Slots.{Slots, contents, reflector_slots}
 use Rattle.cc_model.specs.Entries.{Entry, is_entry_of}
@@ -36,6 +36,9 @@ pub record IsWellMade (g : Graph) : Type 0 where
   pub registers : IsBankLength (length g.native_registers) × IsBankLength (length g.script_registers)
   pub native_registers : (x : Name) → Among x (contents g.native_registers) → IsTrue (is_made_native g x)
   pub script_registers : (x : Name) → Among x (contents g.script_registers) → IsTrue (is_made_script g x)
+  -- weak registers note natives
+  pub weak : length g.weak_registers ≡ weak_length
+  pub weak_registers : (x : Name) → Among x (contents g.weak_registers) → IsTrue (is_made_native g x)
   -- a native has no more slots than are allowed, which hold what was made; where its reflector is preserved, it was wrapped
   pub native_slots : (k : ℕ) (n : GraphNative) → native_in g k ≡ Some n → length n.slots ≤ most_slots
   pub native_contents : (k : ℕ) (n : GraphNative) (x : Name) → native_in g k ≡ Some n → Among x (contents n.slots) → IsTrue (was_made g x)

@@ -56,6 +56,7 @@ fn lacks_object<R: Reads>(reads: &R, command: &Command) -> bool
         }
         Command::GetEntry(_, m, k) => reads.is_empty(Reg::S(m)) || reads.is_empty(Reg::S(k)),
         Command::Expose(s, _) => reads.is_empty(Reg::N(s)),
+        Command::Weak(_, s) => reads.is_empty(Reg::N(s)),
         _ => false,
     }
 }

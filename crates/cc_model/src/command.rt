@@ -1,12 +1,13 @@
 //! What one line of the input asks.
 
-use cc_names::{Name, Reg, RegNo, SlotNo};
+use cc_names::{Name, Reg, RegNo, SlotNo, WeakNo};
 
 /// What one line of the input asks, by its word and its tokens in their order.
 ///
 /// The first register of a command that has a destination is the destination. Registers are 0 to 1023 (their type has room for
 /// those that a host alone names), numbers of slots 0 to 256, indexes of slots 0 to 4294967295, numbers of units 1 to 1000000.
-/// Version 1 of the language names the registers 0 to 255 alone, and gives 64 slots at most.
+/// Version 1 of the language names the registers 0 to 255 alone, and gives 64 slots at most. No line asks `forget`, `weak`,
+/// `deref`, `mark` or `drop wX` yet: these are out of range.
 #[derive(Clone, Copy, Debug, PartialEq, Eq, Drop)]
 pub enum Command {
     /// A blank line or a comment.
@@ -49,6 +50,12 @@ pub enum Command {
     GetEntry(RegNo, RegNo, RegNo),
     /// `expose nS i`: script touches what slot i of a native holds.
     Expose(RegNo, u32),
+    /// `forget`: suspects that the registers reach over edges lose their mark.
+    Forget,
+    /// `weak wD nS`: a weak register notes the native that the source holds.
+    Weak(WeakNo, RegNo),
+    /// `deref nD wS`: the destination holds what a weak register notes, where that has not ended.
+    Deref(RegNo, WeakNo),
     /// `why NAME`: how the registers reach an object.
     Why(Name),
     /// `slice U`: up to U units of a collection.
@@ -57,6 +64,8 @@ pub enum Command {
     Collect,
     /// `gc`: a script collection.
     Gc,
+    /// `mark U`: up to U units of a script marking.
+    Mark(u32),
     /// `census`: lists the objects.
     Census,
 }

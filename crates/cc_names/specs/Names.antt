@@ -5,7 +5,7 @@ use Rattle.std.specs.Ordering.{nat_cmp, ordering_then}
 use Rattle.cc_names.specs.declared.name.Name.{Name}
 use Rattle.cc_names.specs.declared.name.Name.TheVariants.{Native, Script, Reflector}
 use Rattle.cc_names.specs.declared.register.Reg.{Reg}
-use Rattle.cc_names.specs.declared.register.Reg.TheVariants.{N, S}
+use Rattle.cc_names.specs.declared.register.Reg.TheVariants.{N, S, W}
 
 -- the native with a number
 abbrev pub native : ℕ → Name
@@ -77,3 +77,4 @@ text_of_name (Reflector k) = 126 ∷ decimal k.0
 abbrev pub text_of_register : Reg → List ℕ
 text_of_register (N r) = 110 ∷ decimal r
 text_of_register (S r) = 115 ∷ decimal r
+text_of_register (W r) = 119 ∷ decimal r

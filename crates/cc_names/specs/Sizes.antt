@@ -1,6 +1,6 @@
 -- The sizes of the language by their names in specifications. The figures stand in the code alone.
 use Rattle.std.specs.Prelude.{ℕ, ◌+◌, ◌*◌}
-use Rattle.cc_names.specs.declared.sizes.TheConstants.{BANK_LENGTH, MOST_ROOTS, MOST_SLOTS, FIRST_BANK_LENGTH, FIRST_MOST_SLOTS}
+use Rattle.cc_names.specs.declared.sizes.TheConstants.{BANK_LENGTH, MOST_ROOTS, WEAK_LENGTH, MOST_SLOTS, FIRST_BANK_LENGTH, FIRST_MOST_SLOTS}
 
 -- so many registers of each kind commands can name; a bank has so many or more
 abbrev pub bank_length : ℕ
@@ -9,6 +9,10 @@ bank_length = BANK_LENGTH
 -- no bank has more registers
 abbrev pub most_roots : ℕ
 most_roots = MOST_ROOTS
+
+-- so many weak registers there are
+abbrev pub weak_length : ℕ
+weak_length = WEAK_LENGTH
 
 -- no object has more slots
 abbrev pub most_slots : ℕ

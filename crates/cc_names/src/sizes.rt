@@ -3,6 +3,9 @@
 /// The number of a register in its bank, counted from 0. Commands name the first registers alone; a bank may have more.
 pub type RegNo = u32;
 
+/// The number of a weak register, counted from 0.
+pub type WeakNo = u8;
+
 /// The number of a slot of an object, counted from 0, and a number of slots.
 pub type SlotNo = u16;
 
@@ -11,6 +14,9 @@ pub const BANK_LENGTH: usize = 1024;
 
 /// The most registers that a bank has.
 pub const MOST_ROOTS: RegNo = 1_073_741_824;
+
+/// How many weak registers there are.
+pub const WEAK_LENGTH: usize = 256;
 
 /// The most slots that a native or a plain object has.
 pub const MOST_SLOTS: SlotNo = 256;
