@@ -51,7 +51,8 @@ impl ScriptParts {
         }
     }
 
-    /// Makes an object with so many empty slots, black, and by the new mark too, which goes last. The delegate of a proxy is black.
+    /// Makes an object with so many empty slots, black, and by the new mark too, which goes last. The delegate of a proxy is
+    /// black.
     pub(crate) fn create(
         &mut self,
         alloc: Global,
