@@ -11,7 +11,7 @@ use Rattle.cc_names.specs.declared.kind.Kind.TheVariants.{Plain, Reflector, Map,
 use Rattle.cc_names.specs.declared.kind.Colour.TheVariants.{Black}
 use Rattle.cc_names.specs.Names.{native, object, reflector}
 use Rattle.cc_model.specs.declared.command.Command.{Command}
-use Rattle.cc_model.specs.Deeds.{Deed, nothing_done, native_made, plain_made, map_made, proxy_made, native_held, script_held, script_copied, native_stored, slot_moved, script_stored, reflector_held, reflector_preserved, entry_written, object_exposed, deed_of}
+use Rattle.cc_model.specs.Deeds.{Deed, nothing_done, native_made, plain_made, map_made, proxy_made, native_held, script_held, script_copied, native_stored, slot_moved, script_stored, reflector_held, reflector_preserved, entry_written, object_exposed, weak_written, deed_of}
 use Rattle.cc_model.specs.Slots.{reflector_slots, contents}
 use Rattle.cc_model.specs.Ranges.{in_range}
 use Rattle.cc_model.specs.Checks.{slots_at, reflector_of}
@@ -149,6 +149,7 @@ done_in-coloured h (reflector_held d x) s c m = wrapped-coloured h d x c
 done_in-coloured h (reflector_preserved x) s c m = preserve-coloured h x c
 done_in-coloured h (entry_written m k v) s c t = set_entry-coloured h m k v c
 done_in-coloured h (object_exposed x) s c m = exposed-coloured h x c
+done_in-coloured h (weak_written w x) s c m = c
 
 -- A command that is not refused keeps the colours.
 pub effects-coloured : {owned : List ℕ} (h : Heap) (c : Command) → IsSound owned h → IsColoured h → IsTrue (in_range c) → IsTaken (objects_of h) c →

@@ -7,7 +7,7 @@ use Rattle.cc_names.specs.declared.kind.Kind.TheVariants.{Plain, Map}
 use Rattle.cc_names.specs.Sizes.{most_slots}
 use Rattle.cc_model.specs.declared.command.Command.{Command}
 use Rattle.cc_model.specs.Ranges.{in_range}
-use Rattle.cc_model.specs.Deeds.{Deed, nothing_done, native_made, plain_made, map_made, proxy_made, native_held, script_held, script_copied, native_stored, slot_moved, script_stored, reflector_held, reflector_preserved, entry_written, object_exposed, deed_of}
+use Rattle.cc_model.specs.Deeds.{Deed, nothing_done, native_made, plain_made, map_made, proxy_made, native_held, script_held, script_copied, native_stored, slot_moved, script_stored, reflector_held, reflector_preserved, entry_written, object_exposed, weak_written, deed_of}
 use Rattle.cc_model.specs.Heap.{Heap, objects_of}
 use Rattle.cc_model.specs.Effects.{done_in, effects}
 use Rattle.cc_laws_heap.specs.Sound.{IsSound}
@@ -38,6 +38,7 @@ done_in-sound {owned} h (reflector_held d x) s m = wrapped-sound owned h d x m.t
 done_in-sound {owned} h (reflector_preserved x) s m = preserve-sound owned h x m.there s
 done_in-sound {owned} h (entry_written m k v) s t = set_entry-sound owned h m k v t.the_map.there t.key.there t.value.there t.is_map s
 done_in-sound {owned} h (object_exposed x) s m = exposed-sound owned h x s
+done_in-sound {owned} h (weak_written w x) s m = s
 
 -- A command that is not refused leaves the heaps sound.
 pub effects-sound : {owned : List ℕ} (h : Heap) (c : Command) → IsSound owned h → IsTrue (in_range c) → IsTaken (objects_of h) c → IsSound owned (effects h c).heap

@@ -1,13 +1,13 @@
 -- HEAPS THAT STAND FOR A GRAPH GO ON STANDING FOR IT: after each command that is not refused they stand for the graph's step,
 -- and what they told as freed is not reached.
-use Rattle.std.proofs.Common.{arith, ◌≡◌, ℕ, ◌+◌, List, length, Option, Some, None, refl, sym, ◌∙◌, ap, subst, inr, ◌⊎◌}
+use Rattle.std.proofs.Common.{arith, ◌≡◌, ℕ, ◌+◌, List, [], length, Option, Some, None, refl, sym, ◌∙◌, ap, subst, inr, ◌⊎◌}
 use Rattle.std.specs.Prelude.{IsTrue}
 use Rattle.std.proofs.lemmas.Bool.{false≢true, and_parts}
 use Rattle.cc_lists.specs.Members.{Among}
 use Rattle.cc_names.specs.Allowance.{Allowance}
 use Rattle.cc_names.specs.declared.name.Name.{Name}
 use Rattle.cc_names.specs.declared.name.Name.TheVariants as name
-use Rattle.cc_names.specs.declared.register.Reg.TheVariants.{N, S}
+use Rattle.cc_names.specs.declared.register.Reg.TheVariants.{N, S, W}
 use Rattle.cc_names.specs.declared.kind.Kind.TheVariants.{Plain, Map, Proxy as proxy_kind}
 use Rattle.cc_names.specs.Names.{native, object, reflector, is_script}
 use Rattle.cc_names.specs.Sizes.{bank_length}
@@ -19,7 +19,7 @@ use Rattle.cc_model.specs.Checks.{slot_at, reflector_of, refusal_of}
 use Rattle.cc_model.specs.Graph as graph
 use Rattle.cc_model.specs.Graph.{Graph, plain_object, weak_map, proxy, empty_graph, done_to, changed, unless_refused, step}
 use Rattle.cc_model.specs.Reached.{Reached, held, edge, value, key}
-use Rattle.cc_model.specs.Deeds.{Deed, nothing_done, native_made, plain_made, map_made, proxy_made, native_held, script_held, script_copied, native_stored, slot_moved, script_stored, reflector_held, reflector_preserved, entry_written, object_exposed, deed_of}
+use Rattle.cc_model.specs.Deeds.{Deed, nothing_done, native_made, plain_made, map_made, proxy_made, native_held, script_held, script_copied, native_stored, slot_moved, script_stored, reflector_held, reflector_preserved, entry_written, object_exposed, weak_written, deed_of}
 use Rattle.cc_model.specs.WellMade.{IsWellMade, was_made}
 use Rattle.cc_model.specs.Heap as heap
 use Rattle.cc_model.specs.Heap.{Heap, empty_heap}
@@ -49,6 +49,7 @@ use Rattle.cc_laws_heap.proofs.SlotsWritten.{IsPreserved}
 use Rattle.cc_laws_heap.proofs.NewObjects.{next_native, next_object, Follows-native, Follows-plain, Follows-map, Follows-proxy}
 use Rattle.cc_laws_heap.proofs.Unseen.{Leaves-exposed}
 use Rattle.cc_laws_heap.proofs.Wrapping.{Follows-wrapped}
+use Rattle.cc_laws_heap.proofs.WeakRegisters.{Follows-weak_register}
 use Rattle.cc_laws_heap.proofs.StepsAlike.{Follows-script_register, Follows-put, Follows-hold, Follows-hold_script, Follows-store, Follows-move, Follows-preserve, preserved-after, Follows-put_script, Follows-set_entry}
 use Rattle.cc_laws_heap.proofs.Making.{contents-empty_none}
 
@@ -137,6 +138,7 @@ module _ (h : Heap) (g : Graph) (w : IsWellFormed h) (well : IsWellMade g) (s : 
   done_in-follows (entry_written x k v) m Q f = f (Reached g) (Follows-set_entry (Reached g) h g x k v m.the_map.reached m.key.reached (behind k m.key)
       m.value.reached (delegate-same k m.key) well.one_entry start)
   done_in-follows (object_exposed x) m Q f = f (Reached g) (Follows-left (Reached g) h (exposed h x) g (Leaves-exposed h x) start)
+  done_in-follows (weak_written d x) m Q f = f (Reached g) (Follows-weak_register (Reached g) h g d x start)
 
   -- AFTER EACH COMMAND that is not refused the heaps follow what it makes of the graph.
   effects-follow : (c : Command) → IsTrue (in_range c) → IsTaken (graph.objects_of g) c → (Q : Type 0) →
@@ -203,6 +205,7 @@ freed-unreached h g c x sound m s r t told d =
 empty-unreached : (limits : Allowance) (x : Name) → Reached (empty_graph limits) x → ⊥
 empty-unreached limits _ (held (N r) x e) = contents-empty_none bank_length x (contents-get (empty_slots bank_length) r x e)
 empty-unreached limits _ (held (S r) x e) = contents-empty_none bank_length x (contents-get (empty_slots bank_length) r x e)
+empty-unreached limits _ (held (W r) x e) = contents-get [] r x e
 empty-unreached limits _ (edge x y d i) = empty-unreached limits x d
 empty-unreached limits _ (value e i a b) = i
 empty-unreached limits _ (key e d i q a b) = i

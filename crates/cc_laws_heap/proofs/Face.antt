@@ -25,7 +25,7 @@ pub use Rattle.cc_laws_heap.proofs.GraphCommands.{KeepsReflector-slot, proxy-wel
 pub use Rattle.cc_laws_heap.proofs.GraphLeads.{graph-within}
 pub use Rattle.cc_laws_heap.proofs.GraphParts.{Grows, IsMadeEntry-grows, IsWellMade-entries, is_some-found, with_natives}
 pub use Rattle.cc_laws_heap.proofs.GraphReads.{Made, MadeNative, MadeScript, native_register-made}
-pub use Rattle.cc_laws_heap.proofs.GraphWrites.{Grows-change_native, IsWellMade-change_native, IsWellMade-native_register, IsWellMade-script_register, IsWellMade-script_slot, KeepsNative-preserved, KeepsNative-reflector_slot, KeepsNative-slot, KeepsNative-wrapped, set_native-is, set_script-is}
+pub use Rattle.cc_laws_heap.proofs.GraphWrites.{Grows-change_native, IsWellMade-change_native, IsWellMade-native_register, IsWellMade-script_register, IsWellMade-script_slot, IsWellMade-weak_register, KeepsNative-preserved, KeepsNative-reflector_slot, KeepsNative-slot, KeepsNative-wrapped, set_native-is, set_script-is}
 pub use Rattle.cc_laws_heap.proofs.HeapShapes.{shape_at-native, shape_at-script}
 pub use Rattle.cc_laws_heap.proofs.Holding.{IsIn-natives, IsIn-no_native, has_reflector-none, has_reflector-there, native_register-there, slot_at-there}
 pub use Rattle.cc_laws_heap.proofs.Holds.{OfSome, OfSome-then, contents-get}
@@ -72,5 +72,6 @@ pub use Rattle.cc_laws_heap.proofs.Taken.{IsTaken, IsTaken-from}
 pub use Rattle.cc_laws_heap.proofs.TakingAway.{IsSound-permuted, IsTaking, others-kept, take_away-leaves, take_away-sound, take_away-takes, taken-emptied, unroot_each-taking}
 pub use Rattle.cc_laws_heap.proofs.Unlinking.{Unlinks, unlink-keeps}
 pub use Rattle.cc_laws_heap.proofs.Unseen.{Leaves-exposed, Leaves-let_go, Leaves-take_up, Leaves-touched}
+pub use Rattle.cc_laws_heap.proofs.WeakRegisters.{Follows-weak_register, reached-weak, weak-stands}
 pub use Rattle.cc_laws_heap.proofs.Wrapping.{Follows-wrapped}
 pub use Rattle.cc_laws_heap.proofs.Writes.{contents-at as contents-at-of_writes, native_register-sound, native_slot-sound, script_register-sound, set_preserved-sound}

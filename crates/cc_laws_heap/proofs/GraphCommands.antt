@@ -16,7 +16,7 @@ use Rattle.cc_model.specs.Slots.{Slots, empty_slots}
 use Rattle.cc_model.specs.Entries.{entry, is_entry_of, with_entry, without_entry}
 use Rattle.cc_model.specs.Checks.{slot_at, reflector_of, is_map_in, refusal_of}
 use Rattle.cc_model.specs.Graph.{Graph, GraphScript, plain_object, weak_map, proxy, numbered, script_in, delegate_in, slots_in, objects_of, register, set_register, set_slot, move_slot, preserve, wrapped, set_entry, as_preserved, as_wrapped, with_slot, with_reflector_slot, with_native, with_script, with_proxy, empty_graph, done_to, changed, unless_refused, step}
-use Rattle.cc_model.specs.Deeds.{Deed, nothing_done, native_made, plain_made, map_made, proxy_made, native_held, script_held, script_copied, native_stored, slot_moved, script_stored, reflector_held, reflector_preserved, entry_written, object_exposed, deed_of}
+use Rattle.cc_model.specs.Deeds.{Deed, nothing_done, native_made, plain_made, map_made, proxy_made, native_held, script_held, script_copied, native_stored, slot_moved, script_stored, reflector_held, reflector_preserved, entry_written, object_exposed, weak_written, deed_of}
 use Rattle.cc_model.specs.WellMade.{IsWellMade, IsMadeEntry}
 use Rattle.cc_laws_heap.proofs.Taken.{IsTaken, IsTaken-from}
 use Rattle.cc_laws_heap.proofs.MayBeDoneTo.{MayBeDoneTo, may_be_done_to}
@@ -24,7 +24,7 @@ use Rattle.cc_laws_heap.proofs.Holds.{OfSome, OfSome-then}
 use Rattle.cc_laws_heap.proofs.Numbered.{numbered-nothing, numbered-push, numbered-change}
 use Rattle.cc_laws_heap.proofs.EntryLists.{with_entry-cases, entries_of-set}
 use Rattle.cc_laws_heap.proofs.GraphParts.{ScriptFits, is_some-found, was_made-native, was_made-script, was_made-reflector, reflector-made, Grows, is_made_native-grows, is_made_script-grows, IsMadeEntry-grows, IsWellMade-entries}
-use Rattle.cc_laws_heap.proofs.GraphWrites.{IsWellMade-native_register, IsWellMade-script_register, set_native-is, Grows-change_native, IsWellMade-change_native, KeepsNative-slot, KeepsNative-reflector_slot, KeepsNative-preserved, KeepsNative-wrapped, IsWellMade-script_slot, IsWellMade-with_native, IsWellMade-with_script, ScriptFits-plain, ScriptFits-map, ScriptFits-proxy}
+use Rattle.cc_laws_heap.proofs.GraphWrites.{IsWellMade-native_register, IsWellMade-script_register, IsWellMade-weak_register, set_native-is, Grows-change_native, IsWellMade-change_native, KeepsNative-slot, KeepsNative-reflector_slot, KeepsNative-preserved, KeepsNative-wrapped, IsWellMade-script_slot, IsWellMade-with_native, IsWellMade-with_script, ScriptFits-plain, ScriptFits-map, ScriptFits-proxy}
 use Rattle.cc_laws_heap.proofs.GraphReads.{Made, MadeNative, MadeScript, MadeScript-made, native_register-made, slot_at-made}
 use Rattle.cc_laws_heap.proofs.Making.{contents-empty_none}
 
@@ -164,6 +164,7 @@ module _ (g : Graph) (w : IsWellMade g) where
   done_to-well (reflector_preserved x) m = preserve-well g w x (OfSome-then (MadeScript g) (Made g) (MadeScript-made g) x m.made)
   done_to-well (entry_written a k v) m = set_entry-well g w a k v (map-named a m.the_map.made m.is_map) m.key.made m.value.made
   done_to-well (object_exposed x) m = w
+  done_to-well (weak_written d x) m = IsWellMade-weak_register g d x w m.made
 
   -- A command that is not refused leaves the graph well made.
   changed-well : (c : Command) → IsTrue (in_range c) → IsTaken (objects_of g) c → IsWellMade (changed g c)

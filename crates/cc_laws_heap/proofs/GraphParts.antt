@@ -7,7 +7,7 @@ use Rattle.cc_lists.specs.Members.{Among}
 use Rattle.cc_names.specs.declared.name.Name.{Name}
 use Rattle.cc_names.specs.declared.name.Name.TheVariants as name
 use Rattle.cc_names.specs.Names.{native, object, reflector, is_native, is_script}
-use Rattle.cc_names.specs.Sizes.{most_slots}
+use Rattle.cc_names.specs.Sizes.{most_slots, weak_length}
 use Rattle.cc_model.specs.Banks.{IsBankLength}
 use Rattle.cc_model.specs.Slots.{Slots, contents, reflector_slots}
 use Rattle.cc_model.specs.Entries.{Entry, is_entry_of}
@@ -118,6 +118,8 @@ IsWellMade-registers g ns ss w r = record {
   registers = r.lengths;
   native_registers = r.natives;
   script_registers = r.scripts;
+  weak = w.weak;
+  weak_registers = w.weak_registers;
   native_slots = w.native_slots;
   native_contents = w.native_contents;
   preserved = w.preserved;
@@ -133,6 +135,37 @@ IsWellMade-registers g ns ss w r = record {
 }
   where
     same : (x : Name) → delegate_in (with_registers g ns ss) x ≡ delegate_in g x
+    same (name.Native k) = refl
+    same _ = refl
+
+-- weak registers
+abbrev pub with_weak : Graph → Slots → Graph
+with_weak g ws = record g { weak_registers = ws }
+
+-- WITH OTHER WEAK REGISTERS, as many, which note natives that were made, a graph is well made.
+pub IsWellMade-weak : (g : Graph) (ws : Slots) → IsWellMade g → length ws ≡ weak_length →
+    ((x : Name) → Among x (contents ws) → IsTrue (is_made_native g x)) → IsWellMade (with_weak g ws)
+IsWellMade-weak g ws w many noted = record {
+  registers = w.registers;
+  native_registers = w.native_registers;
+  script_registers = w.script_registers;
+  weak = many;
+  weak_registers = noted;
+  native_slots = w.native_slots;
+  native_contents = w.native_contents;
+  preserved = w.preserved;
+  reflectors = w.reflectors;
+  reflector_contents = w.reflector_contents;
+  script_slots = w.script_slots;
+  script_contents = w.script_contents;
+  delegates = w.delegates;
+  entries = λ e m. IsMadeEntry-grows g (with_weak g ws) (record { made = λ x i. i; maps = λ k s. s; delegates = λ x i. same x }) e (w.entries e m);
+  one_entry = w.one_entry;
+  natives_allowed = w.natives_allowed;
+  scripts_allowed = w.scripts_allowed;
+}
+  where
+    same : (x : Name) → delegate_in (with_weak g ws) x ≡ delegate_in g x
     same (name.Native k) = refl
     same _ = refl
 
@@ -159,6 +192,8 @@ IsWellMade-natives g ns w a = record {
   registers = w.registers;
   native_registers = λ x m. is_made_native-grows g f more x (w.native_registers x m);
   script_registers = λ x m. is_made_script-grows g f more x (w.script_registers x m);
+  weak = w.weak;
+  weak_registers = λ x m. is_made_native-grows g f more x (w.weak_registers x m);
   native_slots = λ k n e. (a.fit k n e).slots;
   native_contents = λ k n x e m. (a.fit k n e).held x m;
   preserved = λ k n e. (a.fit k n e).preserved;
@@ -206,6 +241,8 @@ IsWellMade-scripts g os w a = record {
   registers = w.registers;
   native_registers = λ x m. is_made_native-grows g f more x (w.native_registers x m);
   script_registers = λ x m. is_made_script-grows g f more x (w.script_registers x m);
+  weak = w.weak;
+  weak_registers = λ x m. is_made_native-grows g f more x (w.weak_registers x m);
   native_slots = w.native_slots;
   native_contents = λ k n x e m. more.made x (w.native_contents k n x e m);
   preserved = w.preserved;

@@ -11,11 +11,11 @@ use Rattle.cc_names.specs.Names.{reflector}
 use Rattle.cc_names.specs.Sizes.{most_slots}
 use Rattle.cc_model.specs.Banks.{IsBankLength}
 use Rattle.cc_model.specs.Slots.{Slots, contents, empty_slots}
-use Rattle.cc_model.specs.Graph.{Graph, GraphNative, GraphScript, plain_object, weak_map, proxy, delegate_of_script, numbered, native_in, script_in, set_register, set_native, set_script, with_slot, with_reflector_slot, as_preserved, as_wrapped, with_script_slot, with_native, with_script, new_graph_native}
+use Rattle.cc_model.specs.Graph.{Graph, GraphNative, GraphScript, plain_object, weak_map, proxy, delegate_of_script, numbered, native_in, script_in, set_register, set_weak, set_native, set_script, with_slot, with_reflector_slot, as_preserved, as_wrapped, with_script_slot, with_native, with_script, new_graph_native}
 use Rattle.cc_model.specs.WellMade.{IsWellMade, was_made, is_made_native, is_made_script}
 use Rattle.cc_laws_heap.proofs.Holds.{OfSome, OfSome-then, contents-set}
 use Rattle.cc_laws_heap.proofs.Numbered.{set_numbered, change_numbered, numbered-change, numbered-change_other, length-change, numbered-push_old, numbered-push_cases}
-use Rattle.cc_laws_heap.proofs.GraphParts.{NativeFits, ScriptFits, IsWellMade-native, IsWellMade-script, Grows, is_made_script-grows, NativeFits-grows, ScriptFits-grows, IsWellMade-registers, with_natives, Grows-natives, IsWellMade-natives, with_scripts, IsSameScript, Grows-scripts, IsWellMade-scripts}
+use Rattle.cc_laws_heap.proofs.GraphParts.{NativeFits, ScriptFits, IsWellMade-native, IsWellMade-script, Grows, is_made_script-grows, NativeFits-grows, ScriptFits-grows, IsWellMade-registers, IsWellMade-weak, with_natives, Grows-natives, IsWellMade-natives, with_scripts, IsSameScript, Grows-scripts, IsWellMade-scripts}
 use Rattle.cc_laws_heap.proofs.Making.{contents-empty_none}
 
 -- Registers
@@ -35,6 +35,11 @@ IsWellMade-script_register g d x w m = IsWellMade-registers g g.native_registers
   scripts = contents-set (λ y. IsTrue (is_made_script g y)) g.script_registers d x w.script_registers m;
   lengths = (w.registers.0, subst IsBankLength (sym (length-set g.script_registers d x)) w.registers.1);
 })
+
+-- a weak register written with a native that was made
+pub IsWellMade-weak_register : (g : Graph) (d : ℕ) (x : Option Name) → IsWellMade g → OfSome (λ y. IsTrue (is_made_native g y)) x → IsWellMade (set_weak g d x)
+IsWellMade-weak_register g d x w m = IsWellMade-weak g (set g.weak_registers d x) w (length-set g.weak_registers d x ∙ w.weak)
+    (contents-set (λ y. IsTrue (is_made_native g y)) g.weak_registers d x w.weak_registers m)
 
 -- One native changed
 

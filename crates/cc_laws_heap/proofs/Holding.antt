@@ -8,7 +8,7 @@ use Rattle.cc_lists.proofs.Filtering.{find-among, find-passes}
 use Rattle.cc_names.specs.declared.name.Name.{Name}
 use Rattle.cc_names.specs.declared.name.Name.TheVariants as name
 use Rattle.cc_names.specs.declared.register.Reg.{Reg}
-use Rattle.cc_names.specs.declared.register.Reg.TheVariants.{N, S}
+use Rattle.cc_names.specs.declared.register.Reg.TheVariants.{N, S, W}
 use Rattle.cc_names.specs.declared.kind.Kind.{Kind}
 use Rattle.cc_names.specs.declared.kind.Kind.TheVariants.{Map}
 use Rattle.cc_names.specs.Names.{native, reflector, same_name}
@@ -70,6 +70,7 @@ script_register-there h d w = λ y m. w.script_registers y (contents-at h.script
 register-there : (h : Heap) (r : Reg) → IsWellFormed h → IsIn (names_there h) (register h r)
 register-there h (N d) w = IsIn-natives h (register h (N d)) (native_register-there h d w)
 register-there h (S d) w = IsIn-scripts h (register h (S d)) (script_register-there h d w)
+register-there h (W d) w = λ y m. absurd m
 
 -- what a source gives is there, where it is none or a register
 pub source-there : (h : Heap) (r : Option Reg) → IsWellFormed h → IsIn (names_there h) (source h r)

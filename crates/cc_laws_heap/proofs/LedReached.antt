@@ -1,11 +1,11 @@
 -- WHAT IS LED TO IS WHAT IS REACHED, in a graph that is well made and in heaps that are well formed.
-use Rattle.std.proofs.Common.{arith, ◌≡◌, true, Option, Some, None, refl, sym, subst, inl, inr}
+use Rattle.std.proofs.Common.{arith, ◌≡◌, true, [], Option, Some, None, refl, sym, subst, inl, inr}
 use Rattle.cc_lists.specs.Members.{Among}
 use Rattle.cc_lists.proofs.Members.{Among-left, Among-right, Among-append}
 use Rattle.cc_lists.proofs.Least.{derive-root, derive-along}
 use Rattle.cc_names.specs.declared.name.Name.{Name}
 use Rattle.cc_names.specs.declared.register.Reg.{Reg}
-use Rattle.cc_names.specs.declared.register.Reg.TheVariants.{N, S}
+use Rattle.cc_names.specs.declared.register.Reg.TheVariants.{N, S, W}
 use Rattle.cc_model.specs.Slots.{contents}
 use Rattle.cc_model.specs.Entries.{joint, joints, rules_of}
 use Rattle.cc_model.specs.Checks.{slots_or_none}
@@ -29,6 +29,7 @@ use Rattle.cc_laws_heap.proofs.GraphLeads.{graph-within}
 pub reached-led : (g : Graph) → IsWellMade g → (x : Name) → Reached g x → is_led_to (leads_made g) x ≡ true
 reached-led g w _ (held (N r) x e) = register-led (leads_made g) (names_of g) (graph-within g w) x (inl (content-at x g.native_registers r e))
 reached-led g w _ (held (S r) x e) = register-led (leads_made g) (names_of g) (graph-within g w) x (inr (content-at x g.script_registers r e))
+reached-led g w _ (held (W r) x e) = absurd (content-at x [] r e)
 reached-led g w _ (edge x y d i) = place-led (leads_made g) (names_of g) (graph-within g w) x y (reached-led g w x d) i
 reached-led g w _ (value e i a b) = joint-led (leads_made g) (names_of g) (graph-within g w) (joint e.the_map e.key e.value) (value-joint g.entries e i)
     (reached-led g w e.the_map a) (reached-led g w e.key b)
@@ -59,6 +60,7 @@ module _ (h : Heap) (w : IsWellFormed h) where
           (Among-left x (contents h.native_registers) (contents h.script_registers) (content-at x h.native_registers k e))
       root (S k) x e = derive-root (view h).registers (view h).edges (rules_of (joints h.entries)) x
           (Among-right x (contents h.native_registers) (contents h.script_registers) (content-at x h.script_registers k e))
+      root (W k) x e = absurd e
 
   -- and what they reach is led to.
   pub reached_in-led : (x : Name) → ReachedIn (view h) x → is_led_to (leads_in h) x ≡ true

@@ -1,5 +1,5 @@
 -- BANKS LENGTHENED: the registers that come are empty, so heaps are sound as before and seen as before, and stand for the graph whose bank is as long.
-use Rattle.std.proofs.Common.{◌≡◌, ℕ, ◌+◌, ◌-◌, ◌≤◌, List, ◌++◌, length, Option, None, sym, ◌∙◌, ap, subst, arith, count_by}
+use Rattle.std.proofs.Common.{◌≡◌, ℕ, ◌+◌, ◌-◌, ◌≤◌, List, ◌++◌, length, Option, None, refl, sym, ◌∙◌, ap, subst, arith, count_by}
 use Rattle.std.specs.Option.{option_to_list}
 use Rattle.std.proofs.lemmas.Grind.{flat_map-append}
 use Rattle.std.proofs.lemmas.List.{append-nil, length-append, length-replicate}
@@ -7,7 +7,7 @@ use Rattle.cc_lists.specs.Members.{Among}
 use Rattle.cc_names.specs.declared.name.Name.{Name}
 use Rattle.cc_names.specs.Names.{native, reflector, same_name}
 use Rattle.cc_names.specs.Sizes.{most_roots}
-use Rattle.cc_model.specs.Banks.{Bank, of_natives, of_scripts, IsBankLength}
+use Rattle.cc_model.specs.Banks.{Bank, of_natives, of_scripts, of_weak, IsBankLength}
 use Rattle.cc_model.specs.Slots.{Slots, contents, empty_slots, lengthened}
 use Rattle.cc_model.specs.Graph as graph
 use Rattle.cc_model.specs.Graph.{Graph}
@@ -56,6 +56,7 @@ held-before slots n x m = subst (λ xs. Among x xs) (contents-lengthened slots n
 pub view-lengthen : (h : Heap) (b : Bank) (n : ℕ) → view (heap.lengthen h b n) ≡ view h
 view-lengthen h of_natives n = ap (λ xs. record (view h) { registers = xs ++ contents h.script_registers }) (contents-lengthened h.native_registers n)
 view-lengthen h of_scripts n = ap (λ xs. record (view h) { registers = contents h.native_registers ++ xs }) (contents-lengthened h.script_registers n)
+view-lengthen h of_weak n = refl
 
 -- They are well formed,
 lengthen-formed : (h : Heap) (b : Bank) (n : ℕ) → n ≤ most_roots → IsWellFormed h → IsWellFormed (heap.lengthen h b n)
@@ -69,6 +70,7 @@ lengthen-formed h of_scripts n few w = IsWellFormed-registers h h.native_registe
   scripts = λ x m. w.script_registers x (held-before h.script_registers n x m);
   lengths = (w.registers.0, IsBankLength-lengthened h.script_registers n few w.registers.1);
 })
+lengthen-formed h of_weak n few w = w
 
 -- THEY ARE SOUND.
 pub lengthen-sound : (owned : List ℕ) (h : Heap) (b : Bank) (n : ℕ) → n ≤ most_roots → IsSound owned h → IsSound owned (heap.lengthen h b n)
@@ -87,6 +89,7 @@ lengthen-sound owned h of_scripts n few s = record {
   none_zero = s.none_zero;
   owned_there = s.owned_there;
 }
+lengthen-sound owned h of_weak n few s = s
 
 -- The graph
 
@@ -102,6 +105,7 @@ lengthen-well g of_scripts n few w = IsWellMade-registers g g.native_registers (
   scripts = λ x m. w.script_registers x (held-before g.script_registers n x m);
   lengths = (w.registers.0, IsBankLength-lengthened g.script_registers n few w.registers.1);
 })
+lengthen-well g of_weak n few w = w
 
 -- heaps that follow a graph follow it where both banks are lengthened
 Follows-lengthen : (P : Name → Type 0) (h : Heap) (g : Graph) (b : Bank) (n : ℕ) → Follows P h g → Follows P (heap.lengthen h b n) (graph.lengthen g b n)
@@ -111,6 +115,7 @@ Follows-lengthen P h g of_natives n t = Follows-registers P h g (lengthened h.na
 Follows-lengthen P h g of_scripts n t = Follows-registers P h g h.native_registers (lengthened h.script_registers n) g.native_registers (lengthened g.script_registers n)
     t.beside.native_registers (ap (λ (rs : Slots). lengthened rs n) t.beside.script_registers)
     t.closed.native_registers (λ x m. t.closed.script_registers x (held-before g.script_registers n x m)) t
+Follows-lengthen P h g of_weak n t = t
 
 -- HEAPS THAT STAND FOR A GRAPH STAND FOR IT where both banks are lengthened.
 pub lengthen-stands : (h : Heap) (g : Graph) (b : Bank) (n : ℕ) → n ≤ most_roots → IsWellFormed h → IsWellMade g → StandsFor h g →

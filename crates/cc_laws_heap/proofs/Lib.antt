@@ -89,6 +89,7 @@ pub mod CascadeTakesOut
 pub mod Unseen
 pub mod Wrapping
 pub mod StepsAlike
+pub mod WeakRegisters
 pub mod CommandsStand
 pub mod Lengthening
 pub mod GraphLeads

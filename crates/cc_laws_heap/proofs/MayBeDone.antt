@@ -6,7 +6,7 @@ use Rattle.cc_lists.specs.Members.{Among}
 use Rattle.cc_lists.proofs.Members.{Among-map, Among-map_cases}
 use Rattle.cc_names.specs.declared.name.Name.{Name}
 use Rattle.cc_names.specs.declared.register.Reg.{Reg}
-use Rattle.cc_names.specs.declared.register.Reg.TheVariants.{N, S}
+use Rattle.cc_names.specs.declared.register.Reg.TheVariants.{N, S, W}
 use Rattle.cc_names.specs.Names.{native}
 use Rattle.cc_model.specs.declared.command.Command.{Command}
 use Rattle.cc_model.specs.Slots.{contents}
@@ -88,6 +88,7 @@ source-read h r w = record { there = source-there h r w; black = go r }
     go None = λ c o m i. absurd i
     go (Some (N d)) = λ c. native-not_script h (register h (N d)) w (native_register-there h d w)
     go (Some (S d)) = (script_register-read h d w).black
+    go (Some (W d)) = λ c o m i. absurd i
 
 -- what commands read is known
 reads : (h : Heap) → IsWellFormed h → AreRead (readings h) (objects_of h)

@@ -6,7 +6,7 @@ use Rattle.std.specs.List.{list_any}
 use Rattle.std.proofs.Math.Path.{fun_ext}
 use Rattle.cc_names.specs.declared.name.Name.{Name}
 use Rattle.cc_names.specs.declared.register.Reg.{Reg}
-use Rattle.cc_names.specs.declared.register.Reg.TheVariants.{N, S}
+use Rattle.cc_names.specs.declared.register.Reg.TheVariants.{N, S, W}
 use Rattle.cc_names.specs.Names.{is_script}
 use Rattle.cc_model.specs.declared.command.Command.{Command}
 use Rattle.cc_model.specs.Slots.{Slots}
@@ -84,6 +84,7 @@ module _ (h : Heap) (g : Graph) (s : StandsFor h g) where
   register-stands : (r : Reg) → heap.register h r ≡ graph.register g r
   register-stands (N r) = ap (λ (b : Slots). slice_index_or b r None) s.native_registers
   register-stands (S r) = ap (λ (b : Slots). slice_index_or b r None) s.script_registers
+  register-stands (W r) = refl
 
   -- a reached object has the same slots
   slots_in-stands : (x : Name) → Reached g x → heap.slots_in h x ≡ graph.slots_in g x

@@ -11,7 +11,7 @@ use Rattle.cc_model.specs.declared.command.Command.{Command}
 use Rattle.cc_model.specs.declared.command.Command.TheVariants.{Get}
 use Rattle.cc_model.specs.Ranges.{in_range, is_register}
 use Rattle.cc_model.specs.Checks.{Objects, slot_at, slots_at, value_at, native_of, is_map_in, is_native_there, is_script_there}
-use Rattle.cc_model.specs.Deeds.{Deed, nothing_done, native_made, plain_made, map_made, proxy_made, native_held, script_held, script_copied, native_stored, slot_moved, script_stored, reflector_held, reflector_preserved, entry_written, object_exposed, source_of, deed_of}
+use Rattle.cc_model.specs.Deeds.{Deed, nothing_done, native_made, plain_made, map_made, proxy_made, native_held, script_held, script_copied, native_stored, slot_moved, script_stored, reflector_held, reflector_preserved, entry_written, object_exposed, weak_written, source_of, deed_of}
 use Rattle.cc_laws_heap.proofs.Taken.{IsTaken}
 
 -- What is known of what commands read, which may be nothing.
@@ -67,6 +67,7 @@ RestsOn P o (reflector_held d x) = P.held_native x
 RestsOn P o (reflector_preserved x) = P.held_script x
 RestsOn P o (entry_written m k v) = EntryRests P o m k v
 RestsOn P o (object_exposed x) = Unit {0}
+RestsOn P o (weak_written w x) = P.native x
 
 -- What is known of each place that commands read
 pub record AreRead (P : Readings) (o : Objects) : Type 0 where

@@ -5,7 +5,7 @@ use Rattle.cc_lists.specs.Members.{Among}
 use Rattle.cc_lists.proofs.Members.{Among-left, Among-right, Among-append, Among-map}
 use Rattle.cc_names.specs.declared.name.Name.{Name}
 use Rattle.cc_names.specs.declared.name.Name.TheVariants as name
-use Rattle.cc_names.specs.declared.register.Reg.TheVariants.{N, S}
+use Rattle.cc_names.specs.declared.register.Reg.TheVariants.{N, S, W}
 use Rattle.cc_names.specs.declared.kind.Kind.{Kind}
 use Rattle.cc_names.specs.declared.kind.Kind.TheVariants.{Map}
 use Rattle.cc_names.specs.Names.{native, reflector}
@@ -77,6 +77,7 @@ module _ (P : Name → Type 0) (h : Heap) (g : Graph) (w : IsWellFormed h) (m : 
   reached-within : (x : Name) → Reached g x → P x
   reached-within _ (held (N r) x e) = f.closed.native_registers x (contents-get g.native_registers r x e)
   reached-within _ (held (S r) x e) = f.closed.script_registers x (contents-get g.script_registers r x e)
+  reached-within _ (held (W r) x e) = absurd (contents-get [] r x e)
   reached-within _ (edge x y d i) = go (reached-within x d) (shape_in g x) refl (subst (Among y) (edges_of-shape g x) i)
     where
       go : P x → (o : Option Shape) → shape_in g x ≡ o → Among y (edges_of_some x o) → P y
@@ -97,6 +98,7 @@ module _ (P : Name → Type 0) (h : Heap) (g : Graph) (w : IsWellFormed h) (m : 
   reached-kept _ (held (S r) x e) = kept-there x (reached-within x (held (S r) x e))
       (Among-right x (native_names h) (script_names h)
       (w.script_registers x (subst (λ (b : Slots). Among x (contents b)) (sym f.beside.script_registers) (contents-get g.script_registers r x e))))
+  reached-kept _ (held (W r) x e) = absurd (contents-get [] r x e)
   reached-kept _ (edge x y d i) =
       let k = reached-kept x d in
       kept-there y (reached-within y (edge x y d i)) (edges-there h w x y k.shape k.there (subst (Among y) (edges_of-made g x k.shape k.made) i))

@@ -5,7 +5,7 @@ use Rattle.cc_names.specs.declared.register.Reg.TheVariants.{S}
 use Rattle.cc_names.specs.declared.kind.Kind.TheVariants.{Plain, Map}
 use Rattle.cc_model.specs.declared.command.Command.{Command}
 use Rattle.cc_model.specs.Ranges.{in_range}
-use Rattle.cc_model.specs.Deeds.{Deed, nothing_done, native_made, plain_made, map_made, proxy_made, native_held, script_held, script_copied, native_stored, slot_moved, script_stored, reflector_held, reflector_preserved, entry_written, object_exposed, deed_of}
+use Rattle.cc_model.specs.Deeds.{Deed, nothing_done, native_made, plain_made, map_made, proxy_made, native_held, script_held, script_copied, native_stored, slot_moved, script_stored, reflector_held, reflector_preserved, entry_written, object_exposed, weak_written, deed_of}
 use Rattle.cc_model.specs.Heap.{Heap, objects_of}
 use Rattle.cc_model.specs.View.{view}
 use Rattle.cc_model.specs.Snapshot.{Snapshot}
@@ -43,6 +43,7 @@ done_in-gentle {owned} h (reflector_held d x) s c m = wrapped-gentle owned h d x
 done_in-gentle h (reflector_preserved x) s c m = preserve-gentle h x (not_gray-held h x (m.black c))
 done_in-gentle h (entry_written m k v) s c t = set_entry-gentle h m k v (not_gray-held h k (t.key.black c)) (not_gray-held h v (t.value.black c))
 done_in-gentle h (object_exposed x) s c m = exposed-gentle h x s.well_formed
+done_in-gentle h (weak_written w x) s c m = AreGentle-refl h
 
 -- It keeps a fresh snapshot fresh.
 pub done_in-fresh : {owned : List ℕ} (h : Heap) (s : Snapshot) (d : Deed) → IsSound owned h → IsFresh h.natives_made (view h) s → MayBeDone h d →

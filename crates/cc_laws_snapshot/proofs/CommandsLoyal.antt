@@ -12,7 +12,7 @@ use Rattle.cc_model.specs.declared.command.Command.{Command}
 use Rattle.cc_model.specs.Slots.{contents}
 use Rattle.cc_model.specs.Ranges.{in_range}
 use Rattle.cc_model.specs.Checks.{slots_at, reflector_of}
-use Rattle.cc_model.specs.Deeds.{Deed, nothing_done, native_made, plain_made, map_made, proxy_made, native_held, script_held, script_copied, native_stored, slot_moved, script_stored, reflector_held, reflector_preserved, entry_written, object_exposed, deed_of}
+use Rattle.cc_model.specs.Deeds.{Deed, nothing_done, native_made, plain_made, map_made, proxy_made, native_held, script_held, script_copied, native_stored, slot_moved, script_stored, reflector_held, reflector_preserved, entry_written, object_exposed, weak_written, deed_of}
 use Rattle.cc_model.specs.Heap.{Heap, HeapNative, Outcome, native_at, register, set_register, change_native, with_native_slot, objects_of}
 use Rattle.cc_model.specs.View.{view, ReachedIn}
 use Rattle.cc_model.specs.Cascade.{take_up, let_go}
@@ -112,6 +112,7 @@ done_in-loyal {owned} h (reflector_held d x) s m = handed-loyal owned None h (se
 done_in-loyal h (reflector_preserved x) s m = still_done-loyal h (reflector_preserved x) s m (Still-preserve h x)
 done_in-loyal h (entry_written m k v) s t = still_done-loyal h (entry_written m k v) s t (Still-set_entry h m k v)
 done_in-loyal h (object_exposed x) s m = still_done-loyal h (object_exposed x) s m (Still-exposed h x)
+done_in-loyal h (weak_written w x) s m = still_done-loyal h (weak_written w x) s m (Still-refl h)
 
 -- A command that is not refused is a loyal change.
 pub effects-loyal : {owned : List ℕ} (h : Heap) (c : Command) → IsSound owned h → IsTrue (in_range c) → IsTaken (objects_of h) c → IsLoyal (view h) (view (effects h c).heap)

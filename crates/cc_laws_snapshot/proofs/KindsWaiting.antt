@@ -4,7 +4,7 @@ use Rattle.cc_lists.specs.Members.{Among}
 use Rattle.cc_lists.proofs.Members.{Among-map, Among-map_cases, Among-left, Among-right, Among-append, Among-flat_map}
 use Rattle.cc_names.specs.declared.name.Name.{Name}
 use Rattle.cc_names.specs.declared.register.Reg.{Reg}
-use Rattle.cc_names.specs.declared.register.Reg.TheVariants.{N, S}
+use Rattle.cc_names.specs.declared.register.Reg.TheVariants.{N, S, W}
 use Rattle.cc_names.specs.Names.{native, natives_in, number_of}
 use Rattle.cc_model.specs.Slots.{contents}
 use Rattle.cc_model.specs.Heap.{Heap, HeapNative, native_at, register, set_register, change_native, with_native_slot}
@@ -91,6 +91,11 @@ register_written-suspected h candidates (S d) x w =
     (contents-written_kept h.script_registers d x (native i) l))
     (Among-append (native i) (contents h.native_registers) (contents h.script_registers) m))
     (λ i m. stays-marked (numbers_of (register h (S d))) (set_register h (S d) x) i m)
+    (λ y m. inl m) (λ y l. l)
+register_written-suspected h candidates (W d) x w =
+    waiting-suspected h h candidates (numbers_of (register h (W d))) (view h).buffer (view h).purple w (HasScriptNames-well_formed h w)
+    (λ y i m. inl m) (λ i m. inl m)
+    (λ i m. stays-marked (numbers_of (register h (W d))) h i m)
     (λ y m. inl m) (λ y l. l)
 
 -- A slot of a native is written: what it held waits.

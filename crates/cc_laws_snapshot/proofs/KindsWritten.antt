@@ -7,7 +7,7 @@ use Rattle.cc_lists.proofs.Members.{Among-map, Among-left, Among-right, Among-ap
 use Rattle.cc_names.specs.declared.name.Name.{Name}
 use Rattle.cc_names.specs.declared.kind.Colour.{Colour}
 use Rattle.cc_names.specs.declared.register.Reg.{Reg}
-use Rattle.cc_names.specs.declared.register.Reg.TheVariants.{N, S}
+use Rattle.cc_names.specs.declared.register.Reg.TheVariants.{N, S, W}
 use Rattle.cc_names.specs.Names.{native, reflector, natives_in, is_script}
 use Rattle.cc_model.specs.Slots.{contents}
 use Rattle.cc_model.specs.Heap.{Heap, HeapNative, HeapScript, native_at, is_white_colour, is_black_colour, set_register, change_native, change_script, with_native_slot, with_script_slot, set_preserved}
@@ -59,6 +59,7 @@ register-colours h (S d) x black = record {
       (Among-flat_map_set option_to_list h.script_registers d x y r))
       (Among-append y (contents h.native_registers) (contents (set_register h (S d) x).script_registers) m);
 }
+register-colours h (W d) x black = record { black = λ y m. m; white = refl; held = λ y m i. inl m }
 
 -- A register is written.
 pub register_written-fresh : (h : Heap) (s : Snapshot) (r : Reg) (x : Option Name) → IsThereIn (view h) x → IsNotGrayIn (view h) x →

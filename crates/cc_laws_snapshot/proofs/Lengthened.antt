@@ -1,6 +1,6 @@
 -- A BANK LENGTHENED IS A GENTLE AND A LOYAL CHANGE: the registers that come are empty, so the view is the same.
 use Rattle.std.proofs.Common.{ℕ, List, [], sym, subst}
-use Rattle.cc_model.specs.Banks.{Bank, of_natives, of_scripts}
+use Rattle.cc_model.specs.Banks.{Bank, of_natives, of_scripts, of_weak}
 use Rattle.cc_model.specs.Heap.{Heap, lengthen}
 use Rattle.cc_model.specs.View.{View, view}
 use Rattle.cc_model.specs.Snapshot.{Snapshot}
@@ -17,6 +17,7 @@ use Rattle.cc_laws_snapshot.proofs.LoyalSuspected.{loses-loyal, loses-same}
 pub lengthen-gentle : (h : Heap) (b : Bank) (n : ℕ) → AreGentle h (lengthen h b n)
 lengthen-gentle h of_natives n = subst (λ (v : View). IsGentleBut [] h.natives_made h.natives_made (view h) v) (sym (view-lengthen h of_natives n)) (AreGentle-refl h)
 lengthen-gentle h of_scripts n = subst (λ (v : View). IsGentleBut [] h.natives_made h.natives_made (view h) v) (sym (view-lengthen h of_scripts n)) (AreGentle-refl h)
+lengthen-gentle h of_weak n = AreGentle-refl h
 
 -- and loyal.
 pub lengthen-loyal : (h : Heap) (b : Bank) (n : ℕ) → IsLoyal (view h) (view (lengthen h b n))
@@ -26,6 +27,7 @@ lengthen-loyal h b n = subst (λ (v : View). IsLoyal (view h) v) (sym (view-leng
 pub lengthen-fresh : (h : Heap) (s : Snapshot) (b : Bank) (n : ℕ) → IsFreshIn h s → IsFreshIn (lengthen h b n) s
 lengthen-fresh h s of_natives n f = subst (λ (v : View). IsFresh h.natives_made v s) (sym (view-lengthen h of_natives n)) f
 lengthen-fresh h s of_scripts n f = subst (λ (v : View). IsFresh h.natives_made v s) (sym (view-lengthen h of_scripts n)) f
+lengthen-fresh h s of_weak n f = f
 
 -- NO NATIVE IS FORGOTTEN while registers come.
 pub lengthen-suspected : (h : Heap) (candidates : List ℕ) (b : Bank) (n : ℕ) → IsSuspectedIn h candidates → IsSuspectedIn (lengthen h b n) candidates

@@ -11,7 +11,7 @@ use Rattle.cc_lists.proofs.Counting.{count_by-append, count_by-map}
 use Rattle.cc_names.specs.declared.name.Name.{Name}
 use Rattle.cc_names.specs.declared.name.Name.TheVariants as name
 use Rattle.cc_names.specs.declared.register.Reg.{Reg}
-use Rattle.cc_names.specs.declared.register.Reg.TheVariants.{N, S}
+use Rattle.cc_names.specs.declared.register.Reg.TheVariants.{N, S, W}
 use Rattle.cc_names.specs.Names.{native, reflector, same_name}
 use Rattle.cc_names.proofs.NameTests.{same_name-true}
 use Rattle.cc_model.proofs.Places.{native_edges-split, native_edges-count}
@@ -39,6 +39,7 @@ use Rattle.cc_laws_snapshot.proofs.Edges.{native_edges-has}
 pub register-gentle : (h : Heap) (r : Reg) (x : Option Name) → AreGentle h (set_register h r x)
 register-gentle h (N d) x = IsGentleBut-registers h.natives_made (view h) (view (set_register h (N d) x)).registers
 register-gentle h (S d) x = IsGentleBut-registers h.natives_made (view h) (view (set_register h (S d) x)).registers
+register-gentle h (W d) x = AreGentle-refl h
 
 -- References taken
 
