@@ -1,5 +1,5 @@
 -- UNITS OF A SCRIPT MARKING use no answer of memory, tell no abandonment, and add to what was told before.
-use Rattle.std.proofs.Common.{◌≡◌, ℕ, zero, suc, ◌+◌, Bool, true, false, List, ◌++◌, Option, Some, None, refl, ◌∙◌, ap, arith}
+use Rattle.std.proofs.Common.{◌≡◌, ℕ, zero, suc, Bool, true, false, List, Option, Some, None, refl, ◌∙◌, ap, arith}
 use Rattle.cc_model.specs.declared.item.Event.{Event}
 use Rattle.cc_model.specs.Heap.{Heap}
 use Rattle.cc_model.specs.Colours.{coloured_by}
