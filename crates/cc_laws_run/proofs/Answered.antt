@@ -23,7 +23,7 @@ use Rattle.cc_model.specs.Heap.{objects_of}
 use Rattle.cc_model.specs.Effects.{effects, takes_memory}
 use Rattle.cc_model.specs.WellFormed.{native_names, script_names}
 use Rattle.cc_model.specs.Counts.{times}
-use Rattle.cc_model.specs.Lawful.{State, Explains, AnswersCommand, EachMayBe, is_refused, is_abandoning, has_none, has_abandonment_in_place, runs, runs_allowed, unlinked_numbers, AnswersClass, deed_may_want_memory, class_may_want_memory}
+use Rattle.cc_model.specs.Lawful.{State, Explains, AnswersCommand, EachMayBe, is_refused, is_abandoning, is_abandonment, has_none, begins_with_at_most_one, has_abandonment_in_place, runs, runs_allowed, unlinked_numbers, AnswersClass, deed_may_want_memory, class_may_want_memory}
 use Rattle.cc_model.specs.Collecting.{Machine}
 use Rattle.cc_model.specs.Run.{Turn, turn_of, mutate, said, say}
 use Rattle.cc_model.proofs.NoDeeds.{no_deed-reply}
@@ -57,10 +57,15 @@ has_none-freed : (ks : List ℕ) → has_none (map freed_event ks) ≡ true
 has_none-freed [] = refl
 has_none-freed (k ∷ ks) = has_none-freed ks
 
+-- where none is told, none stands behind the first event
+none-first : (events : List Event) → has_none events ≡ true → begins_with_at_most_one events ≡ true
+none-first [] e = refl
+none-first (x ∷ events) e = (and_parts (not (is_abandonment x)) (has_none events) e).1
+
 -- where no collection moves, an abandonment is out of place
 abandonment-none : (c : Command) (reply : Reply) (events : List Event) → IsTrue (moves_no_collection (taken c)) → has_none events ≡ true →
     IsTrue (has_abandonment_in_place c reply events)
-abandonment-none c reply events t e = grind arith
+abandonment-none c reply events t e = grind (arith, none-first)
 
 -- nothing unlinked makes no run
 rising-none : (c : Command) (events : List Event) → unlinked_numbers events ≡ [] → IsTrue (nat_le (runs (unlinked_numbers events)) (runs_allowed c))

@@ -1,8 +1,8 @@
 -- NO ASK FORGETS AN UNREACHED NATIVE: commands, units of collections, and `gc`.
 use Rattle.std.specs.Prelude.{IsTrue}
-use Rattle.std.proofs.Common.{ℕ, [], refl, sym, subst}
+use Rattle.std.proofs.Common.{◌≡◌, ℕ, [], refl, sym, subst}
 use Rattle.cc_model.specs.declared.command.Command.{Command}
-use Rattle.cc_model.specs.Mutating.{Class, so_many, whole, says, does, runs, collects_scripts, class_of}
+use Rattle.cc_model.specs.Mutating.{Class, so_many, whole, says, does, forgets, reads_weak, runs, collects_scripts, class_of}
 use Rattle.cc_model.specs.Asks.{Ask, taken}
 use Rattle.cc_model.specs.Ranges.{in_range}
 use Rattle.cc_model.specs.View.{view}
@@ -16,6 +16,7 @@ use Rattle.cc_laws_run.specs.Doomed.{candidates_now, IsSuspectedNow}
 use Rattle.cc_laws_run.specs.Running.{IsRunning, ask_in_range}
 use Rattle.cc_laws_snapshot.proofs.CommandsSuspected.{effects-suspected}
 use Rattle.cc_laws_snapshot.proofs.SweepLoses.{collect_scripts-suspected}
+use Rattle.cc_laws_run.proofs.Spoken.{spoken-as}
 use Rattle.cc_laws_run.proofs.CommandCases.{mutate-cases, say-leaves}
 use Rattle.cc_laws_run.proofs.HoldingUnits.{unless_stopped-cases}
 use Rattle.cc_laws_run.proofs.QuietUnits.{IsGoing, units-going, IsGoingOn, gc-collects, finish_running-going, running-going}
@@ -58,15 +59,18 @@ module _ (m : Machine) (s : State) (r : IsRunning m s) (suspected : IsSuspectedN
       (subst (λ h. IsSuspected (view h) []) (sym f.3) (collect_scripts-suspected f.0 f.1 f.2))
 
   -- no class of commands forgets one
-  class-suspected : (c : Command) → IsTrue (in_range c) → (k : Class) → IsSuspectedNow (do_class m c k).machine
-  class-suspected c i (says q) = say-leaves m q IsSuspectedNow (λ memory. suspected)
-  class-suspected c i does = mutate-suspected m c r.sound i suspected
-  class-suspected c i (runs (so_many n)) = slice-suspected n
-  class-suspected c i (runs whole) = collect-suspected
-  class-suspected c i collects_scripts = gc-suspected
+  class-suspected : (c : Command) → IsTrue (in_range c) → (k : Class) → class_of c ≡ k → IsSuspectedNow (do_class m c k).machine
+  class-suspected c i (says q) e = say-leaves m q IsSuspectedNow (λ memory. suspected)
+  class-suspected c i does e = mutate-suspected m c r.sound i suspected
+  class-suspected c i (runs (so_many n)) e = slice-suspected n
+  class-suspected c i (runs whole) e = collect-suspected
+  class-suspected c i (collects_scripts whole) e = gc-suspected
+  class-suspected c i (collects_scripts (so_many n)) e = absurd (spoken-as c i (collects_scripts (so_many n)) e)
+  class-suspected c i forgets e = absurd (spoken-as c i forgets e)
+  class-suspected c i (reads_weak d w) e = absurd (spoken-as c i (reads_weak d w) e)
 
 -- NO ASK FORGETS AN UNREACHED NATIVE.
 pub ask-suspected : (m : Machine) (s : State) (ask : Ask) → IsRunning m s → IsTrue (ask_in_range ask) → IsSuspectedNow m → IsSuspectedNow (do_ask m ask).machine
 unfolding do_ask
-ask-suspected m s (taken c) r i t = class-suspected m s r t c i (class_of c)
+ask-suspected m s (taken c) r i t = class-suspected m s r t c i (class_of c) refl
 ask-suspected m s _ r i t = t

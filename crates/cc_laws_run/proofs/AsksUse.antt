@@ -1,22 +1,26 @@
 -- WHAT AN ASK USES of memory's answers: a front of them, with one `no` for each that its answer tells; and where memory is at every place, none is told.
-use Rattle.std.proofs.Common.{◌≡◌, ℕ, Bool, true, false, not, List, [], ◌∷◌, ◌++◌, Option, Some, None, refl, sym, ap, subst, arith}
+use Rattle.std.proofs.Common.{◌≡◌, ℕ, ◌+◌, Bool, true, false, not, List, [], ◌∷◌, ◌++◌, Option, Some, None, refl, sym, ◌∙◌, ap, subst, arith}
+use Rattle.cc_names.specs.declared.name.Name.{Name}
 use Rattle.cc_model.specs.declared.command.Command.{Command}
 use Rattle.cc_model.specs.declared.item.Refusal.{Refusal}
 use Rattle.cc_model.specs.declared.item.Refusal.TheVariants.{NoMemory}
-use Rattle.cc_model.specs.declared.item.Reply.TheVariants.{Refused}
+use Rattle.cc_model.specs.declared.item.Reply.TheVariants.{Done, Refused}
 use Rattle.cc_model.specs.Answers.{Answer, replying}
-use Rattle.cc_model.specs.Mutating.{Class, Saying, says, does, runs, collects_scripts, class_of, takes_memory_to_say}
+use Rattle.cc_model.specs.Mutating.{so_many, whole, Class, Saying, says, does, forgets, reads_weak, runs, collects_scripts, class_of, takes_memory_to_say}
 use Rattle.cc_model.specs.Asks.{Ask, taken}
-use Rattle.cc_model.specs.Checks.{Objects, refusal_of, reply_if_taken}
+use Rattle.cc_model.specs.Checks.{Objects, named_or_nothing, refusal_of, reply_if_taken}
+use Rattle.cc_model.specs.Deeds.{deed_of}
 use Rattle.cc_model.specs.Heap.{objects_of, Heap, Outcome}
-use Rattle.cc_model.specs.Effects.{effects, takes_memory}
+use Rattle.cc_model.specs.Effects.{effects, hold_native, takes_memory}
+use Rattle.cc_model.specs.Skipping.{forgotten}
 use Rattle.cc_model.specs.End.{Progress}
-use Rattle.cc_model.specs.Collecting.{Machine, next_answer, later_answers, UnitsDone, no_units, gc, reply_to_units}
-use Rattle.cc_model.specs.Run.{Turn, turn_of, answering, if_granted, unless_refused, mutate, after_units, after_gc, do_ask, said, say, run_units, do_class}
+use Rattle.cc_model.specs.Collecting.{Machine, next_answer, later_answers, UnitsDone, no_units, finish_running, starting_anew, gc, units_marked, mark, reply_to_units}
+use Rattle.cc_model.specs.Run.{Turn, turn_of, answering, beside_deed, if_granted, unless_refused, mutate, noted, read_weak, forget_suspects, after_units, after_gc, do_ask, said, say, run_units, do_class}
 use Rattle.cc_laws_run.specs.Memory.{with_memory, noes, noes_of_reply, noes_told, noes_told_by}
-use Rattle.cc_laws_run.proofs.Unabandoned.{abandonments, TellsNone, effects-none}
+use Rattle.cc_laws_run.proofs.Unabandoned.{abandonments, TellsNone, hold_native-none, effects-none}
 use Rattle.cc_laws_run.proofs.CommandCases.{taken-granted, said-silent}
-use Rattle.cc_laws_run.proofs.UnitsUse.{refusals, UnitsUse, run_units-use, gc-use, ample-next, ample-later}
+use Rattle.cc_laws_run.proofs.UnitsUse.{refusals, UnitsUse, finish_running-use, run_units-use, gc-use, ample-next, ample-later}
+use Rattle.cc_laws_run.proofs.MarkedUnits.{units_marked-memory, units_marked-with, units_marked-told}
 
 -- the same turn, with other answers of memory to come
 abbrev pub turn_with : Turn → List Bool → Turn
@@ -61,14 +65,19 @@ silent-use : (m : Machine) (a : Answer) → noes_of_reply a.reply ≡ 0 → Tell
     TurnUse (λ memory. turn_of (with_memory m memory) a) in_reply m.memory (turn_of m a)
 silent-use m a reply events = record { used = []; any = λ more. refl; said_no = sym reply; ample = λ e. record { same = refl; memory = e; reply = reply; events = events } }
 
--- a machine with other heaps, and an answer
-abbrev leaving : (Heap → Heap) → Answer → Machine → Turn
-leaving f a n = turn_of (record n { heap = f n.heap }) a
+-- a machine in which something was done, and an answer
+abbrev leaving : (Machine → Machine) → Answer → Machine → Turn
+leaving f a n = turn_of (f n) a
+
+-- what is done neither reads nor uses the answers of memory
+record LeavesMemory (f : Machine → Machine) : Type 0 where
+  same : (n : Machine) (memory : List Bool) → f (with_memory n memory) ≡ with_memory (f n) memory
+  left : (n : Machine) → (f n).memory ≡ n.memory
 
 -- What is done where memory is there uses one answer where it takes some, and none elsewhere.
-granted-use : (m : Machine) (takes : Bool) (f : Heap → Heap) (a : Answer) → noes_of_reply a.reply ≡ 0 → TellsNone a.events →
+granted-use : (m : Machine) (takes : Bool) (f : Machine → Machine) (a : Answer) → LeavesMemory f → noes_of_reply a.reply ≡ 0 → TellsNone a.events →
     TurnUse (λ memory. if_granted (with_memory m memory) takes (leaving f a)) in_reply m.memory (if_granted m takes (leaving f a))
-granted-use m takes f a replies events = go takes
+granted-use m takes f a leaves replies events = go takes
   where
     answered : Bool → List Bool → Turn
     answered answer memory = elim (not answer) [
@@ -77,7 +86,7 @@ granted-use m takes f a replies events = go takes
     ]
 
     any : (answer : Bool) (memory more : List Bool) → answered answer more ≡ turn_with (answered answer memory) more
-    any true memory more = refl
+    any true memory more = ap (λ (n : Machine). turn_of n a) (leaves.same (with_memory m memory) more)
     any false memory more = refl
 
     said_no : (answer : Bool) (memory : List Bool) → noes (answer ∷ []) ≡ in_reply (answered answer memory).answer
@@ -90,13 +99,23 @@ granted-use m takes f a replies events = go takes
       any = λ more. any (next_answer m.memory) (later_answers m.memory) more;
       said_no = said_no (next_answer m.memory) (later_answers m.memory);
       ample = λ e. subst (λ b. HasAmple (answered true []) (answered b (later_answers m.memory))) (sym (ample-next m.memory e))
-          (record { same = refl; memory = ample-later m.memory e; reply = replies; events = events });
+          (record {
+        same = any true (later_answers m.memory) [];
+        memory = ap noes (leaves.left (with_memory m (later_answers m.memory))) ∙ ample-later m.memory e;
+        reply = replies;
+        events = events;
+      });
     }
     go false = record {
       used = [];
-      any = λ more. refl;
+      any = λ more. ap (λ (n : Machine). turn_of n a) (leaves.same m more);
       said_no = sym replies;
-      ample = λ e. record { same = refl; memory = e; reply = replies; events = events };
+      ample = λ e. record {
+        same = ap (λ (n : Machine). turn_of n a) (leaves.same m []);
+        memory = ap noes (leaves.left m) ∙ e;
+        reply = replies;
+        events = events;
+      };
     }
 
 -- Commands of the mutator
@@ -109,8 +128,13 @@ mutate-use m c = go (refusal_of (objects_of m.heap) c) (refusal-noes (objects_of
     o : Outcome
     o = effects m.heap c
 
+    -- its deed, and what it does to the heaps
+    abbrev done : Machine → Machine
+    done n = record (beside_deed n (deed_of (objects_of m.heap) c)) { heap = o.heap }
+
     go : (r : Option Refusal) → noes_of_refusal r ≡ 0 → TurnUse (λ memory. unless_refused (with_memory m memory) c r) in_reply m.memory (unless_refused m c r)
-    go None none = granted-use m (takes_memory m.heap c) (λ h. o.heap) (replying o.events (reply_if_taken (objects_of m.heap) c)) (reply-noes (objects_of m.heap) c) (effects-none m.heap c)
+    go None none = granted-use m (takes_memory m.heap c) done (replying o.events (reply_if_taken (objects_of m.heap) c))
+        (record { same = λ n memory. refl; left = λ n. refl }) (reply-noes (objects_of m.heap) c) (effects-none m.heap c)
     go (Some refusal) none = silent-use m (replying [] (Refused refusal)) none refl
 
 -- The other commands
@@ -124,7 +148,7 @@ after_units-use : (f : List Bool → UnitsDone) (m : Machine) (r : UnitsDone) �
     TurnUse (λ memory. after_units (f memory)) in_reply m.memory (after_units r)
 after_units-use f m r u = grind (arith, reply_to_units-noes)
 
--- under `gc` the events tell a refusal
+-- under `gc` and `mark` the events tell a refusal
 after_gc-use : (f : List Bool → UnitsDone) (m : Machine) (r : UnitsDone) → UnitsUse f (no_units m) r →
     TurnUse (λ memory. after_gc (f memory)) (λ a. abandonments a.events) m.memory (after_gc r)
 after_gc-use f m r u = grind arith
@@ -135,15 +159,59 @@ said-noes h q = grind arith
 
 -- it uses one answer where it takes memory, and none elsewhere
 say-use : (m : Machine) (q : Saying) → TurnUse (λ memory. say (with_memory m memory) q) in_reply m.memory (say m q)
-say-use m q = granted-use m (takes_memory_to_say q) (λ h. h) (said m.heap q) (said-noes m.heap q)
+say-use m q = granted-use m (takes_memory_to_say q) (λ n. n) (said m.heap q) (record { same = λ n memory. refl; left = λ n. refl }) (said-noes m.heap q)
     (subst TellsNone (sym (said-silent m.heap q)) refl)
+
+-- suspects that are forgotten use none
+forget-use : (m : Machine) → TurnUse (λ memory. forget_suspects (with_memory m memory)) in_reply m.memory (forget_suspects m)
+forget-use m = granted-use m false (λ n. record n { heap = forgotten n.heap }) (replying [] Done) (record { same = λ n memory. refl; left = λ n. refl }) refl refl
+
+-- a name, or that nothing is there, is no want of memory
+named-noes : (x : Option Name) → noes_of_reply (Some (named_or_nothing x)) ≡ 0
+named-noes None = refl
+named-noes (Some x) = refl
+
+-- a weak register that is read uses none
+read_weak-use : (m : Machine) (d w : ℕ) → TurnUse (λ memory. read_weak (with_memory m memory) d w) in_reply m.memory (read_weak m d w)
+read_weak-use m d w =
+    let x : Option Name = noted m w in
+    let o : Outcome = hold_native m.heap d x in
+    granted-use m false (λ n. record n { heap = o.heap }) (replying o.events (named_or_nothing x)) (record { same = λ n memory. refl; left = λ n. refl })
+    (named-noes x) (hold_native-none m.heap d x)
+
+-- a script marking uses what the end of a running collection uses, and tells of it
+mark-use : (n : ℕ) (m : Machine) → TurnUse (λ memory. after_gc (mark n (with_memory m memory))) (λ a. abandonments a.events) m.memory (after_gc (mark n m))
+unfolding mark
+mark-use n m =
+    let u = finish_running-use m in
+    let p : Progress = (finish_running m).progress in
+    let d : UnitsDone = starting_anew (finish_running m) in
+    let refused : abandonments d.events + 0 ≡ 0 + refusals p = u.told in
+    let told : abandonments (units_marked n d).events ≡ refusals p = omega (arith, units_marked-told n d, refused) in
+    let used : noes u.used + 0 ≡ refusals p = u.said_no in
+    record {
+      used = u.used;
+      any = λ more. ap (λ (e : UnitsDone). after_gc (units_marked n (starting_anew e))) (u.any more) ∙ ap after_gc (units_marked-with n d more);
+      said_no = omega (arith, used, told);
+      ample = λ e.
+          let w = u.ample e refl in
+          record {
+            same = ap (λ (e : UnitsDone). after_gc (units_marked n (starting_anew e))) w.0 ∙ ap after_gc (units_marked-with n d []);
+            memory = ap noes (units_marked-memory n d) ∙ w.1;
+            reply = refl;
+            events = told ∙ w.2;
+          };
+    }
 
 -- a command of each class uses a front of them
 class-use : (m : Machine) (c : Command) (k : Class) → TurnUse (λ memory. do_class (with_memory m memory) c k) (noes_told_by k) m.memory (do_class m c k)
 class-use m c (says q) = say-use m q
 class-use m c does = mutate-use m c
 class-use m c (runs u) = after_units-use (λ memory. run_units (with_memory m memory) u) m (run_units m u) (run_units-use u m)
-class-use m c collects_scripts = after_gc-use (λ memory. gc (with_memory m memory)) m (gc m) (gc-use m)
+class-use m c (collects_scripts whole) = after_gc-use (λ memory. gc (with_memory m memory)) m (gc m) (gc-use m)
+class-use m c (collects_scripts (so_many n)) = mark-use n m
+class-use m c forgets = forget-use m
+class-use m c (reads_weak d w) = read_weak-use m d w
 
 -- AN ASK USES A FRONT OF MEMORY'S ANSWERS.
 pub ask-use : (m : Machine) (ask : Ask) → TurnUse (λ memory. do_ask (with_memory m memory) ask) (noes_told ask) m.memory (do_ask m ask)

@@ -6,7 +6,7 @@ use Rattle.cc_names.specs.declared.name.Name.{Name}
 use Rattle.cc_model.specs.declared.command.Command.{Command}
 use Rattle.cc_model.specs.declared.item.Event.{Event}
 use Rattle.cc_model.specs.declared.item.Reply.TheVariants.{Done}
-use Rattle.cc_model.specs.Mutating.{Running, runs as runs_some, collects_scripts, class_of, is_deed, is_units, is_script_collection}
+use Rattle.cc_model.specs.Mutating.{Running, whole, runs as runs_some, collects_scripts, class_of, is_deed, is_units, is_script_collection}
 use Rattle.cc_model.specs.Asks.{taken}
 use Rattle.cc_model.specs.Checks.{refusal_of}
 use Rattle.cc_model.specs.Graph.{Graph, objects_of, step, reply_to}
@@ -95,7 +95,7 @@ module _ (m : Machine) (s : State) (c : Command) (u : Running) (r : IsRunning m 
 
 -- Script collections
 
-module _ (m : Machine) (s : State) (c : Command) (r : IsRunning m s) (is : class_of c ≡ collects_scripts) where
+module _ (m : Machine) (s : State) (c : Command) (r : IsRunning m s) (is : class_of c ≡ collects_scripts whole) where
   none : is_deed (class_of c) ≡ false
   none = ap is_deed is
 
@@ -107,7 +107,7 @@ module _ (m : Machine) (s : State) (c : Command) (r : IsRunning m s) (is : class
   begins-placed = grind (arith, lawful.begins, ap is_script_collection is)
 
   -- A SCRIPT COLLECTION is answered lawfully.
-  pub gc-answers : AnswersClass s c (after_gc (gc m)).answer collects_scripts
+  pub gc-answers : AnswersClass s c (after_gc (gc m)).answer (collects_scripts whole)
   gc-answers = (
     refl,
     refl,

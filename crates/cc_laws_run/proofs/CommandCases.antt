@@ -14,10 +14,11 @@ use Rattle.cc_model.specs.Graph as graph
 use Rattle.cc_model.specs.Graph.{Graph, changed, step}
 use Rattle.cc_model.specs.Heap.{objects_of, Heap}
 use Rattle.cc_model.specs.Effects.{effects, takes_memory}
-use Rattle.cc_model.specs.Listed.{listed}
+use Rattle.cc_model.specs.Deeds.{deed_of}
+use Rattle.cc_model.specs.Listed.{ended_after, listed}
 use Rattle.cc_model.specs.Lawful.{State, next, graph_after, is_refused, is_without_memory, state_of}
 use Rattle.cc_model.specs.Collecting.{Machine, later_answers, next_answer}
-use Rattle.cc_model.specs.Run.{Turn, answering, with_effects, mutate, if_granted, said, say, unless_refused, turn_of}
+use Rattle.cc_model.specs.Run.{Turn, answering, beside_deed, with_effects, mutate, if_granted, said, say, unless_refused, turn_of}
 use Rattle.cc_model.proofs.NoDeeds.{no_deed-graph, no_deed-lists}
 
 -- Whatever holds where memory is wanted and where it is there holds of the turn.
@@ -39,15 +40,15 @@ pub mutate-cases : (m : Machine) (c : Command) (P : Turn → Type 0) →
     ((refusal : Refusal) → refusal_of (objects_of m.heap) c ≡ Some refusal → P (answering m [] (Refused refusal))) →
     (refusal_of (objects_of m.heap) c ≡ None → takes_memory m.heap c ≡ true → P (answering (record m { memory = later_answers m.memory }) [] (Refused NoMemory))) →
     (refusal_of (objects_of m.heap) c ≡ None → (memory : List Bool) →
-    P (with_effects (record m { memory = memory }) (reply_if_taken (objects_of m.heap) c) (effects m.heap c))) →
+    P (with_effects (beside_deed (record m { memory = memory }) (deed_of (objects_of m.heap) c)) (reply_if_taken (objects_of m.heap) c) (effects m.heap c))) →
     P (mutate m c)
 unfolding mutate
 mutate-cases m c P refused unmet done = go (refusal_of (objects_of m.heap) c) refl
   where
     go : (o : Option Refusal) → refusal_of (objects_of m.heap) c ≡ o → P (unless_refused m c o)
     go (Some refusal) e = refused refusal e
-    go None e = granted-cases m (takes_memory m.heap c) (λ n. with_effects n (reply_if_taken (objects_of m.heap) c) (effects m.heap c)) P
-        (unmet e) (done e)
+    go None e = granted-cases m (takes_memory m.heap c)
+        (λ n. with_effects (beside_deed n (deed_of (objects_of m.heap) c)) (reply_if_taken (objects_of m.heap) c) (effects m.heap c)) P (unmet e) (done e)
 
 -- What is said
 
@@ -102,7 +103,7 @@ listed-refused names c refusal = grind arith
 -- the state after a refusal that leaves the graph is the state before it
 next-state : (s : State) (c : Command) (refusal : Refusal) → graph_after s.graph c (Some (Refused refusal)) ≡ s.graph →
     next s (taken c) (replying [] (Refused refusal)) ≡ s
-next-state s c refusal e = λ i. state_of (e i) (listed-refused s.listed c refusal i)
+next-state s c refusal e = λ i. state_of (e i) (listed-refused s.listed c refusal i) s.ended
 
 -- a command that is refused leaves the state
 pub next-refused : (s : State) (c : Command) (refusal : Refusal) → refusal_of (graph.objects_of s.graph) c ≡ Some refusal →
@@ -115,7 +116,7 @@ next-unmet s c = next-state s c NoMemory refl
 
 -- a command that does no deed leaves the state where nothing is told, whatever is replied
 pub next-no_deed : (s : State) (c : Command) (a : Answer) → is_deed (class_of c) ≡ false → a.events ≡ [] → next s (taken c) a ≡ s
-next-no_deed s c a none silent = λ i. state_of (no_deed-graph c none s.graph a.reply i) (after i)
+next-no_deed s c a none silent = λ i. state_of (no_deed-graph c none s.graph a.reply i) (after i) (ap (ended_after s.ended) silent i)
   where
     after : listed s.listed c a.events a.reply ≡ s.listed
     after = ap (λ es. listed s.listed c es a.reply) silent ∙ no_deed-lists c none s.listed a.reply

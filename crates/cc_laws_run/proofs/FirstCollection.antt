@@ -9,14 +9,16 @@ use Rattle.cc_model.specs.Asks.{Ask, taken}
 use Rattle.cc_model.specs.Heap.{Heap}
 use Rattle.cc_model.specs.Snapshot.{Snapshot}
 use Rattle.cc_model.specs.Sweep.{collect_scripts}
+use Rattle.cc_model.specs.Marking.{ended_marks}
 use Rattle.cc_model.specs.Units.{first_untraversed}
 use Rattle.cc_model.specs.End.{Progress, went_on, UnitDone, granted, node_or_end, unit}
-use Rattle.cc_model.specs.Collecting.{Machine, UnitsDone, no_units, next_answer, units_done, enough_units, to_the_end, finish_running, slice, starting_anew, unless_stopped, collect, gc}
+use Rattle.cc_model.specs.Collecting.{Machine, UnitsDone, no_units, next_answer, units_done, enough_units, to_the_end, finish_running, slice, starting_anew, unless_stopped, collect, gc, mark}
 use Rattle.cc_model.specs.Run.{Turn, do_ask, turns, machine_after, do_class}
 use Rattle.cc_laws_run.specs.Followed.{first_units, then_later, first_collection, first_units_of}
 use Rattle.cc_laws_run.specs.Missing.{AreTold}
 use Rattle.cc_laws_run.proofs.QuietUnits.{collect-none}
 use Rattle.cc_laws_run.proofs.UnitLawful.{unit-cases}
+use Rattle.cc_laws_run.proofs.MarkedUnits.{one_marked-cases, units_marked-keep}
 use Rattle.cc_laws_run.proofs.HoldingUnits.{units_done-keep, unless_stopped-cases, finish-cases}
 
 -- `collect`
@@ -50,6 +52,16 @@ collect-begins m =
     collect-cases m (λ u. BeginsWith d.events u.events) all
     (unless_stopped-cases d (λ u. BeginsWith d.events u.events) (λ e. all) (λ e. units_done-begin d.events (enough_units d.machine) (starting_anew d) all))
 
+-- so does what a script marking tells that ends a collection first
+mark-begins : (n : ℕ) (m : Machine) → BeginsWith (finish_running m).events (mark n m).events
+unfolding mark
+mark-begins n m =
+    let es = (finish_running m).events in
+    units_marked-keep (λ d. BeginsWith es d.events)
+    (λ d b. one_marked-cases d.machine d.events (λ u. BeginsWith es u.events) (λ marking. b)
+    (λ marks. let told = (ended_marks d.machine.heap marks).events in (b.0 ++ told, ap (λ l. l ++ told) b.1 ∙ append_assoc es b.0 told)))
+    n (starting_anew (finish_running m)) ([], sym (append-nil es))
+
 -- the answer to an ask begins with what the first collection tells under it
 ask-begins : (m : Machine) (ask : Ask) → BeginsWith (first_units m ask).events (do_ask m ask).answer.events
 unfolding do_ask gc
@@ -58,7 +70,8 @@ ask-begins m (taken c) = go (class_of c)
     go : (k : Class) → BeginsWith (first_units_of m (do_class m c k).machine k).events (do_class m c k).answer.events
     go (runs (so_many n)) = ([], sym (append-nil (slice n m).events))
     go (runs whole) = collect-begins m
-    go collects_scripts = ((collect_scripts (finish_running m).machine.heap).events, refl)
+    go (collects_scripts whole) = ((collect_scripts (finish_running m).machine.heap).events, refl)
+    go (collects_scripts (so_many n)) = mark-begins n m
     go k = ((do_class m c k).answer.events, refl)
 ask-begins m ask = ((do_ask m ask).answer.events, refl)
 

@@ -10,8 +10,9 @@ use Rattle.cc_model.specs.declared.command.Command.{Command}
 use Rattle.cc_model.specs.declared.command.Command.TheVariants.{Gc}
 use Rattle.cc_model.specs.declared.item.Event.{Event}
 use Rattle.cc_model.specs.declared.item.Event.TheVariants.{Abandoned}
-use Rattle.cc_model.specs.Mutating.{Class, so_many, whole, says, does, runs, collects_scripts, class_of, is_deed}
+use Rattle.cc_model.specs.Mutating.{Class, so_many, whole, says, does, forgets, reads_weak, runs, collects_scripts, class_of, is_units}
 use Rattle.cc_model.specs.Asks.{Ask, taken}
+use Rattle.cc_model.specs.Ranges.{in_range}
 use Rattle.cc_model.specs.Graph.{Graph}
 use Rattle.cc_model.specs.WellMade.{IsWellMade}
 use Rattle.cc_model.specs.WellFormed.{names_there}
@@ -23,13 +24,14 @@ use Rattle.cc_model.specs.Lawful.{State, next}
 use Rattle.cc_model.specs.Collecting.{Machine, UnitsDone, no_units, one_unit, units_done, enough_units, to_the_end, finish_running, slice, starting_anew, collect, gc}
 use Rattle.cc_model.specs.Run.{Turn, mutate, do_ask, machine_after, do_class}
 use Rattle.cc_model.proofs.UnitsEnd.{to_the_end-stops}
-use Rattle.cc_model.proofs.NoDeeds.{no_deed-in_range}
+use Rattle.cc_model.proofs.NoDeeds.{units-in_range}
 use Rattle.cc_laws_heap.specs.Sound.{IsSound}
 use Rattle.cc_laws_run.specs.Running.{IsRunning, ask_in_range}
 use Rattle.cc_laws_run.specs.Doomed.{IsDoomed, IsDoomedNow, IsSuspectedNow, KeepsReflectors, AreUnlinked, garbage}
 use Rattle.cc_laws_run.specs.Followed.{first_units, first_collection, first_units_of}
 use Rattle.cc_laws_run.specs.Missing.{MissesNone, begins_one, lost, has_units}
 use Rattle.cc_laws_run.specs.Spent.{IsSpent}
+use Rattle.cc_laws_run.proofs.Spoken.{spoken-as}
 use Rattle.cc_laws_run.proofs.CommandCases.{mutate-cases, say-leaves}
 use Rattle.cc_laws_run.proofs.TouchedCommands.{doomed-effects}
 use Rattle.cc_laws_run.proofs.DoomedBegin.{collected-doomed}
@@ -122,22 +124,25 @@ mutate-follows m c ds sound keeps d = mutate-cases m c (λ (u : Turn). IsDoomedN
     (λ e memory. (d.0, d.1, doomed-effects d.0 ds m.heap c sound.well_formed keeps d.2))
 
 -- A COLLECTION THAT CAN'T MISS NAMES, under a command of any class
-class-follows : (m : Machine) (s : State) (c : Command) (ds : List Name) → IsRunning m s → KeepsReflectors ds → IsDoomedNow m ds → (k : Class) →
-    let n = (do_class m c k).machine in let d = first_units_of m n k in IsFollowed ds d.events d.progress n
+class-follows : (m : Machine) (s : State) (c : Command) (ds : List Name) → IsRunning m s → IsTrue (in_range c) → KeepsReflectors ds → IsDoomedNow m ds →
+    (k : Class) → class_of c ≡ k → let n = (do_class m c k).machine in let d = first_units_of m n k in IsFollowed ds d.events d.progress n
 unfolding slice
-class-follows m s c ds r keeps d (says q) = (refl, say-leaves m q (λ n. IsDoomedNow n ds) (λ memory. d))
-class-follows m s c ds r keeps d does = (refl, mutate-follows m c ds r.sound keeps d)
-class-follows m s c ds r keeps d (runs (so_many u)) = settled s.graph r.well_made ds (slice u m) (units-settle m s ds r d u)
-class-follows m s c ds r keeps d (runs whole) = let t = ended m s ds r d in
+class-follows m s c ds r i keeps d (says q) e = (refl, say-leaves m q (λ n. IsDoomedNow n ds) (λ memory. d))
+class-follows m s c ds r i keeps d does e = (refl, mutate-follows m c ds r.sound keeps d)
+class-follows m s c ds r i keeps d (runs (so_many u)) e = settled s.graph r.well_made ds (slice u m) (units-settle m s ds r d u)
+class-follows m s c ds r i keeps d (runs whole) e = let t = ended m s ds r d in
     stopped s.graph r.well_made ds m (collect m).machine t (collect-spent s.graph r.well_made ds m t)
-class-follows m s c ds r keeps d collects_scripts = gc-follows m s ds r d
+class-follows m s c ds r i keeps d (collects_scripts whole) e = gc-follows m s ds r d
+class-follows m s c ds r i keeps d (collects_scripts (so_many n)) e = absurd (spoken-as c i (collects_scripts (so_many n)) e)
+class-follows m s c ds r i keeps d forgets e = absurd (spoken-as c i forgets e)
+class-follows m s c ds r i keeps d (reads_weak n w) e = absurd (spoken-as c i (reads_weak n w) e)
 
 -- A COLLECTION THAT CAN'T MISS NAMES, under any ask
-pub ask-follows : (m : Machine) (s : State) (ask : Ask) (ds : List Name) → IsRunning m s → KeepsReflectors ds → IsDoomedNow m ds →
+pub ask-follows : (m : Machine) (s : State) (ask : Ask) (ds : List Name) → IsRunning m s → IsTrue (ask_in_range ask) → KeepsReflectors ds → IsDoomedNow m ds →
     IsFollowed ds (first_units m ask).events (first_units m ask).progress (do_ask m ask).machine
 unfolding do_ask
-ask-follows m s (taken c) ds r keeps d = class-follows m s c ds r keeps d (class_of c)
-ask-follows m s _ ds r keeps d = (refl, d)
+ask-follows m s (taken c) ds r i keeps d = class-follows m s c ds r i keeps d (class_of c) refl
+ask-follows m s _ ds r i keeps d = (refl, d)
 
 -- The ask that begins it
 
@@ -163,13 +168,13 @@ module _ (m : Machine) (s : State) (ds : List Name) (r : IsRunning m s) (none : 
   begin-follows (taken c) e = has_units-follow c (class_of c) e
   begin-follows _ e = absurd (false≢true e)
 
--- units are no deed
-has_units-no_deed : (k : Class) → has_units k ≡ true → is_deed k ≡ false
-has_units-no_deed k e = grind arith
+-- a class that has units runs some
+has_units-runs : (k : Class) → has_units k ≡ true → is_units k ≡ true
+has_units-runs k e = grind arith
 
 -- an ask that begins a collection leaves a machine that runs
 pub begin-runs : (m : Machine) (s : State) (ask : Ask) → IsRunning m s → begins_one ask ≡ true → IsRunning (do_ask m ask).machine (next s ask (do_ask m ask).answer)
-begin-runs m s (taken c) r e = any-runs m s (taken c) r (no_deed-in_range c (has_units-no_deed (class_of c) e))
+begin-runs m s (taken c) r e = any-runs m s (taken c) r (units-in_range c (has_units-runs (class_of c) e))
 begin-runs m s _ r e = absurd (false≢true e)
 
 -- Asks in a row
@@ -192,7 +197,7 @@ asks-follow m s (ask ∷ asks) ds r range keeps d =
     let t : Turn = do_ask m ask in
     let u : State = next s ask t.answer in
     let still : IsRunning t.machine u = any-runs m s ask r both.0 in
-    ask-then m u ask asks ds still both.1 keeps (ask-follows m s ask ds r keeps d) (asks-follow t.machine u asks ds still both.1 keeps)
+    ask-then m u ask asks ds still both.1 keeps (ask-follows m s ask ds r both.0 keeps d) (asks-follow t.machine u asks ds still both.1 keeps)
 
 -- what becomes of them says that none is missed
 pub followed-misses : (m : Machine) (asks : List Ask) (ds : List Name) →

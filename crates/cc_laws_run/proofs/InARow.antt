@@ -1,10 +1,8 @@
 -- ASKS IN A ROW: one list of memory's answers serves for all.
-use Rattle.std.proofs.Common.{◌≡◌, Bool, List, [], ◌∷◌, ◌++◌, Option, refl, sym, ◌∙◌, ap, subst, arith}
+use Rattle.std.proofs.Common.{◌≡◌, Bool, List, [], ◌∷◌, ◌++◌, refl, sym, ◌∙◌, ap, subst, arith}
 use Rattle.cc_model.specs.Answers.{Answer}
 use Rattle.cc_model.specs.Asks.{Ask}
-use Rattle.cc_model.specs.Heap.{Heap}
-use Rattle.cc_model.specs.Snapshot.{Snapshot}
-use Rattle.cc_model.specs.Collecting.{Machine, machine_at}
+use Rattle.cc_model.specs.Collecting.{Machine}
 use Rattle.cc_model.specs.Run.{Turn, do_ask, turns, machine_after, turn_of}
 use Rattle.cc_laws_run.specs.Memory.{with_memory, noes, noes_told, all_noes_told, SameMachine, IsDoneFor, AreDoneFor}
 use Rattle.cc_laws_run.proofs.UnitsUse.{noes-append}
@@ -23,8 +21,7 @@ machine_after-append m (x ∷ xs) ys = machine_after-append (do_ask m x).machine
 -- machines that are the same are so with the same answers of memory to come
 with_memory-same : (m n : Machine) (memory : List Bool) → SameMachine m n → with_memory m memory ≡ with_memory n memory
 with_memory-same m n memory same =
-    ap (λ (h : Heap). machine_at h m.snapshot memory) same.heap
-    ∙ ap (λ (s : Option Snapshot). machine_at n.heap s memory) same.snapshot
+    λ i. record { heap = same.heap i; weak = same.weak i; marking = same.marking i; snapshot = same.snapshot i; memory = memory }
 
 -- asks done for one list of memory's answers, which says no as often as is told
 pub record OneList (m n : Machine) (asks : List Ask) (answers : List Answer) : Type 0 where
@@ -59,6 +56,6 @@ one_list-cons m k n ask asks a answers d o = record {
 
 -- ONE LIST SERVES for asks that are each done for some list.
 pub one_list : (m n : Machine) (asks : List Ask) (answers : List Answer) → AreDoneFor m asks answers n → OneList m n asks answers
-one_list m n [] [] same = record { memory = []; answered = refl; after = record { heap = same.heap; snapshot = same.snapshot }; said_no = refl }
+one_list m n [] [] same = record { memory = []; answered = refl; after = record { heap = same.heap; weak = same.weak; marking = same.marking; snapshot = same.snapshot }; said_no = refl }
 one_list m n (ask ∷ asks) (a ∷ answers) d = one_list-cons m d.0 n ask asks a answers d.1 (one_list d.0 n asks answers d.2)
 one_list m n _ _ d = absurd d

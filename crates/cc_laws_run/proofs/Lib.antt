@@ -2,11 +2,13 @@ pub mod Listing
 pub mod NamesKept
 pub mod NamesAfter
 pub mod ListedAfter
+pub mod Spoken
 pub mod CommandCases
 pub mod Answered
 pub mod RunsOn
 pub mod Unabandoned
 pub mod UnitsUse
+pub mod MarkedUnits
 pub mod AsksUse
 pub mod Ample
 pub mod UnitsTaken
@@ -18,6 +20,7 @@ pub mod RunsOfNumbers
 pub mod BufferStands
 pub mod UnitLawful
 pub mod HoldingUnits
+pub mod BesideUnits
 pub mod GivingUp
 pub mod UnitsLawful
 pub mod ScriptsLawful

@@ -20,7 +20,7 @@ use Rattle.cc_model.specs.Checks.{slots_at, reflector_of}
 use Rattle.cc_model.specs.Heap.{Heap, HeapNative, HeapScript, Outcome, silently, register, objects_of, has_reflector, change_native, with_native_slot, set_register, preserve, new_script, native_to_make}
 use Rattle.cc_model.specs.Cascade.{take_up, let_go}
 use Rattle.cc_model.specs.Exposure.{exposed}
-use Rattle.cc_model.specs.Deeds.{Deed, nothing_done, native_made, plain_made, map_made, proxy_made, native_held, script_held, script_copied, native_stored, slot_moved, script_stored, reflector_held, reflector_preserved, entry_written, object_exposed, deed_of}
+use Rattle.cc_model.specs.Deeds.{Deed, nothing_done, native_made, plain_made, map_made, proxy_made, native_held, script_held, script_copied, native_stored, slot_moved, script_stored, reflector_held, reflector_preserved, entry_written, object_exposed, weak_written, deed_of}
 use Rattle.cc_model.specs.Effects.{done_in, effects, put_in_register, hold_native, store_native, put_in_slot, taken_out, move_slot, with_native, make_native, with_script, with_reflector, make_object, hold_script, wrapped, put_in_script, set_entry, make_proxy}
 use Rattle.cc_model.specs.WellFormed.{IsWellFormed, native_names, script_names, names_there}
 use Rattle.cc_model.specs.Counts.{times}
@@ -242,6 +242,7 @@ done_in-names h (reflector_held d x) s m = wrapped-names h d x s.well_formed
 done_in-names h (reflector_preserved x) s m = NamesAfter-same h (preserve h x) (SameNames-preserve h x)
 done_in-names h (entry_written x k v) s m = NamesAfter-same h (set_entry h x k v) (SameNames-set_entry h x k v)
 done_in-names h (object_exposed x) s m = NamesAfter-same h (exposed h x) (SameNames-exposed h x s.well_formed)
+done_in-names h (weak_written w x) s m = NamesAfter-same h h (SameNames-refl h)
 
 -- Commands
 

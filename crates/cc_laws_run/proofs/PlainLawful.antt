@@ -1,18 +1,19 @@
 -- THE PLAIN RUN IS LAWFUL: each ask is answered lawfully, and leaves a machine that runs.
 use Rattle.std.specs.Prelude.{IsTrue}
-use Rattle.std.proofs.Common.{arith, Bool, List, [], ◌∷◌, refl, ◌≡◌, false}
+use Rattle.std.proofs.Common.{Bool, List, [], ◌∷◌, refl, ◌≡◌, false}
 use Rattle.std.specs.List.{list_all}
 use Rattle.std.proofs.lemmas.Bool.{and_parts, true≢false}
 use Rattle.cc_names.specs.Allowance.{Allowance}
-use Rattle.cc_model.specs.Mutating.{Class, says, does, runs, collects_scripts, class_of, is_deed}
+use Rattle.cc_model.specs.Mutating.{Class, so_many, whole, says, does, forgets, reads_weak, runs, collects_scripts, class_of}
 use Rattle.cc_model.specs.Asks.{Ask, taken, long, bad}
 use Rattle.cc_model.specs.Lawful.{State, AnswersAsk, IsLawfulFrom, IsLawful, start, next, AnswersClass}
 use Rattle.cc_model.specs.Collecting.{Machine, empty_machine}
 use Rattle.cc_model.specs.Run.{do_ask, turns, plain_run, do_class}
 use Rattle.cc_model.specs.declared.command.Command.{Command}
+use Rattle.cc_model.specs.declared.command.Command.TheVariants.{Slice, Collect, Gc}
 use Rattle.cc_model.specs.Ranges.{in_range}
-use Rattle.cc_model.proofs.NoDeeds.{no_deed-in_range}
 use Rattle.cc_laws_run.specs.Running.{IsRunning, ask_in_range, moves_none, moves_no_collection}
+use Rattle.cc_laws_run.proofs.Spoken.{spoken-as}
 use Rattle.cc_laws_run.proofs.Answered.{mutate-answers, say-answers}
 use Rattle.cc_laws_run.proofs.RunsOn.{empty-runs, mutate-runs, say-runs}
 use Rattle.cc_laws_run.proofs.CollectionsLawful.{units-answers, units-runs, gc-answers, gc-runs}
@@ -23,7 +24,10 @@ class-answers : (m : Machine) (s : State) (c : Command) → IsRunning m s → Is
 class-answers m s c r i (says q) e = say-answers m s c q r e
 class-answers m s c r i does e = mutate-answers m s c r i e
 class-answers m s c r i (runs u) e = units-answers m s c u r e
-class-answers m s c r i collects_scripts e = gc-answers m s c r e
+class-answers m s c r i (collects_scripts whole) e = gc-answers m s c r e
+class-answers m s c r i (collects_scripts (so_many n)) e = absurd (spoken-as c i (collects_scripts (so_many n)) e)
+class-answers m s c r i forgets e = absurd (spoken-as c i forgets e)
+class-answers m s c r i (reads_weak d w) e = absurd (spoken-as c i (reads_weak d w) e)
 
 -- each command leaves a machine that runs, by its class
 class-runs : (m : Machine) (s : State) (c : Command) → IsRunning m s → IsTrue (in_range c) → (k : Class) → class_of c ≡ k →
@@ -31,7 +35,10 @@ class-runs : (m : Machine) (s : State) (c : Command) → IsRunning m s → IsTru
 class-runs m s c r i (says q) e = say-runs m s c q r e
 class-runs m s c r i does e = mutate-runs m s c r i
 class-runs m s c r i (runs u) e = units-runs m s c u r e
-class-runs m s c r i collects_scripts e = gc-runs m s c r e
+class-runs m s c r i (collects_scripts whole) e = gc-runs m s c r e
+class-runs m s c r i (collects_scripts (so_many n)) e = absurd (spoken-as c i (collects_scripts (so_many n)) e)
+class-runs m s c r i forgets e = absurd (spoken-as c i forgets e)
+class-runs m s c r i (reads_weak d w) e = absurd (spoken-as c i (reads_weak d w) e)
 
 -- EACH ASK is answered lawfully.
 pub any-answers : (m : Machine) (s : State) (ask : Ask) → IsRunning m s → IsTrue (ask_in_range ask) → AnswersAsk s ask (do_ask m ask).answer
@@ -48,12 +55,16 @@ any-runs m s long r i = r
 any-runs m s bad r i = r
 any-runs m s (taken c) r i = class-runs m s c r i (class_of c) refl
 
--- an ask that moves a collection is in range
+-- a command that moves a collection is in range
+moving-command : (c : Command) → moves_none (class_of c) ≡ false → IsTrue (in_range c)
+moving-command (Slice n) e = refl
+moving-command Collect e = refl
+moving-command Gc e = refl
+moving-command c e = absurd (true≢false e)
+
+-- so is an ask
 pub moving-in_range : (ask : Ask) → moves_no_collection ask ≡ false → IsTrue (ask_in_range ask)
-moving-in_range (taken c) e = no_deed-in_range c (moving (class_of c) e)
-  where
-    moving : (k : Class) → moves_none k ≡ false → is_deed k ≡ false
-    moving k e = grind arith
+moving-in_range (taken c) e = moving-command c e
 moving-in_range _ e = absurd (true≢false e)
 
 -- asks in a row are answered lawfully from a machine that runs

@@ -7,6 +7,7 @@ use Rattle.cc_model.specs.Mutating.{Saying, says, class_of, is_deed}
 use Rattle.cc_model.specs.Asks.{taken}
 use Rattle.cc_model.specs.Ranges.{in_range}
 use Rattle.cc_model.specs.Checks.{refusal_of, reply_if_taken}
+use Rattle.cc_model.specs.Deeds.{deed_of}
 use Rattle.cc_model.specs.WellMade.{IsWellMade}
 use Rattle.cc_model.specs.StandsFor.{StandsFor}
 use Rattle.cc_model.specs.Heap.{Heap, objects_of, empty_heap}
@@ -14,11 +15,13 @@ use Rattle.cc_model.specs.View.{view}
 use Rattle.cc_model.specs.Colours.{HasColourInvariant}
 use Rattle.cc_model.specs.WellFormed.{IsWellFormed, native_names, script_names}
 use Rattle.cc_model.specs.Effects.{effects}
+use Rattle.cc_model.specs.Slots.{Slots}
+use Rattle.cc_model.specs.Marking.{NewMarks}
 use Rattle.cc_model.specs.Snapshot.{Snapshot}
 use Rattle.cc_model.specs.Listed.{listed}
 use Rattle.cc_model.specs.Lawful.{State, start, next}
 use Rattle.cc_model.specs.Collecting.{Machine, empty_machine, later_answers}
-use Rattle.cc_model.specs.Run.{Turn, with_effects, mutate, say}
+use Rattle.cc_model.specs.Run.{Turn, beside_deed, with_effects, mutate, say}
 use Rattle.cc_laws_heap.specs.Sound.{IsSound}
 use Rattle.cc_laws_heap.proofs.Taken.{IsTaken, IsTaken-from}
 use Rattle.cc_laws_heap.proofs.CommandsSound.{effects-sound}
@@ -71,11 +74,12 @@ effects-fresh_now : (h : Heap) (c : Command) (snapshot : Option Snapshot) → Is
 effects-fresh_now h c None s r t f = tt
 effects-fresh_now h c (Some snapshot) s r t f = effects-fresh h snapshot c s f r t
 
--- a command that is done leaves a machine that runs
-done-runs : (m : Machine) (s : State) (c : Command) (memory : List Bool) → IsRunning m s → IsTrue (in_range c) → refusal_of (objects_of m.heap) c ≡ None →
-    IsRunning (record m { memory = memory; heap = (effects m.heap c).heap })
+-- a command that is done leaves a machine that runs, whatever stands beside the heaps
+done-runs : (m : Machine) (s : State) (c : Command) (weak : Slots) (marking : Option NewMarks) (memory : List Bool) → IsRunning m s → IsTrue (in_range c) →
+    refusal_of (objects_of m.heap) c ≡ None →
+    IsRunning (record m { heap = (effects m.heap c).heap; weak = weak; marking = marking; memory = memory })
     (next s (taken c) (with_effects m (reply_if_taken (objects_of m.heap) c) (effects m.heap c)).answer)
-done-runs m s c memory r i e =
+done-runs m s c weak marking memory r i e =
     let t : IsTaken (objects_of m.heap) c = IsTaken-from (objects_of m.heap) c e in
     let sound : IsSound [] (effects m.heap c).heap = effects-sound m.heap c r.sound i t in
     let names = effects-names m.heap c r.sound i t in
@@ -98,7 +102,7 @@ pub mutate-runs : (m : Machine) (s : State) (c : Command) → IsRunning m s → 
 mutate-runs m s c r i = mutate-cases m c (λ (u : Turn). IsRunning u.machine (next s (taken c) u.answer))
     (λ refusal e. subst (λ z. IsRunning m z) (sym (next-refused s c refusal (refusals-agree m s c r ∙ e))) r)
     (λ e f. subst (λ z. IsRunning (record m { memory = later_answers m.memory }) z) (sym (next-unmet s c)) (with_memory-runs m s (later_answers m.memory) r))
-    (λ e memory. done-runs m s c memory r i e)
+    (λ e memory. let beside : Machine = beside_deed m (deed_of (objects_of m.heap) c) in done-runs m s c beside.weak beside.marking memory r i e)
 
 -- WHAT IS SAID leaves a machine that runs.
 pub say-runs : (m : Machine) (s : State) (c : Command) (q : Saying) → IsRunning m s → class_of c ≡ says q →

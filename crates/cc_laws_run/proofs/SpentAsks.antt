@@ -1,12 +1,12 @@
 -- WHAT IS SPENT STAYS SO under any ask, and `gc` takes it away.
 use Rattle.std.specs.Prelude.{IsTrue}
 use Rattle.std.specs.List.{list_all}
-use Rattle.std.proofs.Common.{◌+◌, List, [], ◌∷◌, arith}
+use Rattle.std.proofs.Common.{◌≡◌, ◌+◌, List, [], ◌∷◌, refl, arith}
 use Rattle.std.proofs.lemmas.Bool.{and_parts}
 use Rattle.cc_lists.specs.Members.{Among}
 use Rattle.cc_names.specs.declared.name.Name.{Name}
 use Rattle.cc_model.specs.declared.command.Command.{Command}
-use Rattle.cc_model.specs.Mutating.{Class, Running, says, does, runs, collects_scripts, class_of}
+use Rattle.cc_model.specs.Mutating.{Class, Running, so_many, whole, says, does, forgets, reads_weak, runs, collects_scripts, class_of}
 use Rattle.cc_model.specs.Asks.{Ask, taken}
 use Rattle.cc_model.specs.Ranges.{in_range}
 use Rattle.cc_model.specs.WellFormed.{IsWellFormed, names_there}
@@ -22,6 +22,7 @@ use Rattle.cc_laws_heap.proofs.CommandsSound.{effects-sound}
 use Rattle.cc_laws_run.specs.Doomed.{KeepsReflectors}
 use Rattle.cc_laws_run.specs.Spent.{IsSpent}
 use Rattle.cc_laws_run.specs.Running.{IsRunning, ask_in_range}
+use Rattle.cc_laws_run.proofs.Spoken.{spoken-as}
 use Rattle.cc_laws_run.proofs.CommandCases.{mutate-cases, say-leaves}
 use Rattle.cc_laws_run.proofs.TouchedCommands.{command-leaves}
 use Rattle.cc_laws_run.proofs.CollectionsLawful.{running-on}
@@ -80,17 +81,20 @@ units-spend m s u ds r d =
 
 -- a command of each class leaves them spent
 class-spends : (m : Machine) (s : State) (c : Command) (ds : List Name) → IsRunning m s → IsTrue (in_range c) → KeepsReflectors ds → IsSpent m.heap ds →
-    (k : Class) → IsSpent (do_class m c k).machine.heap ds
-class-spends m s c ds r i keeps d (says q) = say-leaves m q (λ n. IsSpent n.heap ds) (λ memory. d)
-class-spends m s c ds r i keeps d does = mutate-spends m c ds r.sound i keeps d
-class-spends m s c ds r i keeps d (runs u) = units-spend m s u ds r d
-class-spends m s c ds r i keeps d collects_scripts = gc-spends m s ds r d
+    (k : Class) → class_of c ≡ k → IsSpent (do_class m c k).machine.heap ds
+class-spends m s c ds r i keeps d (says q) e = say-leaves m q (λ n. IsSpent n.heap ds) (λ memory. d)
+class-spends m s c ds r i keeps d does e = mutate-spends m c ds r.sound i keeps d
+class-spends m s c ds r i keeps d (runs u) e = units-spend m s u ds r d
+class-spends m s c ds r i keeps d (collects_scripts whole) e = gc-spends m s ds r d
+class-spends m s c ds r i keeps d (collects_scripts (so_many n)) e = absurd (spoken-as c i (collects_scripts (so_many n)) e)
+class-spends m s c ds r i keeps d forgets e = absurd (spoken-as c i forgets e)
+class-spends m s c ds r i keeps d (reads_weak n w) e = absurd (spoken-as c i (reads_weak n w) e)
 
 -- WHAT IS SPENT STAYS SO under any ask.
 pub ask-spends : (m : Machine) (s : State) (ask : Ask) (ds : List Name) → IsRunning m s → IsTrue (ask_in_range ask) → KeepsReflectors ds →
     IsSpent m.heap ds → IsSpent (do_ask m ask).machine.heap ds
 unfolding do_ask
-ask-spends m s (taken c) ds r i keeps d = class-spends m s c ds r i keeps d (class_of c)
+ask-spends m s (taken c) ds r i keeps d = class-spends m s c ds r i keeps d (class_of c) refl
 ask-spends m s _ ds r i keeps d = d
 
 -- so after any asks in a row

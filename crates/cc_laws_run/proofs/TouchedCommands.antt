@@ -8,13 +8,13 @@ use Rattle.cc_lists.proofs.Closure.{closure-derived}
 use Rattle.cc_names.specs.declared.name.Name.{Name}
 use Rattle.cc_names.specs.declared.name.Name.TheVariants as name
 use Rattle.cc_names.specs.declared.register.Reg.{Reg}
-use Rattle.cc_names.specs.declared.register.Reg.TheVariants.{N, S}
+use Rattle.cc_names.specs.declared.register.Reg.TheVariants.{N, S, W}
 use Rattle.cc_names.specs.declared.kind.Kind.{Kind}
 use Rattle.cc_names.specs.declared.kind.Kind.TheVariants.{Plain, Reflector, Map, Proxy as proxy_kind}
 use Rattle.cc_names.specs.Names.{native, object, reflector, same_name}
 use Rattle.cc_names.proofs.NameTests.{same_name-exact}
 use Rattle.cc_model.specs.declared.command.Command.{Command}
-use Rattle.cc_model.specs.Deeds.{Deed, nothing_done, native_made, plain_made, map_made, proxy_made, native_held, script_held, script_copied, native_stored, slot_moved, script_stored, reflector_held, reflector_preserved, entry_written, object_exposed, deed_of}
+use Rattle.cc_model.specs.Deeds.{Deed, nothing_done, native_made, plain_made, map_made, proxy_made, native_held, script_held, script_copied, native_stored, slot_moved, script_stored, reflector_held, reflector_preserved, entry_written, object_exposed, weak_written, deed_of}
 use Rattle.cc_model.specs.Slots.{reflector_slots}
 use Rattle.cc_model.specs.Entries.{Entry, is_entry_of, with_entry, without_entry, Joint, joints, entry}
 use Rattle.cc_model.specs.Checks.{slot_at, native_of, reflector_of}
@@ -125,6 +125,7 @@ module _ (ds : List Name) (g : Heap) where
   pub leaves-register : (h : Heap) (r : Reg) (x : Option Name) → IsUntouched ds x → Left h → Left (set_register h r x)
   leaves-register h (N r) x none d = leaves-still ds g h (set_register h (N r) x) (omega arith) (omega arith) refl (Spares-register ds h (N r) x none) d
   leaves-register h (S r) x none d = leaves-still ds g h (set_register h (S r) x) (omega arith) (omega arith) refl (Spares-register ds h (S r) x none) d
+  leaves-register h (W r) x none d = d
 
   -- a slot of a script object written
   pub leaves-script_slot : (h : Heap) (z : Name) (i : ℕ) (x : Option Name) → ¬ (Among z ds) → IsUntouched ds x → Left h →
@@ -288,6 +289,7 @@ module _ (ds : List Name) (g : Heap) where
   leaves-done h (reflector_preserved x) keeps a b u l = leaves-preserve h x u.0 u.1 l
   leaves-done h (entry_written m k v) keeps a b u l = leaves-set_entry h m k v u.0 u.1 u.2 l
   leaves-done h (object_exposed x) keeps a b u l = leaves-exposed h x u l
+  leaves-done h (weak_written w x) keeps a b u l = l
 
 -- COMMANDS LEAVE NAMES ALONE that are apart, where the next numbers are of none of them.
 pub command-leaves : (ds : List Name) (h : Heap) (c : Command) → IsWellFormed h → KeepsReflectors ds → ¬ (Among (native (h.natives_made + 1)) ds) →

@@ -7,7 +7,7 @@ use Rattle.cc_lists.specs.Members.{Among}
 use Rattle.cc_lists.proofs.Members.{Among-map, Among-map_cases, Among-left, Among-right, Among-append, Among-filter}
 use Rattle.cc_names.specs.declared.name.Name.{Name}
 use Rattle.cc_names.specs.declared.register.Reg.{Reg}
-use Rattle.cc_names.specs.declared.register.Reg.TheVariants.{N, S}
+use Rattle.cc_names.specs.declared.register.Reg.TheVariants.{N, S, W}
 use Rattle.cc_names.specs.Names.{native, reflector, same_name}
 use Rattle.cc_names.proofs.NameTests.{same_name-true}
 use Rattle.cc_model.specs.Slots.{Slots, contents}
@@ -42,6 +42,7 @@ module _ (ds : List Name) (h : Heap) where
       (λ l. Among-left y (contents h.native_registers) (contents h.script_registers) l)
       (λ r. Among-right y (contents h.native_registers) (contents h.script_registers) (contents-untouched h.script_registers d x none y m r))
       (Among-append y (contents h.native_registers) (contents (set h.script_registers d x)) j))
+  Spares-register (W d) x none = Spares-registers ds h h.native_registers h.script_registers (λ y m j. j)
 
   -- Natives
 

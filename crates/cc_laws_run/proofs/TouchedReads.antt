@@ -1,6 +1,6 @@
 -- WHAT COMMANDS READ IS HELD BY REGISTERS: what these hold, what slots of that hold, values of such maps and keys, natives and
 -- reflectors behind it. So it is none of names that no register has and that only such names hold.
-use Rattle.std.proofs.Common.{arith, ◌≡◌, ℕ, Bool, true, false, List, [], ◌∷◌, map, Option, Some, None, refl, sym, ap, subst, inl, inr, ◌⊎◌, ⊎_elim, option_map, slice_index_or}
+use Rattle.std.proofs.Common.{◌≡◌, ℕ, Bool, true, false, List, [], ◌∷◌, map, Option, Some, None, refl, sym, ap, subst, inl, inr, ◌⊎◌, ⊎_elim, option_map, slice_index_or}
 use Rattle.std.specs.Option.{option_to_list, option_and_then}
 use Rattle.std.proofs.lemmas.Bool.{and_parts}
 use Rattle.cc_lists.specs.Members.{Among}
@@ -10,7 +10,7 @@ use Rattle.cc_lists.proofs.Filtering.{find-among, find-passes}
 use Rattle.cc_names.specs.declared.name.Name.{Name}
 use Rattle.cc_names.specs.declared.name.Name.TheVariants as name
 use Rattle.cc_names.specs.declared.register.Reg.{Reg}
-use Rattle.cc_names.specs.declared.register.Reg.TheVariants.{S}
+use Rattle.cc_names.specs.declared.register.Reg.TheVariants.{N, S, W}
 use Rattle.cc_names.specs.declared.kind.Kind.{Kind}
 use Rattle.cc_names.specs.declared.kind.Kind.TheVariants.{Map}
 use Rattle.cc_names.specs.Names.{native, object, reflector, same_name}
@@ -71,7 +71,9 @@ module _ (ds : List Name) (h : Heap) (d : IsApart ds h) where
 
   -- what a register holds is no member
   pub register-untouched : (r : Reg) → IsUntouched ds (register h r)
-  register-untouched r y m i = grind (arith, Among-left, contents-at, Among-right)
+  register-untouched (N r) y m i = d.unregistered y i (Among-left y (contents h.native_registers) (contents h.script_registers) (contents-at h.native_registers r y m))
+  register-untouched (S r) y m i = d.unregistered y i (Among-right y (contents h.native_registers) (contents h.script_registers) (contents-at h.script_registers r y m))
+  register-untouched (W r) y m i = contents-at [] r y m
 
   -- a script object that has a member in a slot is one
   found-holder : (x : Name) → (o : Option HeapScript) → script_at h x ≡ o → (y : Name) →

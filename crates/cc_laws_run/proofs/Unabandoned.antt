@@ -103,7 +103,7 @@ sweep_each-none (x ∷ xs) o none = sweep_each-none xs (after o.events (sweep_on
     (none-append (Freed x ∷ []) (let_native_go (without_script o.heap x) x).events refl (let_native_go-none (without_script o.heap x) x)))
 
 -- nor does a sweep
-sweep-none : (h : Heap) → TellsNone (sweep h).events
+pub sweep-none : (h : Heap) → TellsNone (sweep h).events
 unfolding sweep
 sweep-none h = sweep_each-none (unmarked h) (silently (without_dead_entries (unmarked h) h)) refl
 
@@ -117,7 +117,7 @@ collect_scripts-none h = rounds-keep (λ o. TellsNone o.events)
 -- Commands
 
 -- what comes into a native register tells none
-hold_native-none : (h : Heap) (d : ℕ) (x : Option Name) → TellsNone (hold_native h d x).events
+pub hold_native-none : (h : Heap) (d : ℕ) (x : Option Name) → TellsNone (hold_native h d x).events
 unfolding hold_native
 hold_native-none h d x = let_go-none (set_register (take_up h x) (N d) x) (register (take_up h x) (N d))
 

@@ -144,7 +144,7 @@ to_the_end-use : (d : UnitsDone) → UnitsUse (λ memory. to_the_end (done_with 
 to_the_end-use d = units-use (enough_units d.machine) d
 
 -- those of a running collection
-finish_running-use : (m : Machine) → UnitsUse (λ memory. finish_running (with_memory m memory)) (no_units m) (finish_running m)
+pub finish_running-use : (m : Machine) → UnitsUse (λ memory. finish_running (with_memory m memory)) (no_units m) (finish_running m)
 finish_running-use m = go (is_some m.snapshot)
   where
     go : (b : Bool) → UnitsUse (λ memory. elim b [ true ↦ to_the_end (no_units (with_memory m memory)) | false ↦ no_units (with_memory m memory) ])

@@ -6,12 +6,12 @@ use Rattle.cc_model.specs.End.{went_on, at_end, refused}
 use Rattle.cc_model.specs.Collecting.{Machine, UnitsDone, no_units, to_the_end, finish_running, slice}
 use Rattle.cc_model.specs.Run.{do_ask}
 
--- its units from a machine to another one, by the class of a command: a slice has those of one collection; a whole one and `gc`
--- bring it to its end, and a second collection has other units
+-- its units from a machine to another one, by the class of a command: a slice has those of one collection; a whole one, `gc` and
+-- `mark` bring it to its end, and a second collection has other units
 abbrev pub first_units_of : Machine → Machine → Class → UnitsDone
 first_units_of m n (runs (so_many u)) = slice u m
 first_units_of m n (runs whole) = to_the_end (no_units m)
-first_units_of m n collects_scripts = finish_running m
+first_units_of m n (collects_scripts u) = finish_running m
 first_units_of m n _ = no_units n
 
 -- its units under one ask

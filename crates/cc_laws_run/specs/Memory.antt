@@ -16,13 +16,13 @@ with_memory m memory = record m { memory = memory }
 abbrev pub noes : List Bool → ℕ
 noes memory = count_by (λ b. not b) memory
 
--- how often an answer says so: `! nomem`, and a collection abandoned under `gc`
+-- how often an answer says so: `! nomem`, and a collection abandoned under `gc` and `mark`
 abbrev pub noes_of_reply : Option Reply → ℕ
 noes_of_reply None = 0
 noes_of_reply (Some reply) = elim (is_without_memory reply) [ true ↦ 1 | false ↦ 0 ]
 
 abbrev pub noes_told_by : Class → Answer → ℕ
-noes_told_by collects_scripts a = count_by is_abandonment a.events
+noes_told_by (collects_scripts u) a = count_by is_abandonment a.events
 noes_told_by _ a = noes_of_reply a.reply
 
 abbrev pub noes_told : Ask → Answer → ℕ
@@ -37,6 +37,8 @@ all_noes_told (ask ∷ asks) (a ∷ answers) = noes_told ask a + all_noes_told a
 -- two machines are the same but for the answers of memory to come
 pub record SameMachine (m n : Machine) : Type 0 where
   pub heap : m.heap ≡ n.heap
+  pub weak : m.weak ≡ n.weak
+  pub marking : m.marking ≡ n.marking
   pub snapshot : m.snapshot ≡ n.snapshot
 
 -- the ask is done from one machine to another for some list of memory, with this answer

@@ -2,7 +2,7 @@
 use Rattle.std.specs.Prelude.{◌≡◌, Bool, true, false, List, [], ◌∷◌, Option, Some, None}
 use Rattle.cc_model.specs.Ranges.{in_range}
 use Rattle.cc_model.specs.Answers.{Answer}
-use Rattle.cc_model.specs.Mutating.{Class, says, does, runs, collects_scripts, class_of}
+use Rattle.cc_model.specs.Mutating.{so_many, whole, Class, says, does, forgets, reads_weak, runs, collects_scripts, class_of}
 use Rattle.cc_model.specs.Asks.{Ask, long, bad, taken}
 use Rattle.cc_model.specs.Heap.{Heap}
 use Rattle.cc_model.specs.View.{view}
@@ -37,12 +37,16 @@ ask_in_range long = true
 ask_in_range bad = true
 ask_in_range (taken c) = in_range c
 
--- a command of this class moves no collection
+-- a command of this class moves no collection. `mark` does, but no line asks it yet: it counts here, where all that is said is said
+-- of commands in range
 abbrev pub moves_none : Class → Bool
 moves_none (says q) = true
 moves_none does = true
+moves_none forgets = true
+moves_none (reads_weak d w) = true
 moves_none (runs u) = false
-moves_none collects_scripts = false
+moves_none (collects_scripts whole) = false
+moves_none (collects_scripts (so_many n)) = true
 
 -- an ask that moves no collection
 abbrev pub moves_no_collection : Ask → Bool

@@ -7,7 +7,7 @@ use Rattle.cc_lists.specs.Members.{Among, has, without, with_last}
 use Rattle.cc_lists.proofs.Members.{Among-append, Among-filter, Among-left, Among-right, has-among}
 use Rattle.cc_names.specs.Allowance.{Allowance}
 use Rattle.cc_names.specs.declared.name.Name.{Name}
-use Rattle.cc_names.specs.declared.register.Reg.TheVariants.{N, S}
+use Rattle.cc_names.specs.declared.register.Reg.TheVariants.{N, S, W}
 use Rattle.cc_names.specs.Names.{native, reflector, same_name}
 use Rattle.cc_names.proofs.NameTests.{same_name-true, same_name-exact}
 use Rattle.cc_model.specs.declared.command.Command.{Command}
@@ -123,6 +123,7 @@ there-put names c reply x m = inl m
 collection-granted : (g : Graph) (c : Command) → IsTrue (is_gc c || runs_units c) → is_refused (reply_to g c) ≡ false
 unfolding refusal_of reply_if_taken
 collection-granted g command.Gc e = refl
+collection-granted g (command.Mark n) e = refl
 collection-granted g (command.Slice n) e = refl
 collection-granted g command.Collect e = refl
 collection-granted g c e = absurd (false≢true e)
@@ -141,8 +142,10 @@ new-put g (command.Wrap d s) x e = go (reflector_of (register g (N s))) e
     go (Some y) q = q
 new-put g (command.Drop (N d)) x e = absurd (cc)
 new-put g (command.Drop (S d)) x e = absurd (cc)
+new-put g (command.Drop (W d)) x e = absurd (cc)
 new-put g (command.Get (N d) s i) x e = absurd (cc)
 new-put g (command.Get (S d) s i) x e = absurd (cc)
+new-put g (command.Get (W d) s i) x e = absurd (cc)
 new-put g c x e = absurd (cc)
 
 -- a refused command puts nothing in
@@ -172,6 +175,7 @@ step-lists g names c range l = go (refusal_of (objects_of g) c) refl
 empty-unreached : (limits : Allowance) (x : Name) → Reached (empty_graph limits) x → ⊥
 empty-unreached limits _ (held (N r) x e) = contents-empty_none bank_length x (contents-get (empty_slots bank_length) r x e)
 empty-unreached limits _ (held (S r) x e) = contents-empty_none bank_length x (contents-get (empty_slots bank_length) r x e)
+empty-unreached limits _ (held (W r) x e) = contents-get [] r x e
 empty-unreached limits _ (edge x y d i) = empty-unreached limits x d
 empty-unreached limits _ (value e i a b) = i
 empty-unreached limits _ (key e d i q a b) = i

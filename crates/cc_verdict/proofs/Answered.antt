@@ -13,7 +13,7 @@ use Rattle.cc_model.specs.Lawful.{State, AnswersCommand, AnswersTaken, ReplyAnsw
 use Rattle.cc_model.specs.Quiet.{Row, row_after}
 use Rattle.cc_verdict.specs.Following.{Follows, Place, Recites, lines_of_items, place, place_after}
 use Rattle.cc_verdict.specs.Hearing.{Hearing, Hears, MayEnd, comes, ends, hearing, is_heard, nothing_told, place_ended, with_told}
-use Rattle.cc_verdict.proofs.Comes.{EachMayCome, told-names, with_all}
+use Rattle.cc_verdict.proofs.Comes.{EachMayCome, told-ended, told-names, with_all}
 use Rattle.cc_verdict.proofs.HeardAnswers.{ended-graph}
 use Rattle.cc_verdict.proofs.Turns.{first-follows, follows-first, heard-quiet}
 
@@ -120,6 +120,8 @@ pub place-ended : (p : Place) (c : Command) (events : List Event) (reply : Reply
     place_ended (with_all (hearing p c) events) reply ≡ place_after p (taken c) (replying events reply)
 place-ended p c events reply may =
     let graph = sym (ended-graph p c events reply may) in
-    let names = told-names (nothing_told p.state.listed) events in
+    let told = nothing_told p.state.listed p.state.ended in
+    let names = told-names told events in
+    let ended = told-ended told events in
     let row = sym (row-of_reply p.row c events reply) in
-    λ i. place (graph i) (after_reply (names i) c (Some reply)) (row i)
+    λ i. place (graph i) (after_reply (names i) c (Some reply)) (ended i) (row i)

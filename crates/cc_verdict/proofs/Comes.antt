@@ -6,7 +6,7 @@ use Rattle.cc_names.specs.declared.name.Name.TheVariants.{Native, Script, Reflec
 use Rattle.cc_names.specs.Names.{is_native, natives_in, number_of}
 use Rattle.cc_model.specs.declared.item.Event.{Event}
 use Rattle.cc_model.specs.declared.item.Event.TheVariants.{Unlinked, Freed, Abandoned}
-use Rattle.cc_model.specs.Listed.{after_events}
+use Rattle.cc_model.specs.Listed.{after_events, ended_after}
 use Rattle.cc_model.specs.Lawful.{runs, unlinked_numbers, has_none}
 use Rattle.cc_verdict.specs.Hearing.{Told, Hearing, MayCome, runs_begun, runs_with, told_after, with_told}
 
@@ -22,13 +22,19 @@ told_all t (e ∷ es) = told_all (told_after t e) es
 abbrev pub with_all : Hearing → List Event → Hearing
 with_all h es = record h { told = told_all h.told es }
 
--- The names, and whether there was an event and an abandonment
+-- The names, those that have ended, and whether there was an event and an abandonment
 
 pub told-names : (t : Told) (es : List Event) → (told_all t es).names ≡ after_events t.names es
 told-names t [] = refl
 told-names t (Freed x ∷ es) = told-names (told_after t (Freed x)) es
 told-names t (Unlinked x ∷ es) = told-names (told_after t (Unlinked x)) es
 told-names t (Abandoned ∷ es) = told-names (told_after t Abandoned) es
+
+pub told-ended : (t : Told) (es : List Event) → (told_all t es).ended ≡ ended_after t.ended es
+told-ended t [] = refl
+told-ended t (Freed x ∷ es) = told-ended (told_after t (Freed x)) es
+told-ended t (Unlinked x ∷ es) = told-ended (told_after t (Unlinked x)) es
+told-ended t (Abandoned ∷ es) = told-ended (told_after t Abandoned) es
 
 -- an event stays told
 event-told : (t : Told) (es : List Event) → t.any ≡ true → (told_all t es).any ≡ true

@@ -9,7 +9,7 @@ use Rattle.cc_names.specs.declared.name.Name.{Name}
 use Rattle.cc_names.specs.Names.{is_native, same_name}
 use Rattle.cc_names.proofs.NameTests.{same_name-exact, same_name-refl}
 use Rattle.cc_model.specs.declared.command.Command.{Command}
-use Rattle.cc_model.specs.declared.command.Command.TheVariants.{Nothing, Why, Collect, Gc, Census}
+use Rattle.cc_model.specs.declared.command.Command.TheVariants.{Nothing, Why, Collect, Gc, Mark, Census}
 use Rattle.cc_model.specs.declared.item.Event.{Event}
 use Rattle.cc_model.specs.declared.item.Event.TheVariants.{Freed}
 use Rattle.cc_model.specs.declared.item.Refusal.TheVariants as refusal
@@ -144,6 +144,7 @@ all-lists (e ∷ es) h came l = all-lists es (with_told h e) came.1 (event-lists
 
 gc-kept : (names : List Name) (c : Command) (r : Reply) → is_gc c ≡ true → after_reply names c (Some r) ≡ names
 gc-kept names Gc r gc = refl
+gc-kept names (Mark n) r gc = refl
 gc-kept names c r gc = absurd (false≢true gc)
 
 -- An answer that was begun

@@ -25,7 +25,7 @@ in-place c reply es b e = ap (λ (a : Bool). elim a [ true ↦ ends_with_one es 
 
 -- what events tell
 abbrev told_by : Place → List Event → Told
-told_by p es = told_all (nothing_told p.state.listed) es
+told_by p es = told_all (nothing_told p.state.listed p.state.ended) es
 
 -- a reply that may end an answer takes the graph to its step
 pub ended-graph : (p : Place) (c : Command) (es : List Event) (reply : Reply) → MayEnd (with_all (hearing p c) es) reply →
@@ -50,7 +50,7 @@ module _ (p : Place) (c : Command) (es : List Event) (reply : Reply) (came : Eac
   graph-whole r = go (is_gc c) refl
     where
       by_units : is_gc c ≡ false → (u : Bool) → runs_units c ≡ u → has_none es ≡ true
-      by_units g true u = unabandoned (nothing_told p.state.listed) es (r.whole u)
+      by_units g true u = unabandoned (nothing_told p.state.listed p.state.ended) es (r.whole u)
       by_units g false u = came-whole (hearing p c) es g u came
 
       go : (gc : Bool) → is_gc c ≡ gc → elim gc [ true ↦ begins_with_at_most_one es | false ↦ has_none es ] ≡ true
@@ -62,7 +62,7 @@ module _ (p : Place) (c : Command) (es : List Event) (reply : Reply) (came : Eac
       let granted : is_without_memory reply ≡ false = ap is_without_memory r.same ∙ graph-granted p.state.graph c in
       record {
         replies = inl r.same;
-        quiet = λ q. none-told (nothing_told p.state.listed) es (r.quiet (and_parts (is_refused reply) (not (is_abandoning c reply)) q).0);
+        quiet = λ q. none-told (nothing_told p.state.listed p.state.ended) es (r.quiet (and_parts (is_refused reply) (not (is_abandoning c reply)) q).0);
         each = heard-each (inl r);
         rising = heard-rising;
         abandonment = in-place c reply es false (and_right (runs_units c) (is_without_memory reply) granted) ∙ graph-whole r;
@@ -119,7 +119,7 @@ module _ (p : Place) (c : Command) (es : List Event) (reply : Reply) (a : Answer
           (coming-first (hearing p c) es g refl first each few-runs, ends (λ u. absurd (true≢false (sym u ∙ gc-no_units c g))))
       go false g =
           let none : has_none es ≡ true = sym (ap (λ (b : Bool). elim b [ true ↦ begins_with_at_most_one es | false ↦ has_none es ]) g) ∙ whole in
-          (coming-whole (hearing p c) es (or_right (is_gc c) true refl) none each few-runs, ends (λ u. stays-unabandoned (nothing_told p.state.listed) es none))
+          (coming-whole (hearing p c) es (or_right (is_gc c) true refl) none each few-runs, ends (λ u. stays-unabandoned (nothing_told p.state.listed p.state.ended) es none))
 
   -- answers that end with want of memory are heard, where an event comes before it
   unmet-heard : (es ≡ [] → reply ≢ Refused NoMemory) → WantsMemory p.state c reply → EachMayCome (hearing p c) es × MayEnd (with_all (hearing p c) es) reply

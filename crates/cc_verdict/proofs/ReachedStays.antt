@@ -7,13 +7,13 @@ use Rattle.cc_lists.specs.Members.{Among}
 use Rattle.cc_lists.proofs.Members.{Among-append, Among-right, Among-filtered}
 use Rattle.cc_names.specs.declared.name.Name.{Name}
 use Rattle.cc_names.specs.declared.name.Name.TheVariants as name
-use Rattle.cc_names.specs.declared.register.Reg.TheVariants.{N, S}
+use Rattle.cc_names.specs.declared.register.Reg.TheVariants.{N, S, W}
 use Rattle.cc_names.specs.Names.{native, object, reflector}
 use Rattle.cc_names.proofs.NameTests.{same_name-true, same_name-refl}
 use Rattle.cc_model.specs.Slots.{Slots, contents, empty_slots, reflector_slots}
 use Rattle.cc_model.specs.Entries.{Entry, with_entry, without_entry}
 use Rattle.cc_model.specs.Checks.{slot_at, reflector_of}
-use Rattle.cc_model.specs.Deeds.{Deed, nothing_done, native_made, plain_made, map_made, proxy_made, native_held, script_held, script_copied, native_stored, slot_moved, script_stored, reflector_held, reflector_preserved, entry_written, object_exposed}
+use Rattle.cc_model.specs.Deeds.{Deed, nothing_done, native_made, plain_made, map_made, proxy_made, native_held, script_held, script_copied, native_stored, slot_moved, script_stored, reflector_held, reflector_preserved, entry_written, object_exposed, weak_written}
 use Rattle.cc_model.specs.Graph as graph
 use Rattle.cc_model.specs.Graph.{Graph, GraphNative, plain_object, weak_map, proxy, native_in, done_to, delegate_in, slots_or_blank}
 use Rattle.cc_model.specs.Heap.{Heap, empty_heap}
@@ -93,6 +93,7 @@ reached-closed g = record {
 closed-reached : (P : Name → Type 0) (g : Graph) → IsClosed P g → (x : Name) → Reached g x → P x
 closed-reached P g c _ (held (N r) x e) = c.native_registers x (contents-get g.native_registers r x e)
 closed-reached P g c _ (held (S r) x e) = c.script_registers x (contents-get g.script_registers r x e)
+closed-reached P g c _ (held (W r) x e) = absurd (contents-get [] r x e)
 closed-reached P g c _ (edge x y d i) = go (closed-reached P g c x d) (shape_in g x) refl (subst (Among y) (edges_of-shape g x) i)
   where
     go : P x → (o : Option Shape) → shape_in g x ≡ o → Among y (edges_of_some x o) → P y
@@ -322,6 +323,15 @@ module _ (g : Graph) (w : IsWellMade g) (b : IsBlank g) where
   wrap-reaches d (Some (name.Native k)) n = (let o = is_some-found (native_in g k.0) n.made in wrapped-reaches g k.0 w b n.reached o.0 o.1 d)
   wrap-reaches d _ n = absurd (false≢true n.made)
 
+  -- what weak registers note is no root
+  weak-reaches : (k : ℕ) (x : Option Name) → ReachesNoMore g (graph.set_weak g k x) None
+  weak-reaches k x = let c = reached-closed g in
+      record {
+        blank = b;
+        reached = λ y r. inl (closed-reached (Reached g) (graph.set_weak g k x)
+            (record { native_registers = c.native_registers; script_registers = c.script_registers; edges = c.edges; entries = c.entries; keys = c.keys }) y r);
+      }
+
   -- WHAT IS DONE REACHES NO MORE.
   pub done_to-reaches : (d : Deed) → MayBeDoneTo g d → ReachesNoMore g (done_to g d) (new_by g d)
   unfolding done_to
@@ -343,3 +353,4 @@ module _ (g : Graph) (w : IsWellMade g) (b : IsBlank g) where
   done_to-reaches (reflector_preserved x) m = no-more _ _ (Follows-preserve (Reached g) (husk g) g x m.reached (behind x m) start)
   done_to-reaches (entry_written a k v) m = entry-reaches a k v m.the_map m.key m.value
   done_to-reaches (object_exposed x) m = no-more (husk g) g start
+  done_to-reaches (weak_written k x) m = weak-reaches k x

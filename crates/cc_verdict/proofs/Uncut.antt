@@ -8,7 +8,7 @@ use Rattle.std.proofs.lemmas.List.Sums.{sum_by-cons}
 use Rattle.cc_names.specs.declared.name.Name.{Name}
 use Rattle.cc_names.specs.declared.name.Name.TheVariants.{Native, Script, Reflector}
 use Rattle.cc_names.specs.declared.register.Reg.{Reg}
-use Rattle.cc_names.specs.declared.register.Reg.TheVariants.{N, S}
+use Rattle.cc_names.specs.declared.register.Reg.TheVariants.{N, S, W}
 use Rattle.cc_names.specs.Names.{text_of_name, text_of_register}
 use Rattle.cc_model.specs.declared.item.Refusal.{Refusal}
 use Rattle.cc_model.specs.declared.item.Refusal.TheVariants.{Long, Line, Empty, Kind, Slot, Full, NoMemory}
@@ -71,6 +71,7 @@ name-uncut (Reflector k) = decimal-uncut k.0
 register-uncut : (r : Reg) → is_uncut (text_of_register r) ≡ true
 register-uncut (N k) = decimal-uncut k
 register-uncut (S k) = decimal-uncut k
+register-uncut (W k) = decimal-uncut k
 
 refusal-uncut : (r : Refusal) → is_uncut (text_of_refusal r) ≡ true
 refusal-uncut Long = refl

@@ -10,13 +10,14 @@ use Rattle.cc_model.specs.Graph.{Graph}
 use Rattle.cc_model.specs.Lawful.{State, start, next, IsLawfulFrom, state_of}
 use Rattle.cc_model.specs.Quiet.{Row, nothing_yet, row_after, IsQuietFrom}
 
--- where a check stands between two answers: the graph and the listed names, and how much of the row was asked last
+-- where a check stands between two answers: the graph, the listed names and those that have ended, and how much of the row was asked
+-- last
 pub record Place : Type 0 where
   pub state : State
   pub row : Row
 
-abbrev pub place : Graph → List Name → Row → Place
-place g names row = record { state = state_of g names; row = row }
+abbrev pub place : Graph → List Name → List Name → Row → Place
+place g names ended row = record { state = state_of g names ended; row = row }
 
 abbrev pub first_place : Allowance → Place
 first_place limits = record { state = start limits; row = nothing_yet }

@@ -15,22 +15,23 @@ use Rattle.cc_model.specs.Answers.{replying}
 use Rattle.cc_model.specs.Asks.{Ask, taken}
 use Rattle.cc_model.specs.Graph.{Graph, step, reply_to}
 use Rattle.cc_model.specs.Reached.{Reached}
-use Rattle.cc_model.specs.Listed.{after_event, after_reply}
+use Rattle.cc_model.specs.Listed.{after_event, after_reply, ended_with}
 use Rattle.cc_model.specs.Lawful.{break_between, is_gc, is_refused, may_free, may_unlink, runs_allowed, runs_units}
 use Rattle.cc_model.specs.Quiet.{Row, row_after}
 use Rattle.cc_verdict.specs.Following.{Place, place, Follows}
 
--- what was told of an answer so far: the names that are listed still; the number of the native that was unlinked last, and how
--- many rising runs these numbers make; whether there was an event at all, and an abandonment
+-- what was told of an answer so far: the names that are listed still, and those that have ended; the number of the native that was
+-- unlinked last, and how many rising runs these numbers make; whether there was an event at all, and an abandonment
 pub record Told : Type 0 where
   pub names : List Name
+  pub ended : List Name
   pub last : Option ℕ
   pub runs : ℕ
   pub any : Bool
   pub abandoned : Bool
 
-abbrev pub nothing_told : List Name → Told
-nothing_told names = record { names = names; last = None; runs = 0; any = false; abandoned = false }
+abbrev pub nothing_told : List Name → List Name → Told
+nothing_told names ended = record { names = names; ended = ended; last = None; runs = 0; any = false; abandoned = false }
 
 -- how many runs begin with one more number
 abbrev pub runs_begun : Option ℕ → ℕ → ℕ
@@ -41,8 +42,8 @@ abbrev pub runs_with : Told → Name → ℕ
 runs_with t x = t.runs + runs_begun t.last (number_of x)
 
 abbrev pub told_after : Told → Event → Told
-told_after t (Freed x) = record t { names = after_event t.names (Freed x); any = true }
-told_after t (Unlinked x) = record t { last = Some (number_of x); runs = runs_with t x; any = true }
+told_after t (Freed x) = record t { names = after_event t.names (Freed x); ended = ended_with t.ended (Freed x); any = true }
+told_after t (Unlinked x) = record t { ended = ended_with t.ended (Unlinked x); last = Some (number_of x); runs = runs_with t x; any = true }
 told_after t Abandoned = record t { any = true; abandoned = true }
 
 -- an answer that is heard: to which command, with which reply by the graph, which is the one after the command
@@ -62,7 +63,13 @@ is_heard _ = true
 
 -- as an answer begins
 abbrev pub hearing : Place → Command → Hearing
-hearing p c = record { command = c; reply = reply_to p.state.graph c; graph = step p.state.graph c; row = p.row; told = nothing_told p.state.listed }
+hearing p c = record {
+  command = c;
+  reply = reply_to p.state.graph c;
+  graph = step p.state.graph c;
+  row = p.row;
+  told = nothing_told p.state.listed p.state.ended;
+}
 
 abbrev pub with_told : Hearing → Event → Hearing
 with_told h e = record h { told = told_after h.told e }
@@ -106,7 +113,8 @@ MayEnd h reply = EndsAsTheGraph h reply ⊎ EndsAbandoned h reply
 
 -- where the check stands after it
 abbrev pub place_ended : Hearing → Reply → Place
-place_ended h reply = place h.graph (after_reply h.told.names h.command (Some reply)) (row_after h.row (taken h.command) (replying [] reply))
+place_ended h reply =
+    place h.graph (after_reply h.told.names h.command (Some reply)) h.told.ended (row_after h.row (taken h.command) (replying [] reply))
 
 -- THESE LINES END THE ANSWER, and go on as may follow: events, the reply, and the rest
 pub data Hears (asks : List Ask) : Hearing → List (List ℕ) → Type 0 where

@@ -6,7 +6,7 @@ use Rattle.cc_lists.specs.Members.{has}
 use Rattle.cc_names.specs.Allowance.{Allowance}
 use Rattle.cc_names.specs.declared.name.Name.{Name}
 use Rattle.cc_names.specs.declared.register.Reg.{Reg}
-use Rattle.cc_names.specs.declared.register.Reg.TheVariants.{N, S}
+use Rattle.cc_names.specs.declared.register.Reg.TheVariants.{N, S, W}
 use Rattle.cc_names.specs.Names.{same_name}
 use Rattle.cc_names.proofs.NameTests.{same_name-true, same_name-refl}
 use Rattle.cc_model.specs.declared.command.Command.{Command}
@@ -100,11 +100,13 @@ same_names-decided xs ys = (same_names-true xs ys, λ e. subst (λ z. IsTrue (sa
 same_register-true : (p q : Reg) → same_register p q ≡ true → p ≡ q
 same_register-true (N j) (N k) e = grind (arith, eqb-true)
 same_register-true (S j) (S k) e = grind (arith, eqb-true)
+same_register-true (W j) (W k) e = grind (arith, eqb-true)
 same_register-true _ _ e = absurd (false≢true e)
 
 same_register-refl : (p : Reg) → same_register p p ≡ true
 same_register-refl (N k) = eq-eqb k k refl
 same_register-refl (S k) = eq-eqb k k refl
+same_register-refl (W k) = eq-eqb k k refl
 
 same_reason-true : (r q : Reason) → same_reason r q ≡ true → r ≡ q
 same_reason-true (Root p) (Root q) e = ap Root (same_register-true p q e)

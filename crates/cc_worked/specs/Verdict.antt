@@ -5,7 +5,7 @@ use Rattle.cc_lists.specs.Members.{has}
 use Rattle.cc_names.specs.Allowance.{Allowance}
 use Rattle.cc_names.specs.declared.name.Name.{Name}
 use Rattle.cc_names.specs.declared.register.Reg.{Reg}
-use Rattle.cc_names.specs.declared.register.Reg.TheVariants.{N, S}
+use Rattle.cc_names.specs.declared.register.Reg.TheVariants.{N, S, W}
 use Rattle.cc_names.specs.Names.{same_name}
 use Rattle.cc_model.specs.declared.command.Command.{Command}
 use Rattle.cc_model.specs.declared.command.Command.TheVariants.{Nothing, Why, Census}
@@ -67,6 +67,7 @@ same_names _ _ = false
 abbrev pub same_register : Reg → Reg → Bool
 same_register (N j) (N k) = j == k
 same_register (S j) (S k) = j == k
+same_register (W j) (W k) = j == k
 same_register _ _ = false
 
 abbrev pub same_reason : Reason → Reason → Bool
