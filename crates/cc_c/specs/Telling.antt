@@ -2,7 +2,7 @@
 use Rattle.std.specs.Prelude.{◌≡◌, ◌∷◌, ℕ}
 use Rattle.cc_names.specs.declared.name.Name.{Name}
 use Rattle.cc_names.specs.declared.name.Name.TheVariants as name
-use Rattle.cc_names.specs.declared.register.Reg.TheVariants.{N, S}
+use Rattle.cc_names.specs.declared.register.Reg.TheVariants.{N, S, W}
 use Rattle.cc_names.specs.Names.{number_of}
 use Rattle.cc_model.specs.declared.item.Item.{Item}
 use Rattle.cc_model.specs.declared.item.Item.TheVariants.{Event, Listed, Step, Reply}
@@ -54,9 +54,11 @@ step_by x why by_kind by_number = record {
   key_number = 0;
 }
 
+-- a step by its reason; a weak register leads to nothing
 abbrev pub step_for : Name → Reason → CStep
 step_for x (Root (N r)) = step_by x 1 1 r
 step_for x (Root (S r)) = step_by x 1 2 r
+step_for x (Root (W r)) = step_by x 1 0 r
 step_for x (Edge y) = step_by x 2 (kind_of y) (number_of y)
 step_for x (Pair m k) = record {
   kind = kind_of x;

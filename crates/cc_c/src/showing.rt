@@ -95,6 +95,8 @@ fn step_for(x: Name, reason: Reason) -> CStep
     match reason {
         Reason::Root(Reg::N(r)) => step_by(x, 1, 1, r),
         Reason::Root(Reg::S(r)) => step_by(x, 1, 2, r),
+        // a weak register leads to nothing
+        Reason::Root(Reg::W(r)) => step_by(x, 1, 0, r as u32),
         Reason::Edge(y) => {
             let (by_kind, by_number) = kind_of(y);
             step_by(x, 2, by_kind, by_number)

@@ -1,7 +1,7 @@
 -- THE LINES OF ITEMS are short, and begin with a mark; what is no such line.
 use Rattle.std.proofs.Common.{◌≡◌, ◌≢◌, ◌⊎◌, inl, inr, ⊎_elim, ℕ, ◌<◌, ◌≤◌, List, [], ◌∷◌, length, get_or, ap, ◌∙◌, arith, lit≤, length-append}
 use Rattle.cc_names.specs.declared.register.Reg.{Reg}
-use Rattle.cc_names.specs.declared.register.Reg.TheVariants.{N, S}
+use Rattle.cc_names.specs.declared.register.Reg.TheVariants.{N, S, W}
 use Rattle.cc_names.specs.Names.{text_of_register}
 use Rattle.cc_model.specs.declared.item.Event.{Event}
 use Rattle.cc_model.specs.declared.item.Event.TheVariants.{Unlinked, Freed, Abandoned}
@@ -21,6 +21,7 @@ use Rattle.cc_check.proofs.Texts.{short-decimal, short-event, short-name}
 short-register : (r : Reg) → IsNumberedReason (Root r) → length (text_of_register r) ≤ 11
 short-register (N r) small = omega (arith, short-decimal r small)
 short-register (S r) small = omega (arith, short-decimal r small)
+short-register (W r) small = omega (arith, short-decimal r small)
 
 short-reason : (r : Reason) → IsNumberedReason r → length (text_of_reason r) ≤ 23
 short-reason (Root r) small = omega (arith, short-register r small)

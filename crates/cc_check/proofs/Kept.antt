@@ -15,7 +15,7 @@ use Rattle.cc_model.specs.declared.item.Event.TheVariants.{Unlinked, Freed, Aban
 use Rattle.cc_model.specs.declared.item.Reply.{Reply}
 use Rattle.cc_model.specs.declared.item.Reply.TheVariants.{Named, Refused}
 use Rattle.cc_model.specs.Graph.{Graph, empty_graph, reply_to, step}
-use Rattle.cc_model.specs.Listed.{after_event, after_reply}
+use Rattle.cc_model.specs.Listed.{after_event, after_reply, ended_with}
 use Rattle.cc_model.specs.Quiet.{Row}
 use Rattle.cc_model.specs.Ranges.{in_range}
 use Rattle.cc_model.specs.WellMade.{IsWellMade, was_made}
@@ -183,12 +183,25 @@ told-names t (Freed x) = refl
 told-names t (Unlinked x) = refl
 told-names t Abandoned = refl
 
--- after an event the answer is heard that follows it
+told-ended : (t : Told) (e : Event) → (told_after t e).ended ≡ ended_with t.ended e
+told-ended t (Freed x) = refl
+told-ended t (Unlinked x) = refl
+told-ended t Abandoned = refl
+
+-- after an event the answer is heard that follows it, with the names that have ended then
 pub heard-event : (j : Judge) (a b : Answer) (event : Event) (listed : List Name) → b.command ≡ a.command → b.reply ≡ a.reply → listed ≡ after_event j.listed event →
-    told_of b (told_after (told_of a j.listed) event).names ≡ told_after (told_of a j.listed) event → hearing_of b j.graph listed j.row ≡ with_told (hearing_in j a) event
+    told_of b (told_after (told_of a j.listed []) event).names (told_after (told_of a j.listed []) event).ended ≡ told_after (told_of a j.listed []) event →
+    hearing_of b j.graph listed (ended_with [] event) j.row ≡ with_told (hearing_in j a) event
 heard-event j a b event listed command reply names told =
-    heard_as-is b.command a.command b.reply a.reply j.graph j.graph (row_meant j.row) (told_of b listed) (told_after (told_of a j.listed) event) command reply refl
-    (subst (λ (ns : List Name). told_of b ns ≡ told_after (told_of a j.listed) event) (told-names (told_of a j.listed) event ∙ sym names) told)
+    heard_as-is b.command a.command b.reply a.reply j.graph j.graph (row_meant j.row) (told_of b listed (ended_with [] event)) now command reply refl
+    (subst (λ (xs : List Name). told_of b listed xs ≡ now) (told-ended was event)
+    (subst (λ (ns : List Name). told_of b ns now.ended ≡ now) (told-names was event ∙ sym names) told))
+  where
+    was : Told
+    was = told_of a j.listed []
+
+    now : Told
+    now = told_after was event
 
 -- wherever it stands
 pub all-at : (j : Judge) → IsKept j → ListsAllAt (position_of j)

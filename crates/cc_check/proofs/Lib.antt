@@ -5,6 +5,7 @@ pub mod Stays
 pub mod Naming
 pub mod Through
 pub mod Found
+pub mod EndedNames
 pub mod Kept
 pub mod Judged
 pub mod Passing

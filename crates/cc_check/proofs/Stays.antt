@@ -6,12 +6,12 @@ use Rattle.std.proofs.lemmas.Bool.{false≢true}
 use Rattle.cc_names.specs.declared.name.Name.{Name}
 use Rattle.cc_names.specs.declared.name.Name.TheVariants as name
 use Rattle.cc_names.specs.declared.register.Reg.{Reg}
-use Rattle.cc_names.specs.declared.register.Reg.TheVariants.{N, S}
+use Rattle.cc_names.specs.declared.register.Reg.TheVariants.{N, S, W}
 use Rattle.cc_model.specs.declared.command.Command.{Command}
 use Rattle.cc_model.specs.declared.item.Refusal.{Refusal}
 use Rattle.cc_model.specs.Slots.{empty_slots}
 use Rattle.cc_model.specs.Checks.{slot_at, reflector_of, refusal_of}
-use Rattle.cc_model.specs.Deeds.{Deed, nothing_done, native_made, plain_made, map_made, proxy_made, native_held, script_held, script_copied, native_stored, slot_moved, script_stored, reflector_held, reflector_preserved, entry_written, object_exposed, deed_of}
+use Rattle.cc_model.specs.Deeds.{Deed, nothing_done, native_made, plain_made, map_made, proxy_made, native_held, script_held, script_copied, native_stored, slot_moved, script_stored, reflector_held, reflector_preserved, entry_written, object_exposed, weak_written, deed_of}
 use Rattle.cc_model.specs.Graph.{done_to, Graph, GraphNative, GraphScript, plain_object, weak_map, proxy, numbered, native_in, script_in, objects_of, register, set_register, set_native, set_script, set_slot, preserve, wrapped, set_entry, as_preserved, as_wrapped, with_slot, with_reflector_slot, with_script_slot, with_native, with_script, with_proxy, changed, unless_refused, step, new_graph_native}
 use Rattle.cc_model.specs.WellMade.{was_made}
 use Rattle.cc_laws_heap.proofs.Face.{Grows-change_native, KeepsReflector-slot, change_numbered, is_some-found, numbered-change, numbered-change_other, numbered-push_old, set_script-is}
@@ -33,6 +33,7 @@ Stays-then g f e a b = record { limits = b.limits ∙ a.limits; made = λ x m. b
 Stays-register : (g : Graph) (r : Reg) (x : Option Name) → Stays g (set_register g r x)
 Stays-register g (N d) x = record { limits = refl; made = λ y m. m }
 Stays-register g (S d) x = record { limits = refl; made = λ y m. m }
+Stays-register g (W d) x = Stays-same g
 
 limits-native : (g : Graph) (k : ℕ) (o : Option GraphNative) → (set_native g k o).limits ≡ g.limits
 limits-native g k None = refl
@@ -161,6 +162,7 @@ Stays-done g (reflector_held d x) = Stays-then g (wrapped g x) _ (Stays-wrapped 
 Stays-done g (reflector_preserved x) = Stays-preserve g x
 Stays-done g (entry_written m k v) = Stays-set_entry g m k v
 Stays-done g (object_exposed x) = Stays-same g
+Stays-done g (weak_written w x) = record { limits = refl; made = λ y m. m }
 
 -- EACH COMMAND KEEPS THEM.
 Stays-changed : (g : Graph) (c : Command) → Stays g (changed g c)

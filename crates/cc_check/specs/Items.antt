@@ -1,6 +1,6 @@
 -- LINES THAT ARE NO ITEM'S.
 use Rattle.std.specs.Prelude.{◌≢◌, ℕ, ◌≤◌, List}
-use Rattle.cc_names.specs.declared.register.Reg.TheVariants.{N, S}
+use Rattle.cc_names.specs.declared.register.Reg.TheVariants.{N, S, W}
 use Rattle.cc_names.specs.Names.{number_of}
 use Rattle.cc_model.specs.declared.item.Item.{Item}
 use Rattle.cc_model.specs.declared.item.Item.TheVariants.{Event as of_event, Listed, Step as of_step, Reply as of_reply}
@@ -14,6 +14,7 @@ use Rattle.cc_check.specs.Standing.{IsNumberedIn}
 abbrev pub IsNumberedReason : Reason → Type 0
 IsNumberedReason (Root (N r)) = r ≤ 4294967295
 IsNumberedReason (Root (S r)) = r ≤ 4294967295
+IsNumberedReason (Root (W r)) = r ≤ 4294967295
 IsNumberedReason (Edge x) = number_of x ≤ 4294967295
 IsNumberedReason (Pair m x) = (number_of m ≤ 4294967295) × (number_of x ≤ 4294967295)
 

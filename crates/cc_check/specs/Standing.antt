@@ -55,25 +55,32 @@ IsNumberedIn (Freed x) = number_of x ≤ 4294967295
 IsNumberedIn (Unlinked x) = number_of x ≤ 4294967295
 IsNumberedIn Abandoned = Unit {0}
 
--- what was told of an answer so far, with the names that are listed still
-abbrev pub told_of : Answer → List Name → Told
-told_of a names = record { names = names; last = a.last; runs = a.runs; any = a.any; abandoned = a.abandoned }
+-- what was told of an answer so far, with the names that are listed still, and those that have ended
+abbrev pub told_of : Answer → List Name → List Name → Told
+told_of a names ended = record { names = names; ended = ended; last = a.last; runs = a.runs; any = a.any; abandoned = a.abandoned }
 
 -- an answer that is heard, after whose command the graph is this
-abbrev pub hearing_of : Answer → Graph → List Name → Row → Hearing
-hearing_of a g names row = record { command = a.command; reply = a.reply; graph = g; row = row_meant row; told = told_of a names }
+abbrev pub hearing_of : Answer → Graph → List Name → List Name → Row → Hearing
+hearing_of a g names ended row = record { command = a.command; reply = a.reply; graph = g; row = row_meant row; told = told_of a names ended }
+
+-- The judge keeps no ended names: what may come does not depend on them. So it stands where it would stand with any, and where it
+-- is said to stand they are left out.
 
 -- between two answers, or within one that is recited, and within one that is heard
 abbrev pub place_of : Judge → Place
-place_of j = place j.graph j.listed (row_meant j.row)
+place_of j = place j.graph j.listed [] (row_meant j.row)
 
 abbrev pub hearing_in : Judge → Answer → Hearing
-hearing_in j a = hearing_of a j.graph j.listed j.row
+hearing_in j a = hearing_of a j.graph j.listed [] j.row
 
--- WHERE THE CHECK STANDS
+-- WHERE THE CHECK STANDS, with these ended names
+abbrev pub position_with : List Name → Judge → Option Answer → Position
+position_with ended j None = reciting (reverse j.recital.items) (place j.graph j.listed ended (row_meant j.row))
+position_with ended j (Some a) = within (hearing_of a j.graph j.listed ended j.row)
+
+-- and with none
 abbrev pub position_in : Judge → Option Answer → Position
-position_in j None = reciting (reverse j.recital.items) (place_of j)
-position_in j (Some a) = within (hearing_in j a)
+position_in j answer = position_with [] j answer
 
 abbrev pub position_of : Judge → Position
 position_of j = position_in j j.answer

@@ -41,7 +41,7 @@ impl Answer {
     pub(crate) fn new(command: Command, reply: Reply) -> Answer
         ensures command { result.command ≡ command }
         ensures reply { result.reply ≡ reply }
-        ensures told { (names : List Name) → told_of result names ≡ nothing_told names }
+        ensures told { (names ended : List Name) → told_of result names ended ≡ nothing_told names ended }
     {
         Answer {
             command,
@@ -55,7 +55,7 @@ impl Answer {
 
     /// Whether an event is of a kind that may come next. Whether its object is garbage is not asked here.
     pub(crate) fn may_come(self, event: Event) -> bool
-        ensures { (names : List Name) → result ≡ may_come self.command (told_of self names) event }
+        ensures { (names ended : List Name) → result ≡ may_come self.command (told_of self names ended) event }
     {
         match event {
             Event::Freed(name) => may_free(self.command, name) && self.may_go_on(),
@@ -74,10 +74,12 @@ impl Answer {
 
     /// The answer after an event that may come.
     pub(crate) fn after(self, event: Event) -> Answer
-        requires { (names : List Name) → IsTrue (may_come self.command (told_of self names) event) }
+        requires { (names ended : List Name) → IsTrue (may_come self.command (told_of self names ended) event) }
         ensures command { result.command ≡ self.command }
         ensures reply { result.reply ≡ self.reply }
-        ensures told { (names : List Name) → told_of result (told_after (told_of self names) event).names ≡ told_after (told_of self names) event }
+        ensures told { (names ended : List Name) →
+            told_of result (told_after (told_of self names ended) event).names (told_after (told_of self names ended) event).ended
+            ≡ told_after (told_of self names ended) event }
     {
         let mut after = self;
         after.any = true;
@@ -98,9 +100,9 @@ impl Answer {
     /// abandoned.
     pub(crate) fn ended_by(self, heard: Heard<'_>) -> Option<Reply>
         ensures line { IfSome result (λ r. (line : List ℕ) → IsHeard heard.entry line → line ≡ text_of_reply r) }
-        ensures may_end { IfSome result (λ r. (g : Graph) (names : List Name) (row : Row) → MayEnd (hearing_of self g names row) r) }
-        ensures none { IfNone result ((g : Graph) (names : List Name) (row : Row) (line : List ℕ) (r : TheReply) → IsHeard heard.entry line →
-            line ≡ text_of_reply r → ¬ (MayEnd (hearing_of self g names row) r)) }
+        ensures may_end { IfSome result (λ r. (g : Graph) (names ended : List Name) (row : Row) → MayEnd (hearing_of self g names ended row) r) }
+        ensures none { IfNone result ((g : Graph) (names ended : List Name) (row : Row) (line : List ℕ) (r : TheReply) → IsHeard heard.entry line →
+            line ≡ text_of_reply r → ¬ (MayEnd (hearing_of self g names ended row) r)) }
     {
         if self.ends_as_the_graph() && heard.is(&Item::Reply(self.reply)) {
             return Some(self.reply);
@@ -114,7 +116,7 @@ impl Answer {
 
     /// Whether the answer can still end: one with events is no refusal by the graph.
     pub(crate) fn can_go_on(self) -> bool
-        ensures { (g : Graph) (names : List Name) (row : Row) (asks : List Ask) → IsTrue result ↔ CanGoOn (within (hearing_of self g names row)) asks }
+        ensures { (g : Graph) (names ended : List Name) (row : Row) (asks : List Ask) → IsTrue result ↔ CanGoOn (within (hearing_of self g names ended row)) asks }
     {
         !(is_refused(self.reply) && !runs_units(self.command)) || !self.any
     }
@@ -132,7 +134,7 @@ impl Answer {
 
     /// The one reply that can end it: want of memory where it was abandoned, and else that of the graph.
     pub(crate) fn reply_due(self) -> Reply
-        ensures { (g : Graph) (names : List Name) (row : Row) → result ≡ reply_due (hearing_of self g names row) }
+        ensures { (g : Graph) (names ended : List Name) (row : Row) → result ≡ reply_due (hearing_of self g names ended row) }
     {
         if runs_units(self.command) && self.abandoned {
             Reply::Refused(Refusal::NoMemory)
@@ -143,7 +145,7 @@ impl Answer {
 
     /// Whether anything may follow what was told: nothing follows an abandonment, but under a script collection.
     pub(crate) fn may_go_on(self) -> bool
-        ensures { (names : List Name) → result ≡ may_go_on self.command (told_of self names) }
+        ensures { (names ended : List Name) → result ≡ may_go_on self.command (told_of self names ended) }
     {
         is_gc(self.command) || !self.abandoned
     }
@@ -160,7 +162,7 @@ impl Answer {
 
     /// Whether the command allows as many rising runs as there are with a native that is unlinked next.
     pub(crate) fn has_run_for(self, name: Name) -> bool
-        ensures { (names : List Name) → result ≡ nat_le (runs_with (told_of self names) name) (runs_allowed self.command) }
+        ensures { (names ended : List Name) → result ≡ nat_le (runs_with (told_of self names ended) name) (runs_allowed self.command) }
     {
         let allowed = runs_allowed(self.command);
         if self.begins_run(name) {
@@ -172,7 +174,7 @@ impl Answer {
 
     /// Whether the reply of the graph may end it.
     fn ends_as_the_graph(self) -> bool
-        ensures { (g : Graph) (names : List Name) (row : Row) → IsTrue result ↔ EndsAsTheGraph (hearing_of self g names row) self.reply }
+        ensures { (g : Graph) (names ended : List Name) (row : Row) → IsTrue result ↔ EndsAsTheGraph (hearing_of self g names ended row) self.reply }
     {
         let is_quiet = !(is_refused(self.reply) && self.any);
         let is_whole = !(runs_units(self.command) && self.abandoned);
@@ -181,7 +183,7 @@ impl Answer {
 
     /// Whether want of memory may end it.
     fn ends_abandoned(self) -> bool
-        ensures { (g : Graph) (names : List Name) (row : Row) → IsTrue result ↔ EndsAbandoned (hearing_of self g names row) (replies.Refused refusals.NoMemory) }
+        ensures { (g : Graph) (names ended : List Name) (row : Row) → IsTrue result ↔ EndsAbandoned (hearing_of self g names ended row) (replies.Refused refusals.NoMemory) }
     {
         runs_units(self.command) && self.abandoned
     }

@@ -40,7 +40,7 @@ impl Judge {
         requires between { IsBetween self.old }
         requires in_range { IsTrue (ask_in_range (ask_meant asked)) }
         requires answered { asks_nothing (ask_meant asked) ≡ false }
-        requires quiet { CensusIsQuiet (row_meant self.old.row) (state_of self.old.graph self.old.listed) (ask_meant asked) }
+        requires quiet { CensusIsQuiet (row_meant self.old.row) (state_of self.old.graph self.old.listed []) (ask_meant asked) }
         ensures { IfOk result (IsJudged heard.entry (MayAnswer (place_of self.old) (ask_meant asked)) self.new) }
     {
         match asked {
@@ -69,7 +69,7 @@ impl Judge {
     /// Begins a census. Where it must list exactly the reached objects, it does.
     fn begin_census(&mut self, heard: Heard<'_>) -> Result<bool, NoMemory>
         requires between { IsBetween self.old }
-        requires quiet { CensusIsQuiet (row_meant self.old.row) (state_of self.old.graph self.old.listed) (taken command.Census) }
+        requires quiet { CensusIsQuiet (row_meant self.old.row) (state_of self.old.graph self.old.listed []) (taken command.Census) }
         ensures { IfOk result (IsJudged heard.entry (MayAnswer (place_of self.old) (taken command.Census)) self.new) }
     {
         exact_answers_are_recited();

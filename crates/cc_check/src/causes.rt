@@ -88,7 +88,7 @@ impl Judge {
     /// Why an object may not be freed or unlinked where others may: it is not listed, or reached.
     fn cause_of_name(&mut self, answer: Answer, event: Event, name: Name) -> Result<Cause, NoMemory>
         requires kept { IsKept self.old }
-        requires may { IsTrue (may_come answer.command (told_of answer self.old.listed) event) }
+        requires may { IsTrue (may_come answer.command (told_of answer self.old.listed []) event) }
         requires of { names_in event ≡ name ∷ [] }
         requires refused { ¬ (MayCome (hearing_in self.old answer) event) }
         ensures { IfOk result (λ c. (asks : List Ask) (line : List ℕ) → line ≡ text_of_event event →

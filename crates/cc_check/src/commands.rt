@@ -1,5 +1,5 @@
 //! What kinds of commands there are.
-ghost use Rattle.std.specs.Prelude.{◌≡◌, IsTrue};
+ghost use Rattle.std.specs.Prelude.{◌≡◌, [], IsTrue};
 ghost use Rattle.cc_model.specs.Graph.{step};
 ghost use Rattle.cc_model.specs.Graph as graph;
 ghost use Rattle.cc_model.specs.Lawful.{is_gc, may_free, may_unlink, may_want_memory, runs_allowed, runs_units, state_of};
@@ -10,12 +10,12 @@ use cc_model::Command;
 use cc_names::{Name, Reg};
 use cc_object_graph::ObjectGraph;
 
-/// Whether it is a script collection.
+/// Whether it collects script objects, at once or in units.
 pub(crate) fn is_gc(command: Command) -> bool
     ensures { result ≡ is_gc command }
 {
     match command {
-        Command::Gc => true,
+        Command::Gc | Command::Mark(_) => true,
         _ => false,
     }
 }
@@ -73,7 +73,7 @@ pub(crate) fn leaves_graph(command: Command) -> bool
 /// Whether it may want memory, where the graph does not refuse it: `wset` for a new entry alone, `wrap` where the reflector is not
 /// listed.
 pub(crate) fn may_want_memory(graph: &ObjectGraph, listed: &Listed, command: Command) -> bool
-    ensures { result ≡ may_want_memory (state_of graph.now listed.now) command }
+    ensures { result ≡ may_want_memory (state_of graph.now listed.now []) command }
 {
     match command {
         Command::Native(_, _)

@@ -30,7 +30,8 @@ use std::alloc::Global;
 /// last, and the answer that the next line goes on with.
 ///
 /// An answer that can be but one way is kept as the items that are left of it, the next one last. Of another one it is kept
-/// what was told so far; the graph is then the one after its command, and the row the one before it.
+/// what was told so far; the graph is then the one after its command, and the row the one before it. The names that have ended
+/// are not kept: nothing that is asked depends on them.
 #[derive(Drop)]
 pub(crate) struct Judge {
     pub(crate) alloc: Global,

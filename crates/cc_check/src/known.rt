@@ -1,5 +1,5 @@
 //! What the registers of the graph reach, found when it is first asked for.
-ghost use Rattle.std.specs.Prelude.{◌≡◌, ◌↔◌, IfOk, IsTrue, OnOk};
+ghost use Rattle.std.specs.Prelude.{◌≡◌, ◌↔◌, [], IfOk, IsTrue, OnOk};
 ghost use Rattle.cc_lists.specs.Members.{Among, has};
 ghost use Rattle.cc_names.specs.Names.{same_name};
 ghost use Rattle.cc_names.specs.declared.name.Name.{Name as TheName};
@@ -115,7 +115,7 @@ impl Known {
         requires well_made { IsWellMade graph.now }
         requires known { IsOf self.old graph.now }
         requires names { names.now ≡ census_order listed.now }
-        ensures quiet { IfOk result (λ b. IsTrue b ↔ CensusIsQuiet (row_meant row) (state_of graph.now listed.now) (taken command.Census)) }
+        ensures quiet { IfOk result (λ b. IsTrue b ↔ CensusIsQuiet (row_meant row) (state_of graph.now listed.now []) (taken command.Census)) }
         ensures known { OnOk result (IsOf self.new graph.now) }
     {
         match row {
@@ -134,7 +134,7 @@ impl Known {
         requires well_made { IsWellMade graph.now }
         requires known { IsOf self.old graph.now }
         requires names { names.now ≡ census_order listed.now }
-        ensures exactly { IfOk result (λ b. IsTrue b ↔ ListsReached (state_of graph.now listed.now)) }
+        ensures exactly { IfOk result (λ b. IsTrue b ↔ ListsReached (state_of graph.now listed.now [])) }
         ensures known { OnOk result (IsOf self.new graph.now) }
     {
         self.find(graph)?;

@@ -30,6 +30,7 @@ fn reasons_are_short(reason: Reason)
         Reason::Root(Reg::N(register) | Reg::S(register)) => {
             numbers_are_short(u32::from(register));
         }
+        Reason::Root(Reg::W(register)) => numbers_are_short(u32::from(register)),
         Reason::Edge(from) => names_are_short(from),
         Reason::Pair(the_map, with) => {
             names_are_short(the_map);

@@ -4,12 +4,12 @@ ghost use Rattle.cc_lists.specs.Members.{has};
 ghost use Rattle.cc_names.specs.declared.name.Name.{Name as TheName};
 ghost use Rattle.cc_names.specs.Names.{same_name};
 ghost use Rattle.cc_model.specs.declared.item.Reply.TheVariants as replies;
-ghost use Rattle.cc_model.specs.Listed.{after_event, after_reply};
+ghost use Rattle.cc_model.specs.Listed.{after_event, after_reply, ended_with};
 ghost use Rattle.cc_verdict.specs.GoingOn.{CanGoOn};
 ghost use Rattle.cc_verdict.specs.Hearing.{MayCome, MayEnd, place_ended, with_told};
 ghost use Rattle.cc_verdict.specs.Positions.{reciting, within};
 ghost use Rattle.cc_check.specs.Judging.{IsJudged, MayGoOn};
-ghost use Rattle.cc_check.specs.Standing.{IsKept, hearing_in, makes, position_of};
+ghost use Rattle.cc_check.specs.Standing.{IsKept, hearing_in, makes, position_of, position_with};
 
 use crate::answer::Answer;
 use crate::asked::Asked;
@@ -56,7 +56,8 @@ impl Judge {
         requires answer { self.old.answer ≡ Some answer }
         ensures kept { OnOk result (IsKept self.new) }
         ensures yes { IfOk result (λ b. b ≡ true → MayCome (hearing_in self.old answer) event) }
-        ensures place { IfOk result (λ b. b ≡ true → position_of self.new ≡ within (with_told (hearing_in self.old answer) event)) }
+        ensures place { IfOk result (λ b. b ≡ true →
+            position_with (ended_with [] event) self.new self.new.answer ≡ within (with_told (hearing_in self.old answer) event)) }
         ensures no { IfOk result (λ b. b ≡ false → ¬ (MayCome (hearing_in self.old answer) event)) }
         ensures stays { IfOk result (λ b. b ≡ false → position_of self.new ≡ within (hearing_in self.old answer)) }
     {

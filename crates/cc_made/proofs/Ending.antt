@@ -47,7 +47,7 @@ pub after-native-drop : (a b : ℕ) (row : Row) (later : List Ask) (answers : Li
 after-native-drop a b row later [] l = absurd l.lawful
 after-native-drop a b row later (x ∷ answers) l = record {
   state = next l.state (taken (Drop (N a))) x;
-  emptied = subst (HasEmptied (suc a) b) (sym (drop-done l.state (N a) x l.lawful.0)) (next-native-emptied a b l.state.graph l.emptied);
+  emptied = subst (HasEmptied (suc a) b) (sym (drop-done l.state (N a) x tt l.lawful.0)) (next-native-emptied a b l.state.graph l.emptied);
   lawful = l.lawful.1;
   quiet = l.quiet.1;
 }
@@ -57,7 +57,7 @@ pub after-script-drop : (a b : ℕ) (row : Row) (later : List Ask) (answers : Li
 after-script-drop a b row later [] l = absurd l.lawful
 after-script-drop a b row later (x ∷ answers) l = record {
   state = next l.state (taken (Drop (S b))) x;
-  emptied = subst (HasEmptied a (suc b)) (sym (drop-done l.state (S b) x l.lawful.0)) (next-script-emptied a b l.state.graph l.emptied);
+  emptied = subst (HasEmptied a (suc b)) (sym (drop-done l.state (S b) x tt l.lawful.0)) (next-script-emptied a b l.state.graph l.emptied);
   lawful = l.lawful.1;
   quiet = l.quiet.1;
 }

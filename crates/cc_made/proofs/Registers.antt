@@ -7,7 +7,7 @@ use Rattle.cc_names.specs.Allowance.{Allowance}
 use Rattle.cc_names.specs.declared.name.Name.{Name}
 use Rattle.cc_names.specs.declared.name.Name.TheVariants as name
 use Rattle.cc_names.specs.declared.register.Reg.{Reg}
-use Rattle.cc_names.specs.declared.register.Reg.TheVariants.{N, S}
+use Rattle.cc_names.specs.declared.register.Reg.TheVariants.{N, S, W}
 use Rattle.cc_names.specs.Sizes.{bank_length}
 use Rattle.cc_model.specs.declared.command.Command.{Command}
 use Rattle.cc_model.specs.declared.command.Command.TheVariants.{Drop}
@@ -16,7 +16,7 @@ use Rattle.cc_model.specs.declared.item.Reply.{Reply}
 use Rattle.cc_model.specs.Answers.{Answer}
 use Rattle.cc_model.specs.Asks.{Ask, long, bad, taken}
 use Rattle.cc_model.specs.Checks.{refusal_of, reply_if_taken}
-use Rattle.cc_model.specs.Deeds.{Deed, nothing_done, native_made, plain_made, map_made, proxy_made, native_held, script_held, script_copied, native_stored, slot_moved, script_stored, reflector_held, reflector_preserved, entry_written, object_exposed, deed_of}
+use Rattle.cc_model.specs.Deeds.{Deed, nothing_done, native_made, plain_made, map_made, proxy_made, native_held, script_held, script_copied, native_stored, slot_moved, script_stored, reflector_held, reflector_preserved, entry_written, object_exposed, weak_written, deed_of}
 use Rattle.cc_model.specs.Graph.{Graph, GraphNative, GraphScript, proxy, done_to, changed, empty_graph, objects_of, preserve, register, set_entry, set_native, set_register, set_script, set_slot, step, unless_refused, with_proxy, with_script, wrapped}
 use Rattle.cc_model.specs.Slots.{empty_slots}
 use Rattle.cc_model.specs.Lawful.{AnswersTaken, ReplyAnswers, State, graph_after, is_without_memory, next}
@@ -106,6 +106,7 @@ written g h (S d) x s low e =
       in_scripts = λ r i. get_or-set_other h.script_registers d r x None (λ same. ⊎_elim (λ none. omega (arith, none)) (λ far. omega (arith, far, same, below)) i)
           ∙ (kept 0 0 g h s e).in_scripts r i;
     }
+written g h (W d) x s low e = absurd (false≢true low)
 
 -- a slot that is emptied is empty, and so is each that was
 set-none : {X : Type 0} (xs : List (Option X)) (i j : ℕ) → ((j ≡ i → ⊥) → get_or xs j None ≡ None) → get_or (set xs i None) j None ≡ None
@@ -154,6 +155,7 @@ done_to-kept g (reflector_held d x) low e = written g _ (S d) _ (wrapped-banks g
 done_to-kept g (reflector_preserved x) low e = kept 0 0 g _ (preserve-banks g _) e
 done_to-kept g (entry_written m k v) low e = kept 0 0 g _ (entry-banks g _ _ _) e
 done_to-kept g (object_exposed x) low e = e
+done_to-kept g (weak_written w x) low e = absurd (false≢true low)
 
 -- a command that writes one of the eight, or none
 changed-kept : (g : Graph) (c : Command) → is_of_eight (written_by (deed_of (objects_of g) c)) ≡ true → HasEmptied 0 0 g → HasEmptied 0 0 (changed g c)
@@ -179,20 +181,27 @@ next-kept s long a low e = e
 next-kept s bad a low e = e
 next-kept s (taken c) a low e = left-or-changed (HasEmptied 0 0) s.graph c a.reply e (changed-kept s.graph c low e)
 
--- what is let go leaves its register empty
-changed-drop : (g : Graph) (r : Reg) → changed g (Drop r) ≡ set_register g r None
-unfolding changed done_to deed_of
-changed-drop g (N d) = refl
-changed-drop g (S d) = refl
+-- a register that is a root
+abbrev pub IsRoot : Reg → Type 0
+IsRoot (N d) = Unit {0}
+IsRoot (S d) = Unit {0}
+IsRoot (W d) = ⊥
 
--- a register that is let go is emptied: that wants no memory, and is not refused
-pub drop-done : (s : State) (r : Reg) (a : Answer) → AnswersTaken s (Drop r) a → graph_after s.graph (Drop r) a.reply ≡ set_register s.graph r None
+-- what is let go leaves its register empty
+changed-drop : (g : Graph) (r : Reg) → IsRoot r → changed g (Drop r) ≡ set_register g r None
+unfolding changed done_to deed_of
+changed-drop g (N d) root = refl
+changed-drop g (S d) root = refl
+changed-drop g (W d) root = absurd root
+
+-- a root that is let go is emptied: that wants no memory, and is not refused
+pub drop-done : (s : State) (r : Reg) (a : Answer) → IsRoot r → AnswersTaken s (Drop r) a → graph_after s.graph (Drop r) a.reply ≡ set_register s.graph r None
 unfolding refusal_of reply_if_taken
-drop-done s r a answered = go a.reply answered.2
+drop-done s r a root answered = go a.reply answered.2
   where
     go : (reply : Option Reply) → ReplyAnswers s (Drop r) a reply → graph_after s.graph (Drop r) reply ≡ set_register s.graph r None
     go None p = absurd p
-    go (Some reply) p = ⊎_elim (λ e. ap (λ y. graph_after s.graph (Drop r) (Some y)) e ∙ changed-drop s.graph r) (λ wants. absurd (false≢true wants.command_may)) p.replies
+    go (Some reply) p = ⊎_elim (λ e. ap (λ y. graph_after s.graph (Drop r) (Some y)) e ∙ changed-drop s.graph r root) (λ wants. absurd (false≢true wants.command_may)) p.replies
 
 -- a register is one of the eight or beyond them
 near-or-far : (r : ℕ) → (r < 8) ⊎ (8 ≤ r)
@@ -201,6 +210,7 @@ near-or-far r = ⊎_elim (λ far. inr far.1) (λ near. inl near.1) (leb_tells 8 
 all-empty : (g : Graph) → HasEmptied 8 8 g → (r : Reg) → register g r ≡ None
 all-empty g e (N r) = e.in_natives r (near-or-far r)
 all-empty g e (S r) = e.in_scripts r (near-or-far r)
+all-empty g e (W r) = refl
 
 -- where all registers are empty nothing is reached
 pub none-reached : (g : Graph) → HasEmptied 8 8 g → (x : Name) → Reached g x → ⊥

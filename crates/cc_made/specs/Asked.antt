@@ -1,12 +1,12 @@
 -- What a made script asks.
 use Rattle.std.specs.Prelude.{Bool, true, false, List, [], ◌∷◌, Option, Some, None, nat_lt}
 use Rattle.cc_names.specs.declared.register.Reg.{Reg}
-use Rattle.cc_names.specs.declared.register.Reg.TheVariants.{N, S}
+use Rattle.cc_names.specs.declared.register.Reg.TheVariants.{N, S, W}
 use Rattle.cc_model.specs.declared.command.Command.TheVariants.{Drop, Collect, Gc, Census}
 use Rattle.cc_model.specs.Mutating.{census, Class, says, class_of}
 use Rattle.cc_model.specs.Asks.{Ask, long, bad, taken}
 use Rattle.cc_model.specs.Checks.{Objects}
-use Rattle.cc_model.specs.Deeds.{Deed, native_made, plain_made, map_made, proxy_made, native_held, script_held, script_copied, reflector_held, deed_of}
+use Rattle.cc_model.specs.Deeds.{Deed, native_made, plain_made, map_made, proxy_made, native_held, script_held, script_copied, reflector_held, weak_written, deed_of}
 
 -- all but what is said, of which a census alone is asked for
 abbrev pub is_asked : Class → Bool
@@ -31,6 +31,7 @@ written_by (native_held d x) = Some (N d)
 written_by (script_held d x) = Some (S d)
 written_by (script_copied d x) = Some (S d)
 written_by (reflector_held d x) = Some (S d)
+written_by (weak_written w x) = Some (W w)
 written_by _ = None
 
 -- one of the eight that the tail empties, or none
@@ -38,6 +39,7 @@ abbrev pub is_of_eight : Option Reg → Bool
 is_of_eight None = true
 is_of_eight (Some (N r)) = nat_lt r 8
 is_of_eight (Some (S r)) = nat_lt r 8
+is_of_eight (Some (W r)) = false
 
 -- an ask that writes no other, where these are the objects
 abbrev pub writes_of_eight : Objects → Ask → Bool

@@ -24,7 +24,8 @@ use cc_names::{BANK_LENGTH, Limits, Name, NoMemory, Reg, RegNo};
 use std::alloc::Global;
 use std::marker::Model;
 
-/// An object graph: registers, objects and entries, and the limits within which objects are made.
+/// An object graph: registers, objects and entries, and the limits within which objects are made. No line writes a weak register yet,
+/// so these are empty.
 #[derive(Drop)]
 pub struct ObjectGraph {
     native_registers: Bank,
@@ -38,13 +39,16 @@ pub struct ObjectGraph {
 }
 
 impl Model for ObjectGraph {
+    ghost use Rattle.cc_names.specs.Sizes.{weak_length};
     ghost use Rattle.cc_model.specs.Graph.{Graph};
+    ghost use Rattle.cc_model.specs.Slots.{empty_slots};
 
     ghost Value = { Graph };
 
     ghost view = { λ g. record {
       native_registers = g.native_registers;
       script_registers = g.script_registers;
+      weak_registers = empty_slots weak_length;
       natives = g.natives;
       scripts = g.scripts;
       entries = g.entries;
@@ -94,13 +98,14 @@ impl ObjectGraph {
         Ok(reply)
     }
 
-    /// What a register holds.
+    /// What a register holds. A weak one is no root, and reads as empty.
     pub fn register(&self, at: Reg) -> Option<Name>
         ensures { result ≡ register self.now at }
     {
         match at {
             Reg::N(r) => self.native_registers.at(r as usize),
             Reg::S(r) => self.script_registers.at(r as usize),
+            Reg::W(_) => None,
         }
     }
 

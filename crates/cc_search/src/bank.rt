@@ -1,4 +1,4 @@
-//! The two banks of registers.
+//! The two banks of registers that are roots. Weak registers are none.
 ghost use Rattle.std.specs.Prelude.{◌≡◌};
 ghost use Rattle.cc_search.specs.Banks.{reg_in};
 

@@ -72,6 +72,15 @@ const OF_VERSION_2: &[Row] = &[
     (" version  2 \r", None),
 ];
 
+/// No line asks these yet.
+const OF_NONE: &[Row] = &[
+    ("drop w0", None),
+    ("weak w0 n0", None),
+    ("deref n0 w0", None),
+    ("forget", None),
+    ("mark 1", None),
+];
+
 /// A path is asked for with one name.
 const OF_PATHS: &[Row] = &[
     ("why #1", Some(Command::Why(Name::Native(NativeNo(1))))),
@@ -112,5 +121,7 @@ fn lines_ask_what_their_dialect_says(rt: HostRuntime) {
     assert!(rt; ask(Dialect::One, &[(" version  2 \r", None)]));
     assert!(rt; ask(Dialect::Two, OF_VERSION_2));
     assert!(rt; ask(Dialect::Two, OF_PATHS));
+    assert!(rt; ask(Dialect::One, OF_NONE));
+    assert!(rt; ask(Dialect::Two, OF_NONE));
     assert!(rt; ask(Dialect::Start, OF_THE_START));
 }

@@ -1,7 +1,7 @@
 //! Those that are told items, and the items' texts.
 
 use cc_model::{Counter, Event, Item, ItemList, Notebook, Notices, Reason, Refusal, Reply};
-use cc_names::{Name, NativeNo, Reg, ScriptNo};
+use cc_names::{LineBuf, Name, NativeNo, Reg, ScriptNo, write_register};
 
 /// A native is freed, a command is done, and another one is refused.
 const ITEMS: [Item; 3] = [
@@ -73,6 +73,27 @@ fn a_notebook_keeps_the_lines_of_a_path(rt: HostRuntime) {
         notebook.text(),
         b": #7 n1023\n: @999999 #7\n: @1 s0\n: ~1000000 @1000000 ~1000000\n= ok\n".as_slice()
     );
+}
+
+/// Registers, and their texts.
+const REGISTERS: &[(Reg, &'static str)] = &[
+    (Reg::N(0), "n0"),
+    (Reg::N(1023), "n1023"),
+    (Reg::S(0), "s0"),
+    (Reg::S(1_073_741_823), "s1073741823"),
+    (Reg::W(0), "w0"),
+    (Reg::W(255), "w255"),
+];
+
+#[test]
+fn registers_have_their_texts(rt: HostRuntime) {
+    let mut same = true;
+    for (register, text) in REGISTERS {
+        let mut line = LineBuf::new();
+        write_register(*register, &mut line);
+        same &= line.bytes() == text.as_bytes();
+    }
+    assert!(rt; same);
 }
 
 #[test]

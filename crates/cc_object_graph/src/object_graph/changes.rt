@@ -1,7 +1,8 @@
 //! What a command makes of the graph.
-ghost use Rattle.std.specs.Prelude.{◌≡◌, ◌<◌, false, length, OnOk};
+ghost use Rattle.std.specs.Prelude.{◌≡◌, ◌<◌, false, length, IsTrue, OnOk};
 ghost use Rattle.cc_model.specs.Checks.{is_full};
 ghost use Rattle.cc_model.specs.Graph.{changed, objects_of};
+ghost use Rattle.cc_model.specs.Ranges.{in_range};
 ghost use Rattle.cc_object_graph.specs.Ready.{IsReady, may_take_memory};
 
 use crate::made_script::MadeScript;
@@ -14,7 +15,8 @@ use cc_names::{NoMemory, Reg};
 impl ObjectGraph {
     /// Does a command that takes no memory.
     fn write(&mut self, command: &Command)
-        requires { may_take_memory command.now ≡ false }
+        requires no_memory { may_take_memory command.now ≡ false }
+        requires in_range { IsTrue (in_range command.now) }
         ensures { self.new ≡ changed self.old command.now }
     {
         match *command {
@@ -50,6 +52,7 @@ impl ObjectGraph {
     /// Does a command that is not refused.
     pub(super) fn change(&mut self, command: &Command) -> Result<(), NoMemory>
         requires ready { IsReady self.old }
+        requires in_range { IsTrue (in_range command.now) }
         requires room { is_full (objects_of self.old) command.now ≡ false }
         ensures { OnOk result (self.new ≡ changed self.old command.now) }
     {

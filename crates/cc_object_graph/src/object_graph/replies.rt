@@ -64,6 +64,7 @@ impl ObjectGraph {
             Command::Unwrap(_, s) => naming(native_of(self.register(Reg::S(s)))),
             Command::GetEntry(_, m, k) => naming(self.value_at(m, k)),
             Command::Expose(s, i) => naming(self.slot_at(Reg::N(s), i)),
+            Command::Weak(_, s) => naming(self.register(Reg::N(s))),
             _ => Reply::Done,
         }
     }

@@ -7,13 +7,14 @@ use crate::object_graph::ObjectGraph;
 use cc_names::{Name, NoMemory, Reg};
 
 impl ObjectGraph {
-    /// Writes a register.
+    /// Writes a register that is a root. A weak one is none: nothing is written.
     pub(super) fn set_register(&mut self, at: Reg, content: Option<Name>)
         ensures { self.new ≡ set_register self.old at content }
     {
         match at {
             Reg::N(r) => self.native_registers.write(r as usize, content),
             Reg::S(r) => self.script_registers.write(r as usize, content),
+            Reg::W(_) => (),
         }
     }
 

@@ -28,5 +28,5 @@ few c t e x may is begun =
 
 pub overflow_add-after : goal.overflow_add-after
 overflow_add-after c =
-    let h : c.args.self.runs + 1 ≤ 2 = few c.args.self.command (told_of c.args.self []) c.args.event c.in-Unlinked.name (c.requires []) c.in-Unlinked.is c.if-begins_run.ensures in
+    let h : c.args.self.runs + 1 ≤ 2 = few c.args.self.command (told_of c.args.self [] []) c.args.event c.in-Unlinked.name (c.requires [] []) c.in-Unlinked.is c.if-begins_run.ensures in
     omega arith

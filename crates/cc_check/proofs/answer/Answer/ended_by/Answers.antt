@@ -19,23 +19,23 @@ want : (h : Hearing) (r : Reply) → EndsAbandoned h r → EndsAbandoned h no_me
 want h r a = subst (EndsAbandoned h) a.refused a
 
 pub returns-then-is-clause-may_end : goal.returns-then-is-clause-may_end
-returns-then-is-clause-may_end c = λ g names row. inl ((c.ends_as_the_graph.ensures g names row).0 c.if-ends_as_the_graph.true)
+returns-then-is-clause-may_end c = λ g names ended row. inl ((c.ends_as_the_graph.ensures g names ended row).0 c.if-ends_as_the_graph.true)
 
 pub returns-then-is-2-clause-may_end : goal.returns-then-is-2-clause-may_end
-returns-then-is-2-clause-may_end c = λ g names row. inr ((c.ends_abandoned.ensures g names row).0 c.if-ends_abandoned.true)
+returns-then-is-2-clause-may_end c = λ g names ended row. inr ((c.ends_abandoned.ensures g names ended row).0 c.if-ends_abandoned.true)
 
 pub returns-clause-none : goal.returns-clause-none
-returns-clause-none c = λ g names row line r h e m. ⊎_elim
-    (λ (a : EndsAsTheGraph (hearing_of c.args.self g names row) r). elim c.else-ends_as_the_graph.branch [
+returns-clause-none c = λ g names ended row line r h e m. ⊎_elim
+    (λ (a : EndsAsTheGraph (hearing_of c.args.self g names ended row) r). elim c.else-ends_as_the_graph.branch [
       | else-ends_as_the_graph-via-then-ends_as_the_graph+else-is w ↦
           true≢false (sym ((w.is.ensures line h).1 (e ∙ ap text_of_reply a.same)) ∙ w.if-is.false)
       | else-ends_as_the_graph-via-else-ends_as_the_graph w ↦
-          true≢false (sym ((c.ends_as_the_graph.ensures g names row).1 (own (hearing_of c.args.self g names row) r a)) ∙ w.if-ends_as_the_graph.false)
+          true≢false (sym ((c.ends_as_the_graph.ensures g names ended row).1 (own (hearing_of c.args.self g names ended row) r a)) ∙ w.if-ends_as_the_graph.false)
     ])
-    (λ (a : EndsAbandoned (hearing_of c.args.self g names row) r). elim c.else-ends_abandoned.branch [
+    (λ (a : EndsAbandoned (hearing_of c.args.self g names ended row) r). elim c.else-ends_abandoned.branch [
       | else-ends_abandoned-via-then-ends_abandoned+else-is-2 w ↦
           true≢false (sym ((w.is-then-ends_abandoned.ensures line h).1 (e ∙ ap text_of_reply a.refused)) ∙ w.if-is-2.false)
       | else-ends_abandoned-via-else-ends_abandoned w ↦
-          true≢false (sym ((c.ends_abandoned.ensures g names row).1 (want (hearing_of c.args.self g names row) r a)) ∙ w.if-ends_abandoned.false)
+          true≢false (sym ((c.ends_abandoned.ensures g names ended row).1 (want (hearing_of c.args.self g names ended row) r a)) ∙ w.if-ends_abandoned.false)
     ])
     m

@@ -28,26 +28,26 @@ module _ (c : Command) (t : Told) (e : Event) (x : Name) where
   not_unlinked is link = ap (may_come c t) is ∙ ap (λ (b : Bool). b && (may_go_on c t && nat_le (runs_with t x) (runs_allowed c))) link
 
 pub returns-then-may_free : goal.returns-then-may_free
-returns-then-may_free c = λ names.
-    c.may_go_on.ensures names
-    ∙ sym (freed c.args.self.command (told_of c.args.self names) c.args.event c.in-Freed.name c.in-Freed.is (sym c.may_free.ensures ∙ c.if-may_free.true))
+returns-then-may_free c = λ names ended.
+    c.may_go_on.ensures names ended
+    ∙ sym (freed c.args.self.command (told_of c.args.self names ended) c.args.event c.in-Freed.name c.in-Freed.is (sym c.may_free.ensures ∙ c.if-may_free.true))
 
 pub returns-then-may_go_on : goal.returns-then-may_go_on
-returns-then-may_go_on c = λ names. elim c.if-may_unlink.branch [
-  | then-may_unlink w ↦ c.has_run_for.ensures names
-      ∙ sym (unlinked c.args.self.command (told_of c.args.self names) c.args.event c.in-Unlinked.name c.in-Unlinked.is
+returns-then-may_go_on c = λ names ended. elim c.if-may_unlink.branch [
+  | then-may_unlink w ↦ c.has_run_for.ensures names ended
+      ∙ sym (unlinked c.args.self.command (told_of c.args.self names ended) c.args.event c.in-Unlinked.name c.in-Unlinked.is
       (sym c.may_unlink.ensures ∙ w.if-may_unlink.true)
-      (sym (w.may_go_on-then-may_unlink.ensures names) ∙ (sym w.value-is ∙ c.if-may_go_on.true)))
+      (sym (w.may_go_on-then-may_unlink.ensures names ended) ∙ (sym w.value-is ∙ c.if-may_go_on.true)))
   | else-may_unlink w ↦ absurd (true≢false (sym c.if-may_go_on.true ∙ (w.value-is ∙ w.if-may_unlink.false)))
 ]
 
 pub returns-else-may_go_on : goal.returns-else-may_go_on
-returns-else-may_go_on c = λ names. elim c.if-may_unlink.branch [
+returns-else-may_go_on c = λ names ended. elim c.if-may_unlink.branch [
   | then-may_unlink w ↦ c.if-may_go_on.false
-      ∙ sym (over c.args.self.command (told_of c.args.self names) c.args.event c.in-Unlinked.name c.in-Unlinked.is
+      ∙ sym (over c.args.self.command (told_of c.args.self names ended) c.args.event c.in-Unlinked.name c.in-Unlinked.is
       (sym c.may_unlink.ensures ∙ w.if-may_unlink.true)
-      (sym (w.may_go_on-then-may_unlink.ensures names) ∙ (sym w.value-is ∙ c.if-may_go_on.false)))
+      (sym (w.may_go_on-then-may_unlink.ensures names ended) ∙ (sym w.value-is ∙ c.if-may_go_on.false)))
   | else-may_unlink w ↦ c.if-may_go_on.false
-      ∙ sym (not_unlinked c.args.self.command (told_of c.args.self names) c.args.event c.in-Unlinked.name c.in-Unlinked.is
+      ∙ sym (not_unlinked c.args.self.command (told_of c.args.self names ended) c.args.event c.in-Unlinked.name c.in-Unlinked.is
       (sym c.may_unlink.ensures ∙ w.if-may_unlink.false))
 ]

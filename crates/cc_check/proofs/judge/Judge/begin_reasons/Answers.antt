@@ -60,7 +60,7 @@ returns c =
     let after = place_after p (taken (Why x)) (why_of (leads_made g) x) in
     let graph_is : graph_after g (Why x) (Some (done_or_nothing led)) ≡ g = no_deed-graph (Why x) refl g (Some (done_or_nothing led)) in
     let place_is : place_of c.hear_reply.new.self ≡ after = c.hear_reply.ensures.place
-    ∙ ap (λ (h : Graph). place h c.args.self.now.listed nothing_yet) (sym graph_is) in
+    ∙ ap (λ (h : Graph). place h c.args.self.now.listed [] nothing_yet) (sym graph_is) in
     let told = items_of (why_of (leads_made g) x) in
     let found : c.find.new.self.reach ≡ derivation (leads_made c.hear_reply.new.self.graph) = c.in_ok-find.ensures in
     let same_graph : c.hear_reply.new.self.graph ≡ g = ap (λ (o : Place). o.state.graph) c.hear_reply.ensures.place in

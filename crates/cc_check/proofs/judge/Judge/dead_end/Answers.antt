@@ -1,4 +1,4 @@
-use Rattle.std.proofs.Common.{◌≡◌, reverse, ap, ◌∙◌, subst}
+use Rattle.std.proofs.Common.{◌≡◌, [], reverse, ap, ◌∙◌, subst}
 use Rattle.cc_lists.specs.Members.{Among}
 use Rattle.cc_lists.proofs.Members.{has-among, has-there}
 use Rattle.cc_names.specs.Names.{same_name}
@@ -40,7 +40,7 @@ unreachable-requires c =
     let st : IsStuck j.graph j.listed j.row (asks_left c.args.script) =
     stuck j.graph j.listed j.row (asks_left c.args.script) (subst (λ (p : Position). ¬ (CanGoOn p (asks_left c.args.script))) here c.requires.dead) in
     let names_are = c.as_slice.ensures.value ∙ c.in_ok-names.ensures.names in
-    let quiet : ListsReached (state_of j.graph j.listed) =
+    let quiet : ListsReached (state_of j.graph j.listed []) =
     exactly-from j.graph c.find.new.self c.requires.kept.well_made c.in_ok-find.ensures j.listed _ names_are c.in-None.ensures.none
     (λ x m. (all-of j c.requires.kept c.in_default.is).listed x (found-reached j.graph c.find.new.self x c.requires.kept.well_made c.in_ok-find.ensures
     (has-there same_name same_name-exact (named c.find.new.self.reach) x m))) in

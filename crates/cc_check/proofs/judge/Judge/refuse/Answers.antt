@@ -16,7 +16,7 @@ use Rattle.cc_check.proofs.judge.Judge.refuse.Goals as goal
 
 -- a refused line leaves the graph and what is listed
 refused-place : (g : Graph) (names : List Name) (row : Row) (ask : Ask) (r : Refusal) → IsRefusal ask r →
-    place g names (row_after row ask (replying [] (Refused r))) ≡ place_after (place g names row) ask (replying [] (Refused r))
+    place g names [] (row_after row ask (replying [] (Refused r))) ≡ place_after (place g names [] row) ask (replying [] (Refused r))
 refused-place g names row long r is = refl
 refused-place g names row bad r is = refl
 refused-place g names row (taken c) r is = absurd is
@@ -36,9 +36,9 @@ returns c =
     let ask = ask_meant c.args.asked in
     let p = place_of j in
     let after = place_after p ask (replying [] (Refused c.args.refusal)) in
-    let now = place j.graph j.listed (row_meant c.after-self.result) in
+    let now = place j.graph j.listed [] (row_meant c.after-self.result) in
     let told = items_of (replying [] (Refused c.args.refusal)) in
-    let place_is : now ≡ after = ap (place j.graph j.listed) c.after-self.ensures ∙ refused-place j.graph j.listed (row_meant j.row) ask c.args.refusal c.requires.refused in
+    let place_is : now ≡ after = ap (place j.graph j.listed []) c.after-self.ensures ∙ refused-place j.graph j.listed (row_meant j.row) ask c.args.refusal c.requires.refused in
     let items_are : reverse c.list.new.recital.items ≡ told = c.in_ok-list.ensures.items
     ∙ ap (λ (names : List Name). items_of (listing names (Refused c.args.refusal))) c.new.ensures.items in
     let law = refuses c.exact_answers_are_recited.ensures.long c.exact_answers_are_recited.ensures.bad ask c.args.refusal c.requires.refused in
