@@ -48,6 +48,7 @@ pub mod StandingStill
 pub mod StandingAfter
 pub mod EntriesFollow
 pub mod KeysKept
+pub mod MarksKept
 pub mod Kept
 pub mod Reflecting
 pub mod ReflectingMade

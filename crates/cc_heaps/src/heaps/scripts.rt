@@ -83,6 +83,7 @@ impl Heaps {
         ensures order { (owned : List ℕ) → IsInOrder owned self.old → IsInOrder owned self.new }
     {
         let number = ScriptNo(self.scripts_made + 1);
+        self.to_scan.reserve(self.scripts.len() + 1)?;
         let key = create(&mut self.scripts, number, what)?;
         self.scripts_made += 1;
         Ok(key)
