@@ -38,6 +38,7 @@ use Rattle.cc_heaps.specs.Leaving.{NothingLeft, TellsWhatIsFreed}
 use Rattle.cc_heaps.specs.Standing.{IsReached, IsReachedOrReflects, StandsAfter}
 use Rattle.cc_heaps.specs.Keeping.{KeepsAll}
 use Rattle.cc_heaps.proofs.FewCounts.{few-owned}
+use Rattle.cc_heaps.proofs.MarksKept.{marks-changed, marks-then}
 use Rattle.cc_heaps.proofs.Ordered.{IsInOrder-changed}
 use Rattle.cc_heaps.proofs.Registers.{AreLive, none-each}
 
@@ -107,6 +108,7 @@ module _ (v mid w : Keyed) (b : Bank) (n : ℕ) (few : n ≤ most_roots) (is : m
     colours = λ c. k.colours (subst (λ (u : Keyed). HasColourInvariant (view u.heap)) (sym is) (subst HasColourInvariant (sym (view-lengthen v.heap b n)) c));
     fresh = λ s f. k.fresh s (subst (λ (u : Keyed). IsFresh u.heap.natives_made (view u.heap) s) (sym is) (lengthen-fresh v.heap s b n f));
     suspected = λ candidates s. k.suspected candidates (subst (λ (u : Keyed). IsSuspected (view u.heap) candidates) (sym is) (lengthen-suspected v.heap candidates b n s));
+    marks = marks-then (marks-changed v mid (lengthen v.heap b n) is) k.marks;
   }
 
   -- what it frees was there
@@ -182,6 +184,7 @@ module _ (p : Inside) (n : ℕ) (few : n ≤ most_roots) (l : IsLinked p) where
     one_name = l.one_name;
     reflectors = l.reflectors;
     script_names = l.script_names;
+    room = l.room;
   }
     where
       live : {T E : Type 0} (r : Result T E) →
@@ -205,6 +208,7 @@ module _ (p : Inside) (n : ℕ) (few : n ≤ most_roots) (l : IsLinked p) where
     one_name = l.one_name;
     reflectors = l.reflectors;
     script_names = l.script_names;
+    room = l.room;
   }
     where
       live : {T E : Type 0} (r : Result T E) →

@@ -16,6 +16,7 @@ pub mod ContentNames
 pub mod SlotsHeld
 pub mod PlacesRead
 pub mod Made
+pub mod Reserved
 pub mod Reaching
 pub mod ScriptsChanged
 pub mod EntryNames
