@@ -1,5 +1,6 @@
 -- ONE OBJECT CHANGED AT ITS KEY.
-use Rattle.std.proofs.Common.{◌≡◌, ◌≢◌, ℕ, ◌<◌, ◌≤◌, length, Some, None, sym, ◌∙◌, ap, subst, ⊎_elim, ◌⊎◌, arith}
+use Rattle.std.proofs.Common.{◌≡◌, ◌≢◌, ℕ, ◌<◌, ◌≤◌, List, length, Option, Some, None, option_map, sym, ◌∙◌, ap, subst, ⊎_elim, ◌⊎◌, arith}
+use Rattle.std.proofs.Math.ListN.{set}
 use Rattle.std.proofs.lemmas.Bool.{cases_lt, eq-eqb, ne_eqb}
 use Rattle.std.proofs.lemmas.Bool.Decides.{eqb_tells}
 use Rattle.std.proofs.lemmas.List.{get_or-set_same, get_or-set_other, get_or_past}
@@ -41,3 +42,15 @@ module _ (l : Lists) (p : IsPlaced l) (key : ℕ) (c d : Placed) (at : cell_at l
   -- what is shown of it
   pub objects-changed : (f : Object → Object) → f (with_key key (l.walks key) c) ≡ with_key key (l.walks key) d → objects_of (with_cell l key (Some d)) ≡ change_object (objects_of l) key f
   objects-changed f e = grind (arith, map-agree, changed_at, map-map, eq-eqb, ne_eqb, same, other, eqb_tells)
+
+-- the same where cells are given, at which a change made another of it
+module _ (l : Lists) (p : IsPlaced l) (key : ℕ) (c : Placed) (at : cell_at l.cells key ≡ Some c) (change : Placed → Placed) (cells : List (Option Placed))
+    (e : cells ≡ set l.cells key (option_map change (cell_at l.cells key))) where
+  lists : with_cell l key (Some (change c)) ≡ record l { cells = cells }
+  lists = ap (λ cs. record l { cells = cs }) (sym (e ∙ ap (λ o. set l.cells key (option_map change o)) at))
+
+  pub IsPlaced-cells : length (change c).slots ≤ most_slots → FitsKind (change c).kind (change c).native → FitsDelegate (change c).kind (change c).delegate → IsPlaced (record l { cells = cells })
+  IsPlaced-cells few fits stands = subst IsPlaced lists (IsPlaced-changed l p key c (change c) at few fits stands)
+
+  pub objects-cells : (f : Object → Object) → f (with_key key (l.walks key) c) ≡ with_key key (l.walks key) (change c) → objects_of (record l { cells = cells }) ≡ change_object (objects_of l) key f
+  objects-cells f same = ap objects_of (sym lists) ∙ objects-changed l p key c (change c) at f same

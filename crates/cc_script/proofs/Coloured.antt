@@ -1,5 +1,5 @@
--- WHAT STANDS AT A KEY, label, content and colour: what is read there, and what a write of each changes.
-use Rattle.std.proofs.Common.{◌≡◌, ◌≢◌, ◌≤◌, Bool, false, ℕ, ◌<◌, zero, suc, List, [], ◌∷◌, map, length, drop, get_or, replicate, Option, Some, None, option_map, is_some, refl, sym, ◌∙◌, ap, subst, arith}
+-- WHAT STANDS AT A KEY, label, content, new mark and colour: what is read there, and what a write of each changes.
+use Rattle.std.proofs.Common.{◌≡◌, ◌≢◌, ◌≤◌, Bool, false, ℕ, ◌+◌, ◌<◌, zero, suc, List, [], ◌∷◌, map, length, drop, get_or, replicate, Option, Some, None, option_map, is_some, refl, sym, ◌∙◌, ap, subst, arith}
 use Rattle.std.specs.Prelude.{IsTrue}
 use Rattle.std.proofs.Math.ListN.{set, get_or-map, length-set}
 use Rattle.std.proofs.Math.Path.{fun_ext}
@@ -14,14 +14,14 @@ use Rattle.cc_names.specs.declared.kind.Colour.{Colour}
 use Rattle.cc_names.specs.declared.kind.Colour.TheVariants.{White, Gray}
 use Rattle.cc_chain.specs.declared.link.Link.{Link}
 use Rattle.cc_chain.specs.Links.{is_live}
-use Rattle.cc_script.specs.Lists.{Placed, cell_at, painted}
+use Rattle.cc_script.specs.Lists.{Placed, cell_at, newly_marked, painted}
 use Rattle.cc_script.specs.Paired.{Reaches, paired}
 use Rattle.cc_script.specs.Threads.{Thread, same_thread}
-use Rattle.cc_script.specs.Cells.{AreGrayNoted, Changes, Content, HasColourAt, HaveAll, Label, Linked, Whitens, cells_of, coloured_slab, filled, filled_slab, in_colour, link_of, links_in, nothing}
+use Rattle.cc_script.specs.Cells.{AreGrayNoted, Changes, Content, HasColourAt, HaveAll, Label, Linked, Whitens, bare_slab, cells_of, coloured_slab, filled, filled_slab, in_colour, in_new_mark, link_of, links_in, marked_slab, nothing}
 use Rattle.cc_script.proofs.Linking.{Relinks, cell-held, cell-read, changes-written, relinks-written}
-use Rattle.cc_script.proofs.Paired.{held-in, paired-at, paired-same, paired-set, paired-written, read-at, updates-made, updates-taken, vacant-at}
+use Rattle.cc_script.proofs.Paired.{held-in, held-out, paired-at, paired-same, paired-set, paired-written, read-at, updates-made, updates-taken, vacant-at}
 
--- the labels and contents with their colours
+-- the labels, contents and new marks with their colours
 abbrev coloured : List (Option Linked) → List Colour → List (Option Linked)
 coloured slots colours = paired in_colour White slots colours
 
@@ -130,60 +130,150 @@ module _ {room : ℕ} (s : Slab Linked) (colours : List Colour) (now : Slab Link
       (subst (λ slots. Relinks t key link old (record old { slots = slots })) (sym (paired-set in_colour White s.slots colours key (Some d)))
       (relinks-written old t key (in_colour colour b) (in_colour colour d) link (read-at in_colour White s colours key b at) placed here others))
 
--- A label with its content
+-- A label with its content and its new mark
 
-module _ (s : Slab Label) (contents : List Content) (key : ℕ) where
-  pub held-label : ContainsKey (filled_slab s contents) key → ContainsKey s key
-  held-label h = held-in filled nothing s contents key h
+module _ (s : Slab Label) (contents : List Content) (marks : List Colour) (key : ℕ) where
+  pub held-label : ContainsKey (bare_slab s contents marks) key → ContainsKey s key
+  held-label h = held-in filled nothing s contents key (held-in in_new_mark White (filled_slab s contents) marks key h)
 
-  pub read-filled : (label : Label) → get s key ≡ Some label → get (filled_slab s contents) key ≡ Some (filled (get_or contents key nothing) label)
-  read-filled label at = read-at filled nothing s contents key label at
+  pub held-filled : ContainsKey s key → ContainsKey (bare_slab s contents marks) key
+  held-filled h = held-out in_new_mark White (filled_slab s contents) marks key (held-out filled nothing s contents key h)
 
-  -- a content written
+  pub read-bare : (label : Label) → get s key ≡ Some label → get (bare_slab s contents marks) key ≡ Some (in_new_mark (get_or marks key White) (filled (get_or contents key nothing) label))
+  read-bare label at = read-at in_new_mark White (filled_slab s contents) marks key (filled (get_or contents key nothing) label) (read-at filled nothing s contents key label at)
+
+  pub vacant-bare : get s key ≡ None → get (bare_slab s contents marks) key ≡ None
+  vacant-bare none = vacant-at in_new_mark White (filled_slab s contents) marks key (vacant-at filled nothing s contents key none)
+
+  -- a label written,
+  pub label-set : (label : Label) → bare_slab (record s { slots = set s.slots key (Some label) }) contents marks ≡
+      record (bare_slab s contents marks) { slots = set (bare_slab s contents marks).slots key (Some (in_new_mark (get_or marks key White) (filled (get_or contents key nothing) label))) }
+  label-set label = ap (λ slots. record (bare_slab s contents marks) { slots = slots })
+      (ap (λ slots. paired in_new_mark White slots marks) (paired-set filled nothing s.slots contents key (Some label))
+      ∙ paired-set in_new_mark White (filled_slab s contents).slots marks key (Some (filled (get_or contents key nothing) label)))
+
+  -- taken out,
+  pub slots-out : paired in_new_mark White (paired filled nothing (set s.slots key None) contents) marks ≡ set (bare_slab s contents marks).slots key None
+  slots-out =
+      ap (λ slots. paired in_new_mark White slots marks) (paired-set filled nothing s.slots contents key None)
+      ∙ paired-set in_new_mark White (filled_slab s contents).slots marks key None
+
+  -- a content written,
   pub content-set : (label : Label) (content : Content) → key < length contents → get s key ≡ Some label →
-      filled_slab s (set contents key content) ≡ record (filled_slab s contents) { slots = set (filled_slab s contents).slots key (Some (filled content label)) }
-  content-set label content l at = ap (λ slots. record (filled_slab s contents) { slots = slots }) (paired-written filled nothing s.slots contents key content label l at)
+      bare_slab s (set contents key content) marks ≡ record (bare_slab s contents marks) { slots = set (bare_slab s contents marks).slots key (Some (in_new_mark (get_or marks key White) (filled content label))) }
+  content-set label content l at = ap (λ slots. record (bare_slab s contents marks) { slots = slots })
+      (ap (λ slots. paired in_new_mark White slots marks) (paired-written filled nothing s.slots contents key content label l at)
+      ∙ paired-set in_new_mark White (filled_slab s contents).slots marks key (Some (filled content label)))
+
+  -- or a new mark
+  pub mark-set : (label : Label) (new : Colour) → key < length marks → get s key ≡ Some label →
+      bare_slab s contents (set marks key new) ≡ record (bare_slab s contents marks) { slots = set (bare_slab s contents marks).slots key (Some (in_new_mark new (filled (get_or contents key nothing) label))) }
+  mark-set label new l at = ap (λ slots. record (bare_slab s contents marks) { slots = slots })
+      (paired-written in_new_mark White (filled_slab s contents).slots marks key new (filled (get_or contents key nothing) label) l (read-at filled nothing s contents key label at))
 
   -- a content written where no object stands
-  pub emptied : (content : Content) → get s key ≡ None → filled_slab s (set contents key content) ≡ filled_slab s contents
-  emptied content gone = grind (arith, paired-same, set, false≢true, get_or-set_other, eqb_tells)
+  emptied-filled : (content : Content) → get s key ≡ None → filled_slab s (set contents key content) ≡ filled_slab s contents
+  emptied-filled content gone = grind (arith, paired-same, set, false≢true, get_or-set_other, eqb_tells)
 
--- what a list sees of both
-module _ {room : ℕ} (s : Slab Label) (contents : List Content) (colours : List Colour) (now : Slab Linked) (same : coloured_slab room (filled_slab s contents) colours ≡ now) (key : ℕ)
-    (t : Thread) where
+  pub emptied : (content : Content) → get s key ≡ None → bare_slab s (set contents key content) marks ≡ bare_slab s contents marks
+  emptied content gone = ap (λ (z : Slab Linked). marked_slab z marks) (emptied-filled content gone)
+
+-- room made alone, and what stands at each key is the same
+module _ (s mid : Slab Label) (contents more : List Content) (marks more_marks colours more_colours : List Colour) (slots : mid.slots ≡ s.slots)
+    (same : (k : ℕ) → get_or more k nothing ≡ get_or contents k nothing) (same_marks : (k : ℕ) → get_or more_marks k White ≡ get_or marks k White)
+    (same_colours : (k : ℕ) → get_or more_colours k White ≡ get_or colours k White) where
+  pub slots-reached : coloured (bare_slab mid more more_marks).slots more_colours ≡ coloured (bare_slab s contents marks).slots colours
+  slots-reached =
+      paired-same in_colour White (bare_slab mid more more_marks).slots colours more_colours (λ k held. same_colours k)
+      ∙ ap (λ xs. coloured xs colours)
+      (paired-same in_new_mark White (filled_slab mid more).slots marks more_marks (λ k held. same_marks k)
+      ∙ ap (λ xs. paired in_new_mark White xs marks)
+      (paired-same filled nothing mid.slots contents more (λ k held. same k) ∙ ap (λ ys. paired filled nothing ys contents) slots))
+
+  pub HaveAll-reached : {may_be_gray : Bool} → length contents ≤ length more → length marks ≤ length more_marks → length colours ≤ length more_colours →
+      HaveAll s contents marks colours may_be_gray → HaveAll mid more more_marks more_colours may_be_gray
+  HaveAll-reached longer longer_marks longer_colours all = record {
+    filled = λ key held. omega (arith, longer, all.filled key (stood key held));
+    marked = λ key held. omega (arith, longer_marks, all.marked key (stood key held));
+    coloured = λ key held. omega (arith, longer_colours, all.coloured key (stood key held));
+    emptied = λ key none. same key ∙ all.emptied key (ap (λ ys. get_or ys key None) (sym slots) ∙ none);
+    gray = λ none key gray. all.gray none key (sym (same_colours key) ∙ gray);
+  }
+    where
+      stood : (key : ℕ) → ContainsKey mid key → ContainsKey s key
+      stood key held = ap (λ ys. is_some (get_or ys key None)) (sym slots) ∙ held
+
+-- what a contract sees of all parts
+module _ {room : ℕ} (s : Slab Label) (contents : List Content) (marks colours : List Colour) (now : Slab Linked) (same : coloured_slab room (bare_slab s contents marks) colours ≡ now)
+    (key : ℕ) where
+  pub held-whole : ContainsKey now key → ContainsKey s key
+  held-whole h = held-label s contents marks key (held-bare (bare_slab s contents marks) colours now same key h)
+
+  pub read-whole : (label : Label) → get s key ≡ Some label →
+      get now key ≡ Some (in_colour (get_or colours key White) (in_new_mark (get_or marks key White) (filled (get_or contents key nothing) label)))
+  read-whole label at = read-coloured (bare_slab s contents marks) colours now same key (in_new_mark (get_or marks key White) (filled (get_or contents key nothing) label))
+      (read-bare s contents marks key label at)
+
+  -- the one at the key taken out, and what it held written over
+  pub removed-whole : {other : ℕ} (mid : Slab Label) (content : Content) → Updates s mid key None → Updates now (coloured_slab other (bare_slab mid (set contents key content) marks) colours) key None
+  removed-whole {other} mid content updates =
+      subst (λ (z : Slab Linked). Updates now (coloured_slab other z colours) key None) (sym (emptied mid contents marks key content updates.changed))
+      (removed (bare_slab s contents marks) colours now same key (bare_slab mid contents marks)
+      (updates-taken in_new_mark White (filled_slab s contents) marks key (filled_slab mid contents) (updates-taken filled nothing s contents key mid updates)))
+
+  pub slots-removed : (mid : Slab Label) (content : Content) → get mid key ≡ None → mid.slots ≡ set s.slots key None →
+      coloured (bare_slab mid (set contents key content) marks).slots colours ≡ set now.slots key None
+  slots-removed mid content gone slots =
+      ap (λ (z : Slab Linked). coloured z.slots colours) (emptied mid contents marks key content gone)
+      ∙ (ap (λ ys. coloured (paired in_new_mark White (paired filled nothing ys contents) marks) colours) slots
+      ∙ (ap (λ ys. coloured ys colours) (slots-out s contents marks key)
+      ∙ (paired-set in_colour White (bare_slab s contents marks).slots colours key None
+      ∙ ap (λ (z : Slab Linked). set z.slots key None) same)))
+
+-- what a list sees of them
+module _ {room : ℕ} (s : Slab Label) (contents : List Content) (marks colours : List Colour) (now : Slab Linked) (same : coloured_slab room (bare_slab s contents marks) colours ≡ now)
+    (key : ℕ) (t : Thread) where
   -- a live key is that of an object
   pub held-linked : IsTrue (is_live (links_in t now.slots) key) → ContainsKey s key
-  held-linked live = held-label s contents key (held-bare (filled_slab s contents) colours now same key (sym (is_some-map (link_of t) (get now key)) ∙ live))
+  held-linked live = held-whole s contents marks colours now same key (sym (is_some-map (link_of t) (get now key)) ∙ live)
 
   module _ (label : Label) (at : get s key ≡ Some label) where
     abbrev was : Linked
     was = filled (get_or contents key nothing) label
 
+    -- with its new mark
+    abbrev with_mark : Linked → Linked
+    with_mark z = in_new_mark (get_or marks key White) z
+
     -- its link is read,
     pub read-linked : links_in t now.slots key ≡ Some (link_of t was)
-    read-linked = ap (option_map (link_of t)) (read-coloured (filled_slab s contents) colours now same key was (read-filled s contents key label at))
+    read-linked = ap (option_map (link_of t)) (read-whole s contents marks colours now same key label at)
 
     -- and written: in a label,
     pub label-relinked : (link : Option Link) (new : Label) → (filled (get_or contents key nothing) new).placed ≡ was.placed → link_of t (filled (get_or contents key nothing) new) ≡ link →
         ((u : Thread) → same_thread t u ≡ false → link_of u (filled (get_or contents key nothing) new) ≡ link_of u was) →
-        Relinks t key link now (coloured_slab room (filled_slab (record s { slots = set s.slots key (Some new) }) contents) colours)
+        Relinks t key link now (coloured_slab room (bare_slab (record s { slots = set s.slots key (Some new) }) contents marks) colours)
     label-relinked link new placed here others =
-        subst (λ slots. Relinks t key link now (coloured_slab room (record (filled_slab s contents) { slots = slots }) colours)) (sym (paired-set filled nothing s.slots contents key (Some new)))
-        (relinked (filled_slab s contents) colours now same key t link was (filled (get_or contents key nothing) new) (read-filled s contents key label at)
-        (ap (painted (get_or colours key White)) placed) here others)
+        subst (λ z. Relinks t key link now (coloured_slab room z colours)) (sym (label-set s contents marks key new))
+        (relinked (bare_slab s contents marks) colours now same key t link (with_mark was) (with_mark (filled (get_or contents key nothing) new)) (read-bare s contents marks key label at)
+        (ap (λ (p : Placed). painted (get_or colours key White) (newly_marked (get_or marks key White) p)) placed) here others)
 
     -- or in a content
     pub content-relinked : (link : Option Link) (new : Content) → key < length contents → (filled new label).placed ≡ was.placed → link_of t (filled new label) ≡ link →
         ((u : Thread) → same_thread t u ≡ false → link_of u (filled new label) ≡ link_of u was) →
-        Relinks t key link now (coloured_slab room (filled_slab s (set contents key new)) colours)
+        Relinks t key link now (coloured_slab room (bare_slab s (set contents key new) marks) colours)
     content-relinked link new within placed here others =
-        subst (λ z. Relinks t key link now (coloured_slab room z colours)) (sym (content-set s contents key label new within at))
-        (relinked (filled_slab s contents) colours now same key t link was (filled new label) (read-filled s contents key label at)
-        (ap (painted (get_or colours key White)) placed) here others)
+        subst (λ z. Relinks t key link now (coloured_slab room z colours)) (sym (content-set s contents marks key label new within at))
+        (relinked (bare_slab s contents marks) colours now same key t link (with_mark was) (with_mark (filled new label)) (read-bare s contents marks key label at)
+        (ap (λ (p : Placed). painted (get_or colours key White) (newly_marked (get_or marks key White) p)) placed) here others)
 
--- each that has its content has its colour too
-pub reaches-filled : (s : Slab Label) (contents : List Content) (colours : List Colour) → Reaches s colours → Reaches (filled_slab s contents) colours
-reaches-filled s contents colours reaches key held = reaches key (held-label s contents key held)
+-- each that has its content and its new mark has its colour too
+pub reaches-bare : (s : Slab Label) (contents : List Content) (marks colours : List Colour) → Reaches s colours → Reaches (bare_slab s contents marks) colours
+reaches-bare s contents marks colours reaches key held = reaches key (held-label s contents marks key held)
+
+-- and each that has its content has its new mark
+pub reaches-filled : (s : Slab Label) (contents : List Content) (marks : List Colour) → Reaches s marks → Reaches (filled_slab s contents) marks
+reaches-filled s contents marks reaches key held = reaches key (held-in filled nothing s contents key held)
 
 -- no object is gray where none may be
 pub gray-nowhere : {room : ℕ} {may_be_gray : Bool} (s : Slab Linked) (colours : List Colour) (now : Slab Linked) (same : coloured_slab room s colours ≡ now) (colour : Colour) → colour ≡ Gray →
@@ -193,6 +283,14 @@ gray-nowhere s colours now same colour gray none noted key is =
     let read : Some colour ≡ Some (get_or colours key White) = sym is ∙ colour-coloured s colours now same key there.0 there.1 in
     let here : colour ≡ get_or colours key White = cc in
     noted none key (sym here ∙ gray)
+
+-- written at one key, in a list that was lengthened before
+pub written-here : {Y : Type 0} (none y : Y) (more : List Y) (free key : ℕ) → free ≡ key → free + 1 ≤ length more → get_or (set more free y) key none ≡ y
+written-here none y more free key is_key long = subst (λ k. get_or (set more free y) k none ≡ y) is_key (get_or-set_same more free y none (omega (arith, long)))
+
+pub written-others : {Y : Type 0} (none y : Y) (old more : List Y) (free key : ℕ) → free ≡ key → ((k : ℕ) → get_or more k none ≡ get_or old k none) →
+    (k : ℕ) → k ≢ key → get_or (set more free y) k none ≡ get_or old k none
+written-others none y old more free key is_key same k other = get_or-set_other more free k y none (λ e. other (e ∙ is_key)) ∙ same k
 
 -- more colours, which are white
 pub more-white : (old more : List Colour) → ((k : ℕ) → k < length old → get_or more k White ≡ get_or old k White) → ((k : ℕ) → length old ≤ k → k < length more → get_or more k White ≡ White) →
@@ -206,6 +304,6 @@ pub noted-written : {before after : Bool} (old colours : List Colour) (key : ℕ
 noted-written old colours key colour within kept tells noted none k gray = grind (arith, get_or-set_same, set, get_or-set_other, eqb_tells)
 
 -- a content written where an object stands
-pub HaveAll-written : (s : Slab Label) (contents : List Content) (colours : List Colour) (key : ℕ) (content : Content) {may_be_gray : Bool} → ContainsKey s key →
-    HaveAll s contents colours may_be_gray → HaveAll s (set contents key content) colours may_be_gray
-HaveAll-written s contents colours key content held all = grind (arith, length-set, emptied, false≢true, get_or-set_other, eqb_tells, all.filled, all.emptied)
+pub HaveAll-written : (s : Slab Label) (contents : List Content) (marks colours : List Colour) (key : ℕ) (content : Content) {may_be_gray : Bool} → ContainsKey s key →
+    HaveAll s contents marks colours may_be_gray → HaveAll s (set contents key content) marks colours may_be_gray
+HaveAll-written s contents marks colours key content held all = grind (arith, length-set, emptied, false≢true, get_or-set_other, eqb_tells, all.filled, all.emptied)

@@ -7,7 +7,7 @@ use Rattle.cc_lists.specs.Members.{Among}
 use Rattle.cc_lists.proofs.Members.{Among-map_cases}
 use Rattle.cc_lists.proofs.Searching.{find-map}
 use Rattle.cc_chain.proofs.Occupied.{few-differ, occupied-length}
-use Rattle.cc_script.specs.Objects.{Object, colour_at, delegate_at, object_at, is_there, slots_at, slots_or_none, walked_at}
+use Rattle.cc_script.specs.Objects.{Object, colour_at, delegate_at, new_mark_at, object_at, is_there, slots_at, slots_or_none, walked_at}
 use Rattle.cc_script.specs.Lists.{Placed, Lists, cell_at, placed_or_nothing, with_key, shown_at, objects_of, IsPlaced}
 use Rattle.cc_script.proofs.Keys.{find-key, find-no_key}
 
@@ -24,6 +24,9 @@ module _ (l : Lists) (p : IsPlaced l) where
 
   pub colour_at-cell : (key : ℕ) → colour_at (objects_of l) key ≡ option_map (λ (c : Placed). c.colour) (cell_at l.cells key)
   colour_at-cell key = grind (arith, object_at-cell)
+
+  pub new_mark_at-cell : (key : ℕ) → new_mark_at (objects_of l) key ≡ option_map (λ (c : Placed). c.new_mark) (cell_at l.cells key)
+  new_mark_at-cell key = grind (arith, object_at-cell)
 
   pub walked_at-cell : (key : ℕ) (c : Placed) → cell_at l.cells key ≡ Some c → walked_at (objects_of l) key ≡ Some (l.walks key)
   walked_at-cell key c e = ap (option_map (λ (o : Object). o.walked)) (object_at-placed key c e)

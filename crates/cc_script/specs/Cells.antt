@@ -1,4 +1,5 @@
--- AN OBJECT AT ITS KEY, with its neighbours in each list. What marking looks at, and the colour, stand apart, at the same key.
+-- AN OBJECT AT ITS KEY, with its neighbours in each list. What marking looks at, the colour and the new mark stand apart, at the
+-- same key.
 use Rattle.std.specs.Prelude.{◌≡◌, ◌≢◌, Bool, true, false, ℕ, List, [], get_or, map, Option, Some, None, option_map, slice_set}
 use Rattle.slab.specs.Slab.{Slab, get}
 use Rattle.cc_names.specs.declared.name.Name.{Name}
@@ -9,7 +10,7 @@ use Rattle.cc_names.specs.Places.{where_set}
 use Rattle.cc_chain.specs.declared.link.Link.{Link}
 use Rattle.cc_chain.specs.Links.{Links}
 use Rattle.cc_chain.specs.Stores.{slot_at}
-use Rattle.cc_script.specs.Lists.{Placed, cell_at, painted}
+use Rattle.cc_script.specs.Lists.{Placed, cell_at, newly_marked, painted}
 use Rattle.cc_script.specs.Paired.{Reaches, paired_slab}
 use Rattle.cc_script.specs.Threads.{Thread, same_thread, threaded}
 
@@ -40,7 +41,7 @@ pub record Content : Type 0 where
 abbrev pub nothing : Content
 nothing = record { slots = []; is_proxy = false; waiting = None }
 
--- both as one, without a colour yet. The delegate stands with the label, and counts where the content says so
+-- both as one, without a colour and a new mark yet. The delegate stands with the label, and counts where the content says so
 abbrev pub filled : Content → Label → Linked
 filled content label = record {
   placed = record {
@@ -50,6 +51,7 @@ filled content label = record {
     delegate = where_set content.is_proxy label.delegate;
     slots = content.slots;
     colour = White;
+    new_mark = White;
   };
   order = label.order;
   waiting = content.waiting;
@@ -59,11 +61,22 @@ filled content label = record {
 abbrev pub in_colour : Colour → Linked → Linked
 in_colour colour z = record z { placed = painted colour z.placed }
 
+abbrev pub in_new_mark : Colour → Linked → Linked
+in_new_mark mark z = record z { placed = newly_marked mark z.placed }
+
 -- the labels with their contents
 abbrev pub filled_slab : Slab Label → List Content → Slab Linked
 filled_slab s contents = paired_slab filled nothing s contents
 
--- and with their colours; `room` is what all three parts can hold together, without memory
+-- and with their new marks
+abbrev pub marked_slab : Slab Linked → List Colour → Slab Linked
+marked_slab s marks = paired_slab in_new_mark White s marks
+
+-- all of the objects but their colours
+abbrev pub bare_slab : Slab Label → List Content → List Colour → Slab Linked
+bare_slab s contents marks = marked_slab (filled_slab s contents) marks
+
+-- and with their colours; `room` is what all four parts can hold together, without memory
 abbrev pub coloured_slab : ℕ → Slab Linked → List Colour → Slab Linked
 coloured_slab room s colours = record (paired_slab in_colour White s colours) { capacity = room }
 
@@ -71,9 +84,10 @@ coloured_slab room s colours = record (paired_slab in_colour White s colours) { 
 abbrev pub AreGrayNoted : Bool → List Colour → Type 0
 AreGrayNoted may_be_gray colours = may_be_gray ≡ false → (key : ℕ) → get_or colours key White ≢ Gray
 
--- each object has both, where none stands no content is kept, and gray ones are noted
-pub record HaveAll (s : Slab Label) (contents : List Content) (colours : List Colour) (may_be_gray : Bool) : Type 0 where
+-- each object has all of these, where none stands no content is kept, and gray ones are noted
+pub record HaveAll (s : Slab Label) (contents : List Content) (marks colours : List Colour) (may_be_gray : Bool) : Type 0 where
   pub filled : Reaches s contents
+  pub marked : Reaches s marks
   pub coloured : Reaches s colours
   pub emptied : (key : ℕ) → get s key ≡ None → get_or contents key nothing ≡ nothing
   pub gray : AreGrayNoted may_be_gray colours

@@ -20,6 +20,7 @@ pub record Placed : Type 0 where
   pub delegate : Option ℕ
   pub slots : List (Option ℕ)
   pub colour : Colour
+  pub new_mark : Colour
 
 -- the objects by key, their keys in order of making, and how each key stands in a walk over both heaps
 pub record Lists : Type 0 where
@@ -35,13 +36,17 @@ cell_at cells key = slice_index_or cells key None
 abbrev pub painted : Colour → Placed → Placed
 painted colour c = record c { colour = colour }
 
+-- with another new mark
+abbrev pub newly_marked : Colour → Placed → Placed
+newly_marked mark c = record c { new_mark = mark }
+
 -- with slot i written
 abbrev pub written : ℕ → Option ℕ → Placed → Placed
 written i x c = record c { slots = slice_set c.slots i x }
 
 -- what is read where there is no object
 abbrev pub nothing_placed : Placed
-nothing_placed = record { name = object 0; kind = Plain; native = None; delegate = None; slots = []; colour = White }
+nothing_placed = record { name = object 0; kind = Plain; native = None; delegate = None; slots = []; colour = White; new_mark = White }
 
 abbrev pub placed_or_nothing : Option Placed → Placed
 placed_or_nothing None = nothing_placed
@@ -61,6 +66,7 @@ with_key key walked c = record {
   delegate = c.delegate;
   slots = c.slots;
   colour = c.colour;
+  new_mark = c.new_mark;
   walked = walked;
 }
 

@@ -23,6 +23,8 @@ pub record Object : Type 0 where
   pub delegate : Option ℕ
   pub slots : List (Option ℕ)
   pub colour : Colour
+  -- the new mark: what a marking that goes on in slices has found of it so far
+  pub new_mark : Colour
   pub walked : Walked
 
 -- EXACTLY A REFLECTOR has a native
@@ -33,9 +35,10 @@ FitsKind kind native = IsSome native ↔ (kind ≡ Reflector)
 abbrev pub FitsDelegate : Kind → Option ℕ → Type 0
 FitsDelegate kind delegate = IsSome delegate ↔ (kind ≡ Proxy)
 
--- an object as it is made: black, so many slots empty, and in no walk
+-- an object as it is made: black, and by the new mark too, so that a marking that is under way keeps it; so many slots empty, and
+-- in no walk
 abbrev pub new_object : ℕ → Name → Kind → Option ℕ → Option ℕ → ℕ → Object
-new_object key name kind native delegate slots = record { key = key; name = name; kind = kind; native = native; delegate = delegate; slots = replicate slots None; colour = Black; walked = Out }
+new_object key name kind native delegate slots = record { key = key; name = name; kind = kind; native = native; delegate = delegate; slots = replicate slots None; colour = Black; new_mark = Black; walked = Out }
 
 -- a plain object with its number
 abbrev pub plain_object : ℕ → ℕ → ℕ → Object
@@ -73,6 +76,9 @@ kind_at objects key = option_map (λ o. o.kind) (object_at objects key)
 
 abbrev pub colour_at : List Object → ℕ → Option Colour
 colour_at objects key = option_map (λ o. o.colour) (object_at objects key)
+
+abbrev pub new_mark_at : List Object → ℕ → Option Colour
+new_mark_at objects key = option_map (λ o. o.new_mark) (object_at objects key)
 
 -- how it stands in a walk over both heaps
 abbrev pub walked_at : List Object → ℕ → Option Walked
@@ -133,6 +139,9 @@ with_slot i x o = record o { slots = slice_set o.slots i x }
 
 abbrev pub with_colour : Colour → Object → Object
 with_colour colour o = record o { colour = colour }
+
+abbrev pub with_new_mark : Colour → Object → Object
+with_new_mark mark o = record o { new_mark = mark }
 
 -- it stands otherwise in a walk
 abbrev pub with_walked : Walked → Object → Object

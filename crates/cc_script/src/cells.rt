@@ -1,14 +1,16 @@
-//! The objects by key: what they are, and apart from that what marking looks at, and their colours.
+//! The objects by key: what they are, and apart from that what marking looks at, their colours, and their new marks.
 //!
-//! A marking reads and writes bodies and colours alone, at 41 bytes an object, and what else is known of it, at 44, stays
+//! A marking reads and writes bodies and colours alone, at 41 bytes an object, and what else is known of it, at 45, stays
 //! where it is. Making all white, and the look for objects of a colour, go over the colours alone, which stand
-//! together, a byte each: so a heap that lives is marked without going over its objects before and after.
+//! together, a byte each: so a heap that lives is marked without going over its objects before and after. The new marks stand
+//! together in the same way, a byte each, so that to make all white is one fill, and a marking that has ended can hand them
+//! over for the colours.
 ghost use Rattle.std.specs.Prelude.{◌≡◌, ◌≢◌, ◌↔◌, ◌<◌, ◌≤◌, ℕ, [], Some, get_or, is_some, length, option_map, slice_set, IfOk, IsSome, IsTrue, false, OnErr, OnOk};
 ghost use Rattle.slab.specs.Slab.{ContainsKey, Updates, get, slab_len};
 ghost use Rattle.cc_names.specs.declared.kind.Colour.{Colour};
-ghost use Rattle.cc_names.specs.declared.kind.Colour.TheVariants.{Gray};
-ghost use Rattle.cc_script.specs.Lists.{cell_at, painted, slots_placed, written};
-ghost use Rattle.cc_script.specs.Cells.{Changes, Content, HasColourAt, Label, Whitens, cells_of, filled, in_colour, nothing};
+ghost use Rattle.cc_names.specs.declared.kind.Colour.TheVariants.{White, Gray, Black};
+ghost use Rattle.cc_script.specs.Lists.{cell_at, newly_marked, painted, slots_placed, written};
+ghost use Rattle.cc_script.specs.Cells.{Changes, Content, HasColourAt, Label, Whitens, cells_of, filled, in_colour, in_new_mark, nothing};
 
 use crate::cell::{Body, Cell};
 use cc_names::{Colour, NoMemory, SKey, narrow_key};
@@ -16,13 +18,14 @@ use slab::Slab;
 use std::alloc::Global;
 use std::marker::Model;
 
-/// The objects as they stand at their keys, each with what it holds and its colour.
+/// The objects as they stand at their keys, each with what it holds, its colour and its new mark.
 #[derive(Drop)]
 pub(crate) struct Cells {
     pub(crate) slab: Slab<Cell>,
-    // both by key; where no object stands, what is left there says nothing, and holds no memory
+    // all three by key; where no object stands, what is left there says nothing, and holds no memory
     pub(crate) bodies: Vec<Body>,
     colours: Vec<Colour>,
+    new_marks: Vec<Colour>,
     // set where one is painted gray, and cleared where all are made white. Not set, none is gray; set, one may be, and all
     // those that were may be black by now
     may_be_gray: bool,
@@ -33,13 +36,13 @@ impl Model for Cells {
     ghost use Rattle.std.specs.Prelude.{◌+◌};
     ghost use Rattle.std.specs.Vec.{vec_capacity};
     ghost use Rattle.slab.specs.Slab.{Slab};
-    ghost use Rattle.cc_script.specs.Cells.{HaveAll, Linked, coloured_slab, filled_slab};
+    ghost use Rattle.cc_script.specs.Cells.{HaveAll, Linked, bare_slab, coloured_slab};
 
     ghost Value = { Slab Linked };
 
-    ghost view = { λ c. coloured_slab (c.slab.capacity + vec_capacity c.bodies + vec_capacity c.colours) (filled_slab c.slab c.bodies.items) c.colours.items };
+    ghost view = { λ c. coloured_slab (c.slab.capacity + vec_capacity c.bodies + vec_capacity c.new_marks + vec_capacity c.colours) (bare_slab c.slab c.bodies.items c.new_marks.items) c.colours.items };
 
-    ghost invariant = { λ c. HaveAll c.slab c.bodies.items c.colours.items c.may_be_gray };
+    ghost invariant = { λ c. HaveAll c.slab c.bodies.items c.new_marks.items c.colours.items c.may_be_gray };
 }
 
 /// Lengthens the bodies to so many at least, by those of no object. `NoMemory` leaves them at some length between.
@@ -52,6 +55,19 @@ fn reach(bodies: &mut Vec<Body>, count: usize, alloc: Global) -> Result<(), NoMe
         bodies.reserve(1)?;
         bodies.push_reserved(Body::nothing(alloc));
     }
+    Ok(())
+}
+
+/// Lengthens colours, or new marks, to so many at least, by white. `NoMemory` leaves them as they were.
+fn reach_white(colours: &mut Vec<Colour>, count: usize) -> Result<(), NoMemory>
+    ensures reaches { OnOk result (count ≤ length colours.new.items) }
+    ensures longer { length colours.old.items ≤ length colours.new.items }
+    ensures same { (key : ℕ) → get_or colours.new.items key White ≡ get_or colours.old.items key White }
+{
+    if count <= colours.len() {
+        return Ok(());
+    }
+    colours.resize(count, Colour::White)?;
     Ok(())
 }
 
@@ -75,16 +91,17 @@ impl Cells {
             slab: Slab::new(alloc),
             bodies: Vec::new(alloc),
             colours: Vec::new(alloc),
+            new_marks: Vec::new(alloc),
             may_be_gray: false,
             alloc,
         }
     }
 
-    /// Puts an object at a key that had none. `NoMemory` comes also where the key needs more than 32 bits, and changes
-    /// nothing of what stands there.
+    /// Puts an object at a key that had none, black by the new mark. `NoMemory` comes also where the key needs more than 32
+    /// bits, and changes nothing of what stands there.
     pub(crate) fn insert(&mut self, cell: Cell, body: Body, colour: Colour) -> Result<u32, NoMemory>
         ensures was_vacant { IfOk result (λ key. get self.old key ≡ None) }
-        ensures updates { IfOk result (λ key. Updates self.old self.new key (Some (in_colour colour (filled body cell)))) }
+        ensures updates { IfOk result (λ key. Updates self.old self.new key (Some (in_colour colour (in_new_mark Black (filled body cell))))) }
         ensures err { OnErr result (self.new.slots ≡ self.old.slots) }
     {
         self.slab.reserve(1)?;
@@ -92,11 +109,11 @@ impl Cells {
         let key = narrow_key(place)?;
         let count = place + 1;
         reach(&mut self.bodies, count, self.alloc)?;
-        if place >= self.colours.len() {
-            self.colours.resize(count, Colour::White)?;
-        }
+        reach_white(&mut self.colours, count)?;
+        reach_white(&mut self.new_marks, count)?;
         self.bodies[place] = body;
         self.colours[place] = colour;
+        self.new_marks[place] = Colour::Black;
         self.may_be_gray = may_be_gray_with(self.may_be_gray, colour);
         self.slab.insert_reserved(cell);
         Ok(key)
@@ -119,7 +136,7 @@ impl Cells {
     /// What the object at a key is.
     pub(crate) fn cell(&self, key: u32) -> &Cell
         requires { ContainsKey self.now key }
-        ensures { (colour : Colour) × ((content : Content) × (get self.now key ≡ Some (in_colour colour (filled content result.now)))) }
+        ensures { (colour : Colour) × ((mark : Colour) × ((content : Content) × (get self.now key ≡ Some (in_colour colour (in_new_mark mark (filled content result.now)))))) }
     {
         &self.slab[key as usize]
     }
@@ -127,7 +144,7 @@ impl Cells {
     /// What marking looks at of the object at a key.
     pub(crate) fn body(&self, key: u32) -> &Body
         requires { ContainsKey self.now key }
-        ensures { (colour : Colour) × ((label : Label) × (get self.now key ≡ Some (in_colour colour (filled result.now label)))) }
+        ensures { (colour : Colour) × ((mark : Colour) × ((label : Label) × (get self.now key ≡ Some (in_colour colour (in_new_mark mark (filled result.now label)))))) }
     {
         &self.bodies[key as usize]
     }
@@ -138,6 +155,14 @@ impl Cells {
         ensures { option_map (λ c. c.placed.colour) (get self.now key) ≡ Some result }
     {
         self.colours[key as usize]
+    }
+
+    /// The new mark of the object at a key.
+    pub(crate) fn new_mark(&self, key: u32) -> Colour
+        requires { ContainsKey self.now key }
+        ensures { option_map (λ c. c.placed.new_mark) (get self.now key) ≡ Some result }
+    {
+        self.new_marks[key as usize]
     }
 
     /// The delegate of the object at a key, where it is a proxy.
@@ -160,6 +185,14 @@ impl Cells {
     {
         self.colours[key.0 as usize] = colour;
         self.may_be_gray = may_be_gray_with(self.may_be_gray, colour);
+    }
+
+    /// Gives the object at a key a new mark.
+    pub(crate) fn set_new_mark(&mut self, key: SKey, mark: Colour)
+        requires live { IsSome (cell_at (cells_of self.old.slots) key.0) }
+        ensures changes { Changes self.old self.new key.0 (newly_marked mark) }
+    {
+        self.new_marks[key.0 as usize] = mark;
     }
 
     /// Makes all objects white.

@@ -6,11 +6,11 @@ ghost use Rattle.cc_names.specs.declared.kind.Colour.TheVariants.{White, Black};
 ghost use Rattle.cc_names.specs.Sizes.{most_slots};
 ghost use Rattle.cc_walk.specs.Walks.{is_walked};
 ghost use Rattle.cc_script.specs.Beings.{delegate_key_of, kind_of, name_of, native_key_of};
-ghost use Rattle.cc_script.specs.Objects.{Object, AreWhole, IsGiven, IsNotBelow, NoObjectWaits, change_object, colour_at, entering, first_key, is_there, key_after, new_object, places_at, raised_among, slots_at, unwalked, walked_at, whitened, with_slot, without_object};
+ghost use Rattle.cc_script.specs.Objects.{Object, AreWhole, IsGiven, IsNotBelow, NoObjectWaits, change_object, colour_at, entering, first_key, is_there, key_after, new_object, places_at, raised_among, slots_at, unwalked, walked_at, whitened, with_new_mark, with_slot, without_object};
 ghost use Rattle.cc_lists.specs.Walks.{first_of};
 ghost use Rattle.cc_script.specs.Underway.{with_first_looked_into};
 ghost use Rattle.cc_script.specs.Walking.{keys_reached};
-ghost use Rattle.cc_script.specs.Cells.{Content, Label, filled, in_colour};
+ghost use Rattle.cc_script.specs.Cells.{Content, Label, filled, in_colour, in_new_mark};
 ghost use Rattle.cc_script.specs.Lists.{IsPlaced, cell_at};
 ghost use Rattle.cc_script.specs.Marking.{raise_each, raise_key, raise_slot};
 
@@ -51,7 +51,8 @@ impl ScriptParts {
         }
     }
 
-    /// Makes a black object with so many empty slots, which goes last. The delegate of a proxy is black.
+    /// Makes an object with so many empty slots, black, and by the new mark too, which goes last. The delegate of a proxy is
+    /// black.
     pub(crate) fn create(
         &mut self,
         alloc: Global,
@@ -103,7 +104,7 @@ impl ScriptParts {
     pub(crate) fn cell(&self, key: SKey) -> &Cell
         requires placed { IsPlaced (lists_of self.now) }
         requires live { IsTrue (is_there (shows self.now) key.0) }
-        ensures { (colour : Colour) × ((content : Content) × (cell_at (lists_of self.now).cells key.0 ≡ Some (in_colour colour (filled content result.now)).placed)) }
+        ensures { (colour : Colour) × ((mark : Colour) × ((content : Content) × (cell_at (lists_of self.now).cells key.0 ≡ Some (in_colour colour (in_new_mark mark (filled content result.now))).placed))) }
     {
         self.cells.cell(key.0)
     }
@@ -112,7 +113,7 @@ impl ScriptParts {
     pub(crate) fn body(&self, key: SKey) -> &Body
         requires placed { IsPlaced (lists_of self.now) }
         requires live { IsTrue (is_there (shows self.now) key.0) }
-        ensures { (colour : Colour) × ((label : Label) × (cell_at (lists_of self.now).cells key.0 ≡ Some (in_colour colour (filled result.now label)).placed)) }
+        ensures { (colour : Colour) × ((mark : Colour) × ((label : Label) × (cell_at (lists_of self.now).cells key.0 ≡ Some (in_colour colour (in_new_mark mark (filled result.now label))).placed))) }
     {
         self.cells.body(key.0)
     }
@@ -124,6 +125,15 @@ impl ScriptParts {
         ensures { option_map (λ c. c.colour) (cell_at (lists_of self.now).cells key.0) ≡ Some result }
     {
         self.cells.colour(key.0)
+    }
+
+    /// Its new mark.
+    pub(crate) fn new_mark(&self, key: SKey) -> Colour
+        requires placed { IsPlaced (lists_of self.now) }
+        requires live { IsTrue (is_there (shows self.now) key.0) }
+        ensures { option_map (λ c. c.new_mark) (cell_at (lists_of self.now).cells key.0) ≡ Some result }
+    {
+        self.cells.new_mark(key.0)
     }
 
     /// Its delegate, where it is a proxy.
@@ -175,6 +185,16 @@ impl ScriptParts {
         ensures at_rest { IsAtRest self.new }
     {
         self.cells.write(key, i as usize, item);
+    }
+
+    /// Gives the object at a key a new mark.
+    pub(crate) fn set_new_mark(&mut self, key: SKey, mark: Colour)
+        requires at_rest { IsAtRest self.old }
+        requires live { IsTrue (is_there (shows self.old) key.0) }
+        ensures shows { shows self.new ≡ change_object (shows self.old) key.0 (with_new_mark mark) }
+        ensures at_rest { IsAtRest self.new }
+    {
+        self.cells.set_new_mark(key, mark);
     }
 
     /// Makes all objects white.

@@ -5,7 +5,7 @@ ghost use Rattle.cc_names.specs.declared.kind.Colour.TheVariants.{White, Black};
 ghost use Rattle.cc_names.specs.declared.kind.Kind.TheVariants.{Proxy, Reflector};
 ghost use Rattle.cc_names.specs.Sizes.{most_slots};
 ghost use Rattle.cc_walk.specs.Walks.{is_walked};
-ghost use Rattle.cc_script.specs.Objects.{Object, AreWhole, HaveOwnKeys, IsGiven, NoObjectWaits, change_object, colour_at, delegate_at, entering, first_key, is_there, key_after, kind_at, map_object, name_at, native_at, plain_object, proxy_object, reflector_object, raised_among, slots_at, unwalked, walked_at, whitened, with_slot, without_object, IsNotBelow};
+ghost use Rattle.cc_script.specs.Objects.{Object, AreWhole, HaveOwnKeys, IsGiven, NoObjectWaits, change_object, colour_at, delegate_at, entering, first_key, is_there, key_after, kind_at, map_object, name_at, native_at, new_mark_at, plain_object, proxy_object, reflector_object, raised_among, slots_at, unwalked, walked_at, whitened, with_new_mark, with_slot, without_object, IsNotBelow};
 ghost use Rattle.cc_script.specs.Walking.{keys_reached};
 
 use crate::being::Being;
@@ -150,6 +150,24 @@ impl Scripts {
         ensures { colour_at self.now key.0 ≡ Some result }
     {
         self.parts.colour(key)
+    }
+
+    /// The new mark of an object: what a marking that goes on in slices has found of it so far. An object is made black by it.
+    ///
+    /// Marking by colours neither reads nor writes it.
+    pub fn new_mark(&self, key: SKey) -> Colour
+        requires live { IsTrue (is_there self.now key.0) }
+        ensures { new_mark_at self.now key.0 ≡ Some result }
+    {
+        self.parts.new_mark(key)
+    }
+
+    /// Gives an object a new mark. It takes no memory, and the object's colour stays.
+    pub fn set_new_mark(&mut self, key: SKey, mark: Colour)
+        requires live { IsTrue (is_there self.old key.0) }
+        ensures { self.new ≡ change_object self.old key.0 (with_new_mark mark) }
+    {
+        self.parts.set_new_mark(key, mark);
     }
 
     /// Whether there is an object of this colour.

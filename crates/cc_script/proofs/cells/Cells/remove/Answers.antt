@@ -1,20 +1,19 @@
 use Rattle.std.proofs.Common.{arith}
-use Rattle.cc_script.specs.Cells.{filled_slab}
-use Rattle.cc_script.proofs.Paired.{paired-set, updates-taken}
-use Rattle.cc_script.proofs.Coloured.{emptied, held-bare, held-label, removed}
+use Rattle.cc_script.proofs.Coloured.{held-whole, removed-whole, slots-removed}
 use Rattle.cc_script.proofs.cells.Cells.remove.Goals as goal
 
 pub remove-cell-requires : goal.remove-cell-requires
-remove-cell-requires c =
-    let s = c.self.inside.slab in
-    let contents = c.self.inside.bodies.items in
-    held-label s contents c.args.key (held-bare (filled_slab s contents) c.self.inside.colours.items c.args.self.now c.self.view_is c.args.key c.requires)
+remove-cell-requires c = held-whole c.self.inside.slab c.self.inside.bodies.items c.self.inside.new_marks.items c.self.inside.colours.items c.args.self.now c.self.view_is c.args.key c.requires
 
 pub index_mut-requires : goal.index_mut-requires
-index_mut-requires c = grind (arith, held-label, held-bare, c.self.invariant.filled)
+index_mut-requires c = grind (arith, held-whole, c.self.invariant.filled)
 
 pub returns-clause-slots : goal.returns-clause-slots
-returns-clause-slots c = grind (arith, emptied, paired-set)
+returns-clause-slots c =
+    slots-removed c.self.inside.slab c.self.inside.bodies.items c.self.inside.new_marks.items c.self.inside.colours.items c.args.self.now c.self.view_is c.args.key c.remove-cell.new.self _
+    c.remove-cell.ensures.updates.changed c.remove-cell.ensures.slots
 
 pub returns-clause-updates : goal.returns-clause-updates
-returns-clause-updates c = search (emptied, removed, updates-taken)
+returns-clause-updates c =
+    removed-whole c.self.inside.slab c.self.inside.bodies.items c.self.inside.new_marks.items c.self.inside.colours.items c.args.self.now c.self.view_is c.args.key c.remove-cell.new.self _
+    c.remove-cell.ensures.updates

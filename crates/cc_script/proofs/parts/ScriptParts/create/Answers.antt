@@ -56,7 +56,7 @@ is-black objects q black = go (object_at objects q) refl black
 
 -- the object as it stands there
 abbrev new_placed : Name → Kind → Option ℕ → Option ℕ → List (Option ℕ) → Placed
-new_placed name kind native delegate slots = record { name = name; kind = kind; native = native; delegate = delegate; slots = slots; colour = Black }
+new_placed name kind native delegate slots = record { name = name; kind = kind; native = native; delegate = delegate; slots = slots; colour = Black; new_mark = Black }
 
 pub push_back-requires-clause-chain : goal.push_back-requires-clause-chain
 push_back-requires-clause-chain c =

@@ -1,7 +1,7 @@
 use Rattle.std.proofs.Common.{◌≡◌, ◌+◌, ◌<◌, ◌≤◌, length, get_or, drop, None, ap, sym, ◌∙◌, arith}
 use Rattle.std.proofs.lemmas.List.{length-map, drop_all}
 use Rattle.cc_script.specs.Objects.{is_there, slots_at}
-use Rattle.cc_script.specs.Cells.{Content, filled, in_colour}
+use Rattle.cc_script.specs.Cells.{Content, filled, in_colour, in_new_mark}
 use Rattle.cc_script.specs.Marking.{Marking, raise_slot, raise_each}
 use Rattle.cc_script.specs.Parts.{lists_of, shows, marking_of}
 use Rattle.cc_script.proofs.Places.{slots_at-placed}
@@ -11,7 +11,7 @@ use Rattle.cc_script.proofs.parts.ScriptParts.raise_each.Goals as goal
 
 pub raise_slot-requires-clause-within : goal.raise_slot-requires-clause-within
 raise_slot-requires-clause-within c =
-    let slots = slots_at-placed (lists_of c.args.self.now) c.requires.under_way.placed c.args.key.0 (in_colour c.body.ensures.0 (filled c.body.result.now c.body.ensures.1.0)).placed c.body.ensures.1.1 in
+    let slots = slots_at-placed (lists_of c.args.self.now) c.requires.under_way.placed c.args.key.0 (in_colour c.body.ensures.0 (in_new_mark c.body.ensures.1.0 (filled c.body.result.now c.body.ensures.1.1.0))).placed c.body.ensures.1.1.1 in
     omega (
       arith,
       ap length c.loop-i.invariant.same_slots,
@@ -28,7 +28,7 @@ loop-i-preserved c =
     let within : c.loop-i.i < length slots =
     omega (
       arith,
-      ap length (slots_at-placed (lists_of c.args.self.now) c.requires.under_way.placed c.args.key.0 (in_colour c.body.ensures.0 (filled c.body.result.now c.body.ensures.1.0)).placed c.body.ensures.1.1),
+      ap length (slots_at-placed (lists_of c.args.self.now) c.requires.under_way.placed c.args.key.0 (in_colour c.body.ensures.0 (in_new_mark c.body.ensures.1.0 (filled c.body.result.now c.body.ensures.1.1.0))).placed c.body.ensures.1.1.1),
       ap (λ (z : Content). length z.slots) c.behind-self.view_is,
       length-map c.behind-self.inside.slots.items held_key,
       c.behind-self.inside.slots.ok.0,
@@ -47,7 +47,7 @@ loop-i-preserved c =
 
 pub returns-clause-raises : goal.returns-clause-raises
 returns-clause-raises c =
-    let slots = slots_at-placed (lists_of c.args.self.now) c.requires.under_way.placed c.args.key.0 (in_colour c.body.ensures.0 (filled c.body.result.now c.body.ensures.1.0)).placed c.body.ensures.1.1 in
+    let slots = slots_at-placed (lists_of c.args.self.now) c.requires.under_way.placed c.args.key.0 (in_colour c.body.ensures.0 (in_new_mark c.body.ensures.1.0 (filled c.body.result.now c.body.ensures.1.1.0))).placed c.body.ensures.1.1.1 in
     let past : length (slots_at (shows c.args.self.now) c.args.key.0) ≤ c.loop-i.i =
     omega (
       arith,
