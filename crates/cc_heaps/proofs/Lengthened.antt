@@ -12,7 +12,7 @@ use Rattle.cc_names.specs.declared.number.NKey.{NKey}
 use Rattle.cc_names.specs.declared.number.SKey.{SKey}
 use Rattle.cc_names.specs.Names.{native}
 use Rattle.cc_names.specs.Sizes.{most_roots}
-use Rattle.cc_model.specs.Banks.{Bank, of_natives, of_scripts, IsBankLength}
+use Rattle.cc_model.specs.Banks.{Bank, of_natives, of_scripts, of_weak, IsBankLength}
 use Rattle.cc_model.specs.Slots.{Slots, lengthened}
 use Rattle.cc_model.specs.Graph as graph
 use Rattle.cc_model.specs.Graph.{Graph}
@@ -68,11 +68,13 @@ IsInOrder-lengthen owned v of_natives n few o = IsInOrder-changed owned owned v 
     (lengthen-sound owned v.heap of_natives n few o.sound) refl
 IsInOrder-lengthen owned v of_scripts n few o = IsInOrder-changed owned owned v o (lengthen v.heap of_scripts n) (record { limits = refl; scripts = refl; entries = refl })
     (lengthen-sound owned v.heap of_scripts n few o.sound) refl
+IsInOrder-lengthen owned v of_weak n few o = o
 
 -- the same objects are there
 names-lengthen : (h : Heap) (b : Bank) (n : ℕ) → names_there (lengthen h b n) ≡ names_there h
 names-lengthen h of_natives n = refl
 names-lengthen h of_scripts n = refl
+names-lengthen h of_weak n = refl
 
 -- A CHANGE AFTER A BANK WAS LENGTHENED
 module _ (v mid w : Keyed) (b : Bank) (n : ℕ) (few : n ≤ most_roots) (is : mid ≡ changed_to v (lengthen v.heap b n)) where

@@ -1,6 +1,6 @@
 -- A MARKING IN SLICES LEFT AS IT IS: where the script objects stay, where each is changed and keeps its key and its new mark,
 -- where one more is made, and by one change after another.
-use Rattle.std.proofs.Common.{arith, ◌≡◌, ℕ, Bool, true, false, List, [], ◌∷◌, ◌++◌, map, Option, Some, None, option_map, refl, sym, ◌∙◌, ap, subst, ◌==◌, if◌then◌else◌}
+use Rattle.std.proofs.Common.{◌≡◌, ℕ, Bool, true, false, List, [], ◌∷◌, ◌++◌, map, Option, Some, None, option_map, refl, sym, ◌∙◌, ap, subst, ◌==◌, if◌then◌else◌}
 use Rattle.std.specs.Option.{is_some, option_or}
 use Rattle.std.proofs.lemmas.List.Folds.{find-append}
 use Rattle.cc_lists.proofs.Held.{find-renamed}
@@ -60,7 +60,7 @@ marks-made v w new lists scripts black = record {
     first (Some x) p mark e = e
 
     second : (o : Option Object) (b : Bool) (mark : Colour) → is_some o ≡ false → mark_of (option_or o (if b then Some new else None)) ≡ Some mark → mark ≡ Black
-    second None true mark absent e = grind (arith, black)
+    second None true mark absent e = let same : new.new_mark ≡ mark = cc in sym same ∙ black
     second None false mark absent e = absurd (cc)
     second (Some x) b mark absent e = absurd (cc)
 
@@ -78,7 +78,8 @@ marks-then {u} {v} {w} first second = record {
         let was : new_mark_at v.scripts key ≡ Some o.new_mark = ap (option_map (λ (x : Object). x.new_mark)) e in
         let black : o.new_mark ≡ Black = first.made key o.new_mark absent was in
         let both : Some mark ≡ Some o.new_mark = sym at ∙ second.there key o.new_mark was in
-        grind (arith, black, both)
+        let same : mark ≡ o.new_mark = cc in
+        same ∙ black
 
 -- As calls say what they come to
 
