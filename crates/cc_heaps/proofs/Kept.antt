@@ -14,6 +14,7 @@ use Rattle.cc_heaps.specs.Standing.{KeepsColours}
 use Rattle.cc_heaps.specs.Keeping.{KeepsAll, KeepsHeaps, KeepsAllIf, KeepsAllIfBlack, KeepsAllIfReached}
 use Rattle.cc_heaps.proofs.FewCounts.{few-owned}
 use Rattle.cc_heaps.proofs.KeysKept.{KeepsKeys-same}
+use Rattle.cc_heaps.proofs.MarksKept.{marks-same}
 
 -- Where nothing is owned, nothing else is.
 pub nothing-owned : (owned : List ℕ) (h : Heap) → IsSound [] h → IsSound owned h → owned ≡ []
@@ -39,6 +40,7 @@ kept-alone v w before after keys colours = record {
   colours = colours;
   fresh = tt;
   suspected = tt;
+  marks = tt;
 }
 
 -- Nothing changed.
@@ -50,6 +52,7 @@ KeepsAll-same v w same = subst (KeepsAll v) (sym same) (record {
   colours = λ k. k;
   fresh = λ s k. k;
   suspected = λ candidates k. k;
+  marks = marks-same v v refl refl;
 })
 
 -- What is kept in any case is kept where something holds.
@@ -61,6 +64,7 @@ KeepsAll-if_black black v w k = record {
   colours = k.colours;
   fresh = λ b. k.fresh;
   suspected = k.suspected;
+  marks = k.marks;
 }
 
 pub KeepsAll-if_reached : (reached : Type 0) (v w : Keyed) → KeepsAll v w → KeepsAllIfReached reached v w
@@ -71,6 +75,7 @@ KeepsAll-if_reached reached v w k = record {
   colours = k.colours;
   fresh = k.fresh;
   suspected = λ r. k.suspected;
+  marks = k.marks;
 }
 
 -- The same natives and the same script objects stand at the keys.
@@ -97,6 +102,7 @@ KeepsAll-black k b = record {
   colours = k.colours;
   fresh = k.fresh b;
   suspected = k.suspected;
+  marks = k.marks;
 }
 
 pub KeepsAll-reached : {reached : Type 0} {v w : Keyed} → KeepsAllIfReached reached v w → reached → KeepsAll v w
@@ -107,6 +113,7 @@ KeepsAll-reached k r = record {
   colours = k.colours;
   fresh = k.fresh;
   suspected = k.suspected r;
+  marks = k.marks;
 }
 
 pub KeepsAll-both : {black reached : Type 0} {v w : Keyed} → KeepsAllIf black reached v w → black → reached → KeepsAll v w
@@ -117,4 +124,5 @@ KeepsAll-both k b r = record {
   colours = k.colours;
   fresh = k.fresh b;
   suspected = k.suspected r;
+  marks = k.marks;
 }

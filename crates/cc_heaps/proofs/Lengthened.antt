@@ -12,7 +12,7 @@ use Rattle.cc_names.specs.declared.number.NKey.{NKey}
 use Rattle.cc_names.specs.declared.number.SKey.{SKey}
 use Rattle.cc_names.specs.Names.{native}
 use Rattle.cc_names.specs.Sizes.{most_roots}
-use Rattle.cc_model.specs.Banks.{Bank, of_natives, of_scripts, IsBankLength}
+use Rattle.cc_model.specs.Banks.{Bank, of_natives, of_scripts, of_weak, IsBankLength}
 use Rattle.cc_model.specs.Slots.{Slots, lengthened}
 use Rattle.cc_model.specs.Graph as graph
 use Rattle.cc_model.specs.Graph.{Graph}
@@ -38,6 +38,7 @@ use Rattle.cc_heaps.specs.Leaving.{NothingLeft, TellsWhatIsFreed}
 use Rattle.cc_heaps.specs.Standing.{IsReached, IsReachedOrReflects, StandsAfter}
 use Rattle.cc_heaps.specs.Keeping.{KeepsAll}
 use Rattle.cc_heaps.proofs.FewCounts.{few-owned}
+use Rattle.cc_heaps.proofs.MarksKept.{marks-changed, marks-then}
 use Rattle.cc_heaps.proofs.Ordered.{IsInOrder-changed}
 use Rattle.cc_heaps.proofs.Registers.{AreLive, none-each}
 
@@ -67,11 +68,13 @@ IsInOrder-lengthen owned v of_natives n few o = IsInOrder-changed owned owned v 
     (lengthen-sound owned v.heap of_natives n few o.sound) refl
 IsInOrder-lengthen owned v of_scripts n few o = IsInOrder-changed owned owned v o (lengthen v.heap of_scripts n) (record { limits = refl; scripts = refl; entries = refl })
     (lengthen-sound owned v.heap of_scripts n few o.sound) refl
+IsInOrder-lengthen owned v of_weak n few o = o
 
 -- the same objects are there
 names-lengthen : (h : Heap) (b : Bank) (n : ℕ) → names_there (lengthen h b n) ≡ names_there h
 names-lengthen h of_natives n = refl
 names-lengthen h of_scripts n = refl
+names-lengthen h of_weak n = refl
 
 -- A CHANGE AFTER A BANK WAS LENGTHENED
 module _ (v mid w : Keyed) (b : Bank) (n : ℕ) (few : n ≤ most_roots) (is : mid ≡ changed_to v (lengthen v.heap b n)) where
@@ -107,6 +110,7 @@ module _ (v mid w : Keyed) (b : Bank) (n : ℕ) (few : n ≤ most_roots) (is : m
     colours = λ c. k.colours (subst (λ (u : Keyed). HasColourInvariant (view u.heap)) (sym is) (subst HasColourInvariant (sym (view-lengthen v.heap b n)) c));
     fresh = λ s f. k.fresh s (subst (λ (u : Keyed). IsFresh u.heap.natives_made (view u.heap) s) (sym is) (lengthen-fresh v.heap s b n f));
     suspected = λ candidates s. k.suspected candidates (subst (λ (u : Keyed). IsSuspected (view u.heap) candidates) (sym is) (lengthen-suspected v.heap candidates b n s));
+    marks = marks-then (marks-changed v mid (lengthen v.heap b n) is) k.marks;
   }
 
   -- what it frees was there
@@ -182,6 +186,7 @@ module _ (p : Inside) (n : ℕ) (few : n ≤ most_roots) (l : IsLinked p) where
     one_name = l.one_name;
     reflectors = l.reflectors;
     script_names = l.script_names;
+    room = l.room;
   }
     where
       live : {T E : Type 0} (r : Result T E) →
@@ -205,6 +210,7 @@ module _ (p : Inside) (n : ℕ) (few : n ≤ most_roots) (l : IsLinked p) where
     one_name = l.one_name;
     reflectors = l.reflectors;
     script_names = l.script_names;
+    room = l.room;
   }
     where
       live : {T E : Type 0} (r : Result T E) →

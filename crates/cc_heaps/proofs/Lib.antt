@@ -16,6 +16,7 @@ pub mod ContentNames
 pub mod SlotsHeld
 pub mod PlacesRead
 pub mod Made
+pub mod Reserved
 pub mod Reaching
 pub mod ScriptsChanged
 pub mod EntryNames
@@ -48,6 +49,7 @@ pub mod StandingStill
 pub mod StandingAfter
 pub mod EntriesFollow
 pub mod KeysKept
+pub mod MarksKept
 pub mod Kept
 pub mod Reflecting
 pub mod ReflectingMade

@@ -69,6 +69,7 @@ module _ {owned : List ℕ} (p : Inside) (f : IsFit owned p) (next : Counts) (sl
     scripts = p.scripts;
     entries = p.weak;
     walks = next.walks;
+    marking = p.to_scan.marking;
   }
 
   -- each native stays at its key
@@ -112,6 +113,7 @@ module _ {owned : List ℕ} (p : Inside) (f : IsFit owned p) (next : Counts) (sl
       one_name = f.linked.one_name;
       reflectors = made-reflectors;
       script_names = f.linked.script_names;
+      room = f.linked.room;
     }
 
     -- keys are those of what is there and of the new native

@@ -1,15 +1,17 @@
 -- A MARKING BY KEYS is the marking of the definitions: it gives each object the same colour, and changes nothing else.
-use Rattle.std.proofs.Common.{arith, ◌≡◌, ℕ, List}
+use Rattle.std.proofs.Common.{arith, ◌≡◌, ℕ, List, refl}
 use Rattle.cc_lists.specs.Members.{Among}
 use Rattle.cc_model.specs.Colours as names
 use Rattle.cc_model.specs.Colours.{black_names, marked_names, marked}
 use Rattle.cc_laws_heap.proofs.Face.{IsSound-marked, colour_of}
-use Rattle.cc_script.specs.Objects.{Object, colour_by}
+use Rattle.cc_script.specs.Objects.{Object, colour_by, with_colour}
 use Rattle.cc_marking.specs.Marking.{black_keys, marked_keys, marked_from}
 use Rattle.cc_heaps.specs.Keyed.{IsInOrder}
 use Rattle.cc_heaps.specs.Changes.{KeepsKeys}
 use Rattle.cc_heaps.specs.Fields.{heap_of, keyed_of, IsLinked}
+use Rattle.cc_heaps.specs.Marks.{KeepsMarks}
 use Rattle.cc_heaps.specs.declared.heaps.Heaps.TheInside.{Inside}
+use Rattle.cc_heaps.proofs.MarksKept.{marks-mapped}
 use Rattle.cc_heaps.proofs.RootNames.{black_roots, gray_roots, black-alike, marked-alike}
 use Rattle.cc_heaps.proofs.ScriptWrites.{named-written, whole-written}
 use Rattle.cc_heaps.proofs.ScriptsChanged.{with_objects, with_named}
@@ -44,6 +46,11 @@ module _ {owned : List ℕ} (p : Inside) (l : IsLinked p) (o : IsInOrder owned (
 
   pub keys-marked : KeepsKeys (keyed_of p) (keyed_of (record p { scripts = marked_objects p }))
   keys-marked = becomes-marked.keys
+
+  -- new marks stay
+  pub marks-marked : KeepsMarks (keyed_of p) (keyed_of (record p { scripts = marked_objects p }))
+  marks-marked = marks-mapped (keyed_of p) (keyed_of (record p { scripts = marked_objects p })) (λ q. with_colour (colour_by (blacks p) (marks p) q.key) q) refl refl
+      (λ q. refl) (λ q. refl)
 
   pub linked-marked : IsLinked (record p { scripts = marked_objects p })
   linked-marked = becomes-marked.linked

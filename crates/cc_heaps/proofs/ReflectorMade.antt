@@ -1,10 +1,11 @@
 -- A REFLECTOR MADE: the script heap has one object more, the native has its key, and one reference more. The parts fit
 -- together once all three are done.
 use Rattle.cc_heaps.proofs.ReflectorLists.{reflectors-set, within-read}
-use Rattle.std.proofs.Common.{arith, IsTrue, ◌≡◌, ◌≢◌, ℕ, ◌+◌, true, false, List, [], ◌∷◌, ◌++◌, set, Option, Some, None, is_some, option_map, refl, sym, ◌∙◌, ap, subst}
+use Rattle.std.proofs.Common.{arith, IsTrue, ◌≡◌, ◌≢◌, ℕ, ◌+◌, true, false, List, [], ◌∷◌, ◌++◌, length, set, Option, Some, None, is_some, option_map, refl, sym, ◌∙◌, ap, subst}
 use Rattle.std.specs.Option.{option_or}
 use Rattle.std.specs.List.{find}
 use Rattle.std.proofs.lemmas.Bool.{eq-eqb, ne_eqb}
+use Rattle.std.proofs.lemmas.List.{length-append}
 use Rattle.std.proofs.lemmas.List.Folds.{find-append}
 use Rattle.cc_lists.specs.Members.{Among}
 use Rattle.cc_lists.proofs.ListWrites.{each-push}
@@ -22,6 +23,8 @@ use Rattle.cc_counted.specs.Counts.{Counts, number_or_none, with_heap}
 use Rattle.cc_counted.specs.Counts as counts
 use Rattle.cc_script.specs.Objects.{Object, is_there, name_at, reflector_object}
 use Rattle.cc_heaps.specs.declared.heaps.Heaps.TheInside.{Inside}
+use Rattle.cc_heaps.specs.ToScan.{HasRoom}
+use Rattle.cc_heaps.specs.Marks.{KeepsMarks}
 use Rattle.cc_heaps.specs.Keyed.{Keyed, IsInOrder, Reflects, key_of, named_objects, number_at, reflectors_by, the_number}
 use Rattle.cc_heaps.specs.Changes.{KeepsKeys}
 use Rattle.cc_heaps.specs.Fields.{heap_of, keyed_of, IsLinked}
@@ -29,11 +32,12 @@ use Rattle.cc_heaps.proofs.Calls.{Changes, changed-keyed, changed-linked, number
 use Rattle.cc_heaps.proofs.Content.{number-some}
 use Rattle.cc_heaps.proofs.Keys.{HasKeys-keyed, HasKeys-names, HasKeys-numbers, Reflects-kept, counts_in, find-unnamed, numbers-changed}
 use Rattle.cc_heaps.proofs.Linked.{with_counted}
+use Rattle.cc_heaps.proofs.MarksKept.{marks-made}
 use Rattle.cc_heaps.proofs.ScriptCalls.{KeepsNames-made, key_of-made, name_at-made, named-made, one_key-made, whole-made}
 use Rattle.cc_heaps.proofs.ScriptsChanged.{KeepsNames, named_entries-kept, entries_there-kept, heap-objects, linked-reflected, with_objects}
 
 module _ {owned : List ℕ} (p : Inside) (l : IsLinked p) (o : IsInOrder owned (keyed_of p)) (key : NKey) (live : is_some (number_at (keyed_of p) key.0) ≡ true)
-    (lacks : has_reflector (heap_of p) (the_number (keyed_of p) key.0) ≡ false) (at : ℕ) (vacant : is_there p.scripts at ≡ false) where
+    (lacks : has_reflector (heap_of p) (the_number (keyed_of p) key.0) ≡ false) (places : HasRoom p.to_scan (length p.scripts + 1)) (at : ℕ) (vacant : is_there p.scripts at ≡ false) where
   abbrev v : Keyed
   v = keyed_of p
 
@@ -104,7 +108,8 @@ module _ {owned : List ℕ} (p : Inside) (l : IsLinked p) (o : IsInOrder owned (
 
   linked : IsLinked reflected
   linked = linked-reflected p objects p.scripts_made kept l made (sym named) sound.well_formed
-      (one_key-made p.scripts l.one_key o.whole new reflector_slots refl none vacant) with_own with_own-is
+      (one_key-made p.scripts l.one_key o.whole new reflector_slots refl none vacant)
+      (subst (HasRoom p.to_scan) (sym (length-append p.scripts (new ∷ []))) places) with_own with_own-is
 
   module _ (next : Counts) (is : next ≡ with_heap reflected.counted (add_ref (counts.heap_of reflected.counted) k)) where
     -- and after
@@ -129,6 +134,10 @@ module _ {owned : List ℕ} (p : Inside) (l : IsLinked p) (o : IsInOrder owned (
     pub reflector-keys : KeepsKeys v (keyed_of whole)
     reflector-keys = subst (KeepsKeys v) (sym reflector-keyed) (record { natives = λ q j e m. e; scripts = λ q x e m. kept q x e })
 
+    -- a marking in slices is left as it is,
+    pub reflector-marks : KeepsMarks v (keyed_of whole)
+    reflector-marks = marks-made v (keyed_of whole) new refl refl refl
+
     -- and they stay in order.
     pub reflector-order : IsInOrder owned (keyed_of whole)
     reflector-order = subst (IsInOrder owned) (sym reflector-keyed) (record {
@@ -152,12 +161,13 @@ pub record IsReflectorMade (owned : List ℕ) (p q : Inside) (k at : ℕ) : Type
   pub natives : (keyed_of q).keys ≡ p.counted.keys
   pub name : name_at q.scripts at ≡ Some (reflector k)
   pub keys : KeepsKeys (keyed_of p) (keyed_of q)
+  pub marks : KeepsMarks (keyed_of p) (keyed_of q)
   pub order : IsInOrder owned (keyed_of q)
   pub linked : IsLinked q
 
 -- A REFLECTOR MADE: what the three calls come to
 module _ {owned : List ℕ} (p : Inside) (l : IsLinked p) (o : IsInOrder owned (keyed_of p)) (key : NKey) (live : is_some (number_at (keyed_of p) key.0) ≡ true)
-    (lacks : has_reflector (heap_of p) (the_number (keyed_of p) key.0) ≡ false) (at : ℕ) (vacant : is_there p.scripts at ≡ false) where
+    (lacks : has_reflector (heap_of p) (the_number (keyed_of p) key.0) ≡ false) (places : HasRoom p.to_scan (length p.scripts + 1)) (at : ℕ) (vacant : is_there p.scripts at ≡ false) where
   pub reflector-made : (number : ℕ) → Some number ≡ number_at (keyed_of p) key.0 →
       (os : List Object) → os ≡ p.scripts ++ reflector_object at key.0 number ∷ [] →
       (d : Counts) → d ≡ counts.with_reflector p.counted key.0 (Some at) →
@@ -166,12 +176,13 @@ module _ {owned : List ℕ} (p : Inside) (l : IsLinked p) (o : IsInOrder owned (
   reflector-made number e os f d told next is =
       subst (λ objects. IsReflectorMade owned p (record p { counted = next; scripts = objects }) (the_number (keyed_of p) key.0) at)
       (sym (f ∙ ap (λ n. p.scripts ++ reflector_object at key.0 n ∷ []) (ap number_or_none e))) (record {
-        heap = ap (λ (w : Keyed). w.heap) (reflector-keyed p l o key live lacks at vacant next same);
-        natives = ap (λ (w : Keyed). w.keys) (reflector-keyed p l o key live lacks at vacant next same);
-        name = name_at-reflector p l o key live lacks at vacant;
-        keys = reflector-keys p l o key live lacks at vacant next same;
-        order = reflector-order p l o key live lacks at vacant next same;
-        linked = reflector-linked p l o key live lacks at vacant next same;
+        heap = ap (λ (w : Keyed). w.heap) (reflector-keyed p l o key live lacks places at vacant next same);
+        natives = ap (λ (w : Keyed). w.keys) (reflector-keyed p l o key live lacks places at vacant next same);
+        name = name_at-reflector p l o key live lacks places at vacant;
+        keys = reflector-keys p l o key live lacks places at vacant next same;
+        marks = reflector-marks p l o key live lacks places at vacant next same;
+        order = reflector-order p l o key live lacks places at vacant next same;
+        linked = reflector-linked p l o key live lacks places at vacant next same;
       })
     where
       same : next ≡ with_heap (counts.with_reflector p.counted key.0 (Some at)) (add_ref (counts.heap_of p.counted) (the_number (keyed_of p) key.0))

@@ -3,13 +3,13 @@ use Rattle.cc_heaps.proofs.ObjectsKept.{there-named}
 use Rattle.cc_script.proofs.InOrder.{object_at-left}
 use Rattle.cc_laws_heap.proofs.Face.{IsDelegate, IsNewScript-object, exposed-sound, no_delegate, option_map-found, script_register-sound, script_slot-sound, with_script-sound}
 use Rattle.cc_lists.proofs.Held.{is_some-none, once-push, map-replicate, map-held}
-use Rattle.std.proofs.Common.{arith, ◌≡◌, ℕ, ◌+◌, ◌<◌, ◌≤◌, false, List, [], ◌∷◌, ◌++◌, map, replicate, Option, Some, None, option_map, refl, sym, ◌∙◌, ap, subst, ⊎_elim, ◌==◌}
+use Rattle.std.proofs.Common.{arith, ◌≡◌, ℕ, ◌+◌, ◌<◌, ◌≤◌, false, List, [], ◌∷◌, ◌++◌, length, map, replicate, Option, Some, None, option_map, refl, sym, ◌∙◌, ap, subst, ⊎_elim, ◌==◌}
 use Rattle.std.specs.Prelude.{IsTrue, slice_set}
 use Rattle.std.specs.Option.{is_some, option_and_then, option_or}
 use Rattle.std.specs.Vec.{with_item}
 use Rattle.std.proofs.Math.Path.{fun_ext}
 use Rattle.std.proofs.lemmas.Bool.{eqb-true, eq-eqb}
-use Rattle.std.proofs.lemmas.List.{length-replicate, length-set, map-set, map_push}
+use Rattle.std.proofs.lemmas.List.{length-append, length-map, length-replicate, length-set, map-set, map_push}
 use Rattle.std.proofs.lemmas.List.Folds.{find-append}
 use Rattle.cc_lists.specs.Members.{Among}
 use Rattle.cc_lists.proofs.ListWrites.{each-push, Among-set_cases, map-agree}
@@ -30,6 +30,7 @@ use Rattle.cc_laws_heap.specs.Sound.{IsSound}
 use Rattle.cc_script.specs.Objects.{Object, AreWhole, change_object, colour_at, is_there, name_at, object_at, raised_among, with_slot}
 use Rattle.cc_script.proofs.Wholeness as scripts
 use Rattle.cc_script.specs.Walking.{keys_reached}
+use Rattle.cc_heaps.specs.ToScan.{HasRoom}
 use Rattle.cc_heaps.specs.Keyed.{Keyed, IsInOrder, Reflects, key_of, name_held, named_object, named_objects, reflectors_by}
 use Rattle.cc_heaps.specs.Making.{IsDelegateThere, MayBeMade, delegate_name, delegate_to_make, kind_to_make, object_to_make, slots_to_make}
 use Rattle.cc_heaps.specs.declared.heaps.to_make.ToMake.{ToMake}
@@ -66,22 +67,23 @@ nothing-exposed v x none = grind arith
 module _ {owned : List ℕ} (p : Inside) (l : IsLinked p) (o : IsInOrder owned (keyed_of p)) where
   -- other script objects, as the definitions change them
   becomes : (objects : List Object) (made : ℕ) (h : Heap) → KeepsNames p.scripts objects → with_named (heap_of p) objects made ≡ h → IsSound owned h →
-      HasOneKey objects → AreWhole objects →
+      HasRoom p.to_scan (length objects) → HasOneKey objects → AreWhole objects →
       reflectors_by objects p.counted.keys ≡ reflectors_by p.scripts p.counted.keys → ((q : Object) → Among q objects → Reflects (keyed_of p) q.name q.native) →
       Becomes owned p (with_objects p objects made) h
-  becomes objects made h kept e s one whole reflectors reflecting =
+  becomes objects made h kept e s room one whole reflectors reflecting =
       let sound : IsSound owned (with_named (heap_of p) objects made) = subst (IsSound owned) (sym e) s in record {
         heap = heap-objects p objects made kept l o.entries_there ∙ e;
         names = kept;
         keys = keys-objects p objects made kept l;
         order = order-objects p objects made kept l owned sound one reflectors whole reflecting o;
-        linked = linked-objects p objects made kept l owned sound one reflectors;
+        linked = linked-objects p objects made kept l owned sound one reflectors room;
       }
 
   -- each object written
   pub becomes-written : (f : Object → Object) → KeepsObjects f → (h : Heap) → with_named (heap_of p) (map f p.scripts) p.scripts_made ≡ h → IsSound owned h →
       AreWhole (map f p.scripts) → Becomes owned p (with_objects p (map f p.scripts) p.scripts_made) h
   becomes-written f keeps h e s whole = becomes (map f p.scripts) p.scripts_made h (KeepsNames-written f keeps p.scripts) e s
+      (subst (HasRoom p.to_scan) (sym (length-map p.scripts f)) l.room)
       (one_key-written f keeps p.scripts l.one_key) whole
       (reflectors-written f keeps p.scripts p.counted.keys) (reflecting-written f keeps p.scripts (keyed_of p) o.reflecting)
 
@@ -164,6 +166,7 @@ module _ {owned : List ℕ} (p : Inside) (l : IsLinked p) (o : IsInOrder owned (
       one_name = l.one_name;
       reflectors = l.reflectors;
       script_names = l.script_names;
+      room = l.room;
     };
   }
     where
@@ -308,14 +311,15 @@ module _ {owned : List ℕ} (p : Inside) (l : IsLinked p) (o : IsInOrder owned (
         there = name-in (heap_of p) p.scripts refl d.0;
       }
 
-  pub becomes-made : p.scripts_made < p.limits.scripts → (os : List Object) → os ≡ objects →
+  pub becomes-made : p.scripts_made < p.limits.scripts → HasRoom p.to_scan (length p.scripts + 1) → (os : List Object) → os ≡ objects →
       Becomes owned p (with_objects p os (p.scripts_made + 1)) (with_object (heap_of p) kind n its)
-  becomes-made room os e =
+  becomes-made room places os e =
       subst (λ os. Becomes owned p (with_objects p os (p.scripts_made + 1)) (with_object (heap_of p) kind n its)) (sym e)
       (becomes p l o objects (p.scripts_made + 1) (with_object (heap_of p) kind n its) kept
       (ap (λ scripts. record (heap_of p) { scripts = scripts; scripts_made = p.scripts_made + 1 }) named)
       (with_script-sound owned (heap_of p) (new_script (object (p.scripts_made + 1)) kind n its) (p.scripts_made + 1)
       (IsNewScript-object (heap_of p) kind n its o.sound.well_formed (made-fits p.scripts (p.scripts_made + 1) what may) is_delegate room) o.sound)
+      (subst (HasRoom p.to_scan) (sym (length-append p.scripts (new ∷ []))) places)
       (one_key-made p.scripts l.one_key o.whole new n refl held vacant)
       (whole-made p.scripts l.one_key o.whole new n refl held vacant)
       reflectors

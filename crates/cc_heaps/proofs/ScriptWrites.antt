@@ -1,4 +1,4 @@
--- SCRIPT OBJECTS WRITTEN: each keeps its key, its name, its kind, its native and its delegate. An exposure and a slot written, by names.
+-- SCRIPT OBJECTS WRITTEN: each keeps its key, its name, its kind, its native, its delegate and its new mark. An exposure and a slot written, by names.
 use Rattle.cc_lists.proofs.Held.{find-renamed}
 use Rattle.std.proofs.Common.{arith, ◌≡◌, ℕ, ◌≤◌, Bool, true, false, List, [], ◌∷◌, map, Option, Some, refl, sym, ◌∙◌, ap, subst, ⊎_elim, ◌==◌, if◌then◌else◌}
 use Rattle.std.specs.Prelude.{IsTrue}
@@ -18,7 +18,9 @@ use Rattle.cc_model.specs.Exposure.{as_black, exposed, exposed_names}
 use Rattle.cc_script.specs.Objects.{Object, AreWhole, change_object, is_there, name_at, places_of, raised, raised_among, with_colour, with_slot}
 use Rattle.cc_script.proofs.PlacesOf.{slot-place, delegate-place, place-cases}
 use Rattle.cc_script.specs.Walking.{keys_reached}
+use Rattle.cc_heaps.specs.Marks.{KeepsMarks}
 use Rattle.cc_heaps.specs.Keyed.{Keyed, Reflects, key_of, name_held, named_object, named_objects, reflectors_by, named_with}
+use Rattle.cc_heaps.proofs.MarksKept.{marks-mapped}
 use Rattle.cc_heaps.proofs.Reaching.{AreNamesOf, HasOneKey, HasOneName, key-named, name_at-own, reached-alike_from, same-tests}
 use Rattle.cc_heaps.proofs.ScriptsChanged.{KeepsNames, KeepsNames-there}
 
@@ -29,6 +31,11 @@ pub record KeepsObjects (f : Object → Object) : Type 0 where
   pub kind : (o : Object) → (f o).kind ≡ o.kind
   pub native : (o : Object) → (f o).native ≡ o.native
   pub delegate : (o : Object) → (f o).delegate ≡ o.delegate
+  pub new_mark : (o : Object) → (f o).new_mark ≡ o.new_mark
+
+-- a marking in slices is left as it is
+pub marks-written : (v w : Keyed) (f : Object → Object) → KeepsObjects f → w.marking ≡ v.marking → w.scripts ≡ map f v.scripts → KeepsMarks v w
+marks-written v w f keeps lists scripts = marks-mapped v w f lists scripts keeps.key keeps.new_mark
 
 module _ (f : Object → Object) (keeps : KeepsObjects f) (objects : List Object) where
   -- keys have the names that they had
@@ -136,7 +143,7 @@ write-either : (P : Object → Type 0) (key i : ℕ) (item : Option ℕ) (o : Ob
 write-either P key i item o written same = changed_where-either P (λ p. p.key == key) (with_slot i item) o (λ e. written) same
 
 pub KeepsObjects-slot : (key i : ℕ) (item : Option ℕ) → KeepsObjects (write_slot key i item)
-KeepsObjects-slot key i item = KeepsObjects-where (λ o. o.key == key) (with_slot i item) (record { key = λ o. refl; name = λ o. refl; kind = λ o. refl; native = λ o. refl; delegate = λ o. refl })
+KeepsObjects-slot key i item = KeepsObjects-where (λ o. o.key == key) (with_slot i item) (record { key = λ o. refl; name = λ o. refl; kind = λ o. refl; native = λ o. refl; delegate = λ o. refl; new_mark = λ o. refl })
 
 -- what comes into a slot is there
 pub whole-slot : (objects : List Object) (key i : ℕ) (item : Option ℕ) → AreWhole objects → ((q : ℕ) → item ≡ Some q → IsTrue (is_there objects q)) →

@@ -1,7 +1,7 @@
 -- THE SCRIPT OBJECTS ARE CHANGED, or more are made: keys that have names keep them. Then registers and natives hold, and
 -- entries name, what they did.
 use Rattle.cc_laws_heap.proofs.Face.{native-no_script, scripts-once}
-use Rattle.std.proofs.Common.{arith, ◌≡◌, ℕ, ◌≤◌, false, List, map, Option, Some, None, refl, sym, ◌∙◌, ap, subst, ⊎_elim, count_by}
+use Rattle.std.proofs.Common.{arith, ◌≡◌, ℕ, ◌≤◌, false, List, map, length, Option, Some, None, refl, sym, ◌∙◌, ap, subst, ⊎_elim, count_by}
 use Rattle.std.specs.Prelude.{IsTrue}
 use Rattle.std.specs.Option.{option_and_then}
 use Rattle.cc_lists.specs.Members.{Among}
@@ -18,6 +18,7 @@ use Rattle.cc_script.specs.Objects.{Object, AreWhole, is_there, name_at}
 use Rattle.cc_script.proofs.Reaching.{among-held}
 use Rattle.cc_weakmaps.specs.Entries.{KeyedEntry}
 use Rattle.cc_marking.specs.Marking.{AreEntriesThere, IsEntryThere}
+use Rattle.cc_heaps.specs.ToScan.{HasRoom}
 use Rattle.cc_heaps.specs.Keyed.{IsInOrder, Reflects, counts_of, keyed_native, named_entry, named_entries, named_object, named_objects, reflectors_by}
 use Rattle.cc_heaps.specs.Changes.{KeepsKeys}
 use Rattle.cc_heaps.specs.Named.{own_name, named_native, script_named, IsScriptLive}
@@ -120,11 +121,11 @@ module _ (p : Inside) (objects : List Object) (made : ℕ) (kept : KeepsNames p.
   pub keys-objects : KeepsKeys (keyed_of p) (keyed_of (with_objects p objects made))
   keys-objects = record { natives = λ key k e m. e; scripts = λ key x e m. kept key x e }
 
-  -- THE PARTS FIT TOGETHER, where natives have the keys of these reflectors
+  -- THE PARTS FIT TOGETHER, where natives have the keys of these reflectors, and a marking has room for the objects
   module _ (g : Heap) (same : g.scripts ≡ named_objects objects) (w : IsWellFormed g) (one : HasOneKey objects) where
-    pub linked-reflected : (reflectors : List (Option ℕ)) → reflectors ≡ reflectors_by objects p.counted.keys →
+    pub linked-reflected : HasRoom p.to_scan (length objects) → (reflectors : List (Option ℕ)) → reflectors ≡ reflectors_by objects p.counted.keys →
         IsLinked (record (with_objects p objects made) { counted = record p.counted { reflectors = reflectors } })
-    linked-reflected reflectors its = record {
+    linked-reflected room reflectors its = record {
       native_registers = l.native_registers;
       script_registers = registers-held p objects l.held holds-same l.script_registers;
       registers = l.registers;
@@ -133,6 +134,7 @@ module _ (p : Inside) (objects : List Object) (made : ℕ) (kept : KeepsNames p.
       one_name = HasOneName-named g objects same w;
       reflectors = its;
       script_names = λ o m. no_native o.name (object-name g objects same o m);
+      room = room;
     }
       where
         no_native : (x : Name) → Among x (script_names g) → is_native x ≡ false
@@ -143,8 +145,8 @@ module _ (p : Inside) (objects : List Object) (made : ℕ) (kept : KeepsNames p.
   module _ (owned : List ℕ) (s : IsSound owned (with_named (heap_of p) objects made)) (one : HasOneKey objects)
       (reflectors : reflectors_by objects p.counted.keys ≡ reflectors_by p.scripts p.counted.keys) where
     -- as where each has the reflector that it had
-    pub linked-objects : IsLinked (with_objects p objects made)
-    linked-objects = linked-reflected (with_named (heap_of p) objects made) refl s.well_formed one p.counted.reflectors (l.reflectors ∙ sym reflectors)
+    pub linked-objects : HasRoom p.to_scan (length objects) → IsLinked (with_objects p objects made)
+    linked-objects room = linked-reflected (with_named (heap_of p) objects made) refl s.well_formed one room p.counted.reflectors (l.reflectors ∙ sym reflectors)
 
     -- AND THEY STAY IN ORDER, where their slots hold what is there, and reflectors have their natives.
     pub order-objects : AreWhole objects →

@@ -1,10 +1,11 @@
 -- A SWEEP BY KEYS is the sweep of the definitions, where the marks are closed: what is left keeps its names.
 use Rattle.cc_lists.proofs.Held.{of-one}
-use Rattle.std.proofs.Common.{◌≡◌, ℕ, ◌+◌, Bool, true, false, not, List, [], ◌∷◌, ◌++◌, map, Option, Some, None, refl, sym, ◌∙◌, ap, subst, arith, inl, inr}
+use Rattle.std.proofs.Common.{◌≡◌, ℕ, ◌+◌, ◌≤◌, Bool, true, false, not, List, [], ◌∷◌, ◌++◌, length, map, Option, Some, None, refl, sym, ◌∙◌, ap, subst, arith, inl, inr}
 use Rattle.std.specs.List.{flat_map}
 use Rattle.std.specs.Option.{option_to_list}
 use Rattle.std.proofs.Math.ListN.{get_or-map}
 use Rattle.std.proofs.lemmas.List.{map-append}
+use Rattle.std.proofs.lemmas.List.Sums.{count_by-le-length, length-filter}
 use Rattle.cc_heaps.proofs.ScriptsChanged.{HoldsSame, heap-held, registers-held, natives-held}
 use Rattle.cc_lists.specs.Members.{Among, has}
 use Rattle.cc_lists.proofs.Members.{Among-map, Among-map_cases, Among-filtered, Among-flat_map_cases}
@@ -202,7 +203,7 @@ module _ {owned : List ℕ} (p : Inside) (l : IsLinked p) (o : IsInOrder owned (
 
   -- the natives that are left of heaps with the script objects that are left
   abbrev before : Keyed
-  before = record { heap = heap_of p; keys = p.counted.keys; scripts = left_objects p; entries = left_entries p; walks = p.counted.walks }
+  before = record { heap = heap_of p; keys = p.counted.keys; scripts = left_objects p; entries = left_entries p; walks = p.counted.walks; marking = p.to_scan.marking }
 
   keys-later : final.counts.keys ≡ map (key_left h) p.counted.keys
   keys-later = final-keys.keys ∙ map-agree (key_left g) (key_left h) p.counted.keys (λ k m. key_left-shown p.scripts (heap_of p) g k)
@@ -211,7 +212,7 @@ module _ {owned : List ℕ} (p : Inside) (l : IsLinked p) (o : IsInOrder owned (
   walks-later = final-keys.walks ∙ walks_left-agree g h (state_left-shown p.scripts (heap_of p) g) p.counted.keys p.counted.walks
 
   keyed-later : keyed_of later ≡ left_with before h
-  keyed-later = λ i. record { heap = heap-later i; keys = keys-later i; scripts = left_objects p; entries = left_entries p; walks = walks-later i }
+  keyed-later = λ i. record { heap = heap-later i; keys = keys-later i; scripts = left_objects p; entries = left_entries p; walks = walks-later i; marking = p.to_scan.marking }
 
   -- THE PARTS STAY LINKED,
   pub linked-swept : IsLinked later
@@ -226,7 +227,12 @@ module _ {owned : List ℕ} (p : Inside) (l : IsLinked p) (o : IsInOrder owned (
     one_name = (objects-left p l o c).one_name;
     reflectors = final-keys.reflectors;
     script_names = (objects-left p l o c).script_names;
+    room = (omega (arith, l.room.0, few-left), omega (arith, l.room.1, few-left));
   }
+    where
+      -- those that are left are no more
+      few-left : length (left_objects p) ≤ length p.scripts
+      few-left = omega (arith, length-filter stays p.scripts, count_by-le-length stays p.scripts)
 
   -- natives that are left were there
   natives-before : (k : ℕ) → Among (native k) (native_names h) → Among (native k) (native_names (heap_of p))

@@ -2,7 +2,7 @@
 use Rattle.std.proofs.Common.{◌≡◌, ℕ, Bool, true, false, ◌≤◌, List, map, Option, Some, None, option_map, refl, sym, ◌∙◌, ap, subst, if◌then◌else◌, ◌==◌}
 use Rattle.std.specs.Prelude.{IfNone, IfSome, IsSome, IsTrue, MatchOption}
 use Rattle.std.specs.Option.{is_some}
-use Rattle.std.proofs.lemmas.List.{map-id}
+use Rattle.std.proofs.lemmas.List.{length-map, map-id}
 use Rattle.cc_lists.specs.Members.{Among}
 use Rattle.cc_lists.proofs.ListWrites.{count_by-kept_map, each-map, map-agree}
 use Rattle.cc_names.specs.declared.kind.Walked.{Walked}
@@ -19,6 +19,8 @@ use Rattle.cc_counted.specs.Counts.{Counts, NoneWaits, none_walked, number_at, s
 use Rattle.cc_counted.specs.Counts.{unwalked as unwalked_counts}
 use Rattle.cc_script.specs.Objects.{Object, NoObjectWaits, change_object, is_there, object_at, walked_at, with_walked}
 use Rattle.cc_script.specs.Objects as objects
+use Rattle.cc_heaps.specs.ToScan.{HasRoom}
+use Rattle.cc_heaps.specs.Marks.{KeepsMarks}
 use Rattle.cc_heaps.specs.Keyed.{Keyed, IsInOrder, named_entries, named_entry, named_objects}
 use Rattle.cc_heaps.specs.Changes.{IsThere, KeepsKeys}
 use Rattle.cc_heaps.specs.Standing.{KeepsColours, KeepsFresh, KeepsSuspected}
@@ -29,20 +31,22 @@ use Rattle.cc_heaps.specs.declared.heaps.Heaps.TheInside.{Inside}
 use Rattle.cc_heaps.proofs.FewCounts.{few-owned}
 use Rattle.cc_heaps.proofs.Kept.{KeepsAll-same}
 use Rattle.cc_heaps.proofs.Linked.{with_counted}
+use Rattle.cc_heaps.proofs.MarksKept.{marks-same, marks-then}
 use Rattle.cc_heaps.proofs.ObjectsKept.{entry-same}
 use Rattle.cc_heaps.proofs.ScriptCalls.{becomes-written}
 use Rattle.cc_heaps.proofs.ScriptsChanged.{HoldsSame, heap-held, registers-held, natives-held, with_objects}
-use Rattle.cc_heaps.proofs.ScriptWrites.{KeepsObjects, KeepsNames-written, name_at-written, named-written, one_key-written, reflectors-written, whole-written}
+use Rattle.cc_heaps.proofs.ScriptWrites.{KeepsObjects, KeepsNames-written, marks-written, name_at-written, named-written, one_key-written, reflectors-written, whole-written}
 
--- heaps of which nothing is said to change, and in which what is there keeps its key, keep all
-pub KeepsAll-alike : (v w : Keyed) → w.heap ≡ v.heap → KeepsKeys v w → ((owned : List ℕ) → IsInOrder owned v → IsInOrder owned w) → KeepsAll v w
-KeepsAll-alike v w e keys order = record {
+-- heaps of which nothing is said to change, and in which what is there keeps its key and its new mark, keep all
+pub KeepsAll-alike : (v w : Keyed) → w.heap ≡ v.heap → KeepsKeys v w → ((owned : List ℕ) → IsInOrder owned v → IsInOrder owned w) → KeepsMarks v w → KeepsAll v w
+KeepsAll-alike v w e keys order marks = record {
   keys = keys;
   order = order;
   counts = few-owned w;
   colours = subst (KeepsColours v.heap) (sym e) (λ k. k);
   fresh = subst (KeepsFresh v.heap) (sym e) (λ s k. k);
   suspected = subst (KeepsSuspected v.heap) (sym e) (λ candidates k. k);
+  marks = marks;
 }
 
 -- Natives
@@ -63,7 +67,8 @@ order-walks owned v walks o = record {
 
 pub kept-walks : (v w : Keyed) (walks : List Walked) → w ≡ record v { walks = walks } → KeepsAll v w
 kept-walks v w walks e = subst (KeepsAll v) (sym e)
-    (KeepsAll-alike v (record v { walks = walks }) refl (record { natives = λ key k at there. at; scripts = λ key x at there. at }) (λ owned. order-walks owned v walks))
+    (KeepsAll-alike v (record v { walks = walks }) refl (record { natives = λ key k at there. at; scripts = λ key x at there. at }) (λ owned. order-walks owned v walks)
+    (marks-same v (record v { walks = walks }) refl refl))
 
 pub linked-walks : (p : Inside) (walks : List Walked) → IsLinked p → IsLinked (with_counted p (record p.counted { walks = walks }))
 linked-walks p walks l = record {
@@ -75,6 +80,7 @@ linked-walks p walks l = record {
   one_name = l.one_name;
   reflectors = l.reflectors;
   script_names = l.script_names;
+  room = l.room;
 }
 
 -- Script objects
@@ -84,7 +90,7 @@ abbrev pub stated : (Object → Walked) → Object → Object
 stated states o = with_walked (states o) o
 
 KeepsObjects-stated : (states : Object → Walked) → KeepsObjects (stated states)
-KeepsObjects-stated states = record { key = λ o. refl; name = λ o. refl; kind = λ o. refl; native = λ o. refl; delegate = λ o. refl }
+KeepsObjects-stated states = record { key = λ o. refl; name = λ o. refl; kind = λ o. refl; native = λ o. refl; delegate = λ o. refl; new_mark = λ o. refl }
 
 -- one that stands otherwise
 abbrev pub at_key : ℕ → (Walked → Walked) → Object → Walked
@@ -134,6 +140,7 @@ module _ (p : Inside) (l : IsLinked p) (states : Object → Walked) where
     one_name = λ x. subst (λ n. n ≤ 1) (sym (count_by-kept_map (λ (o : Object). same_name o.name x) (stated states) p.scripts (λ o. refl))) (l.one_name x);
     reflectors = l.reflectors ∙ sym (reflectors-written (stated states) keeps p.scripts p.counted.keys);
     script_names = each-map (λ (o : Object). is_native o.name ≡ false) (stated states) p.scripts l.script_names;
+    room = subst (HasRoom p.to_scan) (sym (length-map p.scripts (stated states))) l.room;
   }
 
   pub order-stated : (owned : List ℕ) → IsInOrder owned (keyed_of p) → IsInOrder owned (keyed_of restated_parts)
@@ -145,6 +152,7 @@ module _ (p : Inside) (l : IsLinked p) (states : Object → Walked) where
 
   pub kept-stated : KeepsAll (keyed_of p) (keyed_of restated_parts)
   kept-stated = KeepsAll-alike (keyed_of p) (keyed_of restated_parts) heap-stated keys-stated order-stated
+      (marks-written (keyed_of p) (keyed_of restated_parts) (stated states) keeps refl refl)
 
 -- WHAT A CALL COMES TO
 
@@ -186,7 +194,8 @@ walked-then p q r v w a b = record {
         natives = λ key k at there. b.kept.keys.natives key k (a.kept.keys.natives key k at (subst (λ h. Among (native k) (native_names h)) b.heap there)) there;
         scripts = λ key x at there. b.kept.keys.scripts key x (a.kept.keys.scripts key x at (subst (λ h. Among x (script_names h)) b.heap there)) there;
       })
-      (λ owned o. b.kept.order owned (a.kept.order owned o));
+      (λ owned o. b.kept.order owned (a.kept.order owned o))
+      (marks-then a.kept.marks b.kept.marks);
   linked = b.linked;
 }
 

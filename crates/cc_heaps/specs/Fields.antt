@@ -9,6 +9,7 @@ use Rattle.cc_model.specs.Banks.{IsBankLength}
 use Rattle.cc_model.specs.Slots.{contents}
 use Rattle.cc_model.specs.Heap.{Heap, HeapNative}
 use Rattle.cc_script.specs.Objects.{Object}
+use Rattle.cc_heaps.specs.ToScan.{HasRoom}
 use Rattle.cc_heaps.specs.Keyed.{Keyed, reflectors_by}
 use Rattle.cc_heaps.specs.Named.{named, IsLive, script_named, IsScriptLive, IsHeldThere, Rest, heap_with}
 use Rattle.cc_heaps.specs.declared.heaps.Heaps.TheInside.{Inside}
@@ -26,10 +27,17 @@ abbrev pub heap_of : Inside → Heap
 heap_of p = heap_with (rest_of p) p.counted p.scripts p.weak
 
 abbrev pub keyed_of : Inside → Keyed
-keyed_of p = record { heap = heap_of p; keys = p.counted.keys; scripts = p.scripts; entries = p.weak; walks = p.counted.walks }
+keyed_of p = record {
+  heap = heap_of p;
+  keys = p.counted.keys;
+  scripts = p.scripts;
+  entries = p.weak;
+  walks = p.counted.walks;
+  marking = p.to_scan.marking;
+}
 
 -- THEY FIT TOGETHER: what registers and slots of natives hold is there, no two script objects have one key or one name,
--- and each native has the key of the script object that is its reflector by name
+-- each native has the key of the script object that is its reflector by name, and a marking has room for all script objects
 pub record IsLinked (p : Inside) : Type 0 where
   pub native_registers : (x : Option NKey) → Among x p.native_registers.items → IsLive p.counted.keys x
   pub script_registers : (x : Option SKey) → Among x p.script_registers.items → IsScriptLive p.scripts x
@@ -39,3 +47,4 @@ pub record IsLinked (p : Inside) : Type 0 where
   pub one_name : (x : Name) → count_by (λ o. same_name o.name x) p.scripts ≤ 1
   pub reflectors : p.counted.reflectors ≡ reflectors_by p.scripts p.counted.keys
   pub script_names : (o : Object) → Among o p.scripts → is_native o.name ≡ false
+  pub room : HasRoom p.to_scan (length p.scripts)

@@ -1,5 +1,5 @@
 -- THE HEAPS WITH THEIR KEYS: the definitions' lists, which native stands at which key, the script objects and the
--- entries of weak maps by key, and how natives stand in a walk.
+-- entries of weak maps by key, how natives stand in a walk, and what a marking in slices has yet to scan.
 use Rattle.std.specs.Prelude.{◌≡◌, ℕ, ◌≤◌, ◌==◌, true, false, List, map, find, Option, Some, None, option_map, option_and_then, count_by}
 use Rattle.cc_lists.specs.Members.{Among}
 use Rattle.cc_names.specs.declared.name.Name.{Name}
@@ -16,6 +16,7 @@ use Rattle.cc_counted.specs.Owning.{HasKeys}
 use Rattle.cc_script.specs.Objects.{Object, AreWhole, name_at}
 use Rattle.cc_weakmaps.specs.Entries.{KeyedEntry}
 use Rattle.cc_marking.specs.Marking.{AreEntriesThere}
+use Rattle.cc_heaps.specs.ToScan.{ToScan}
 
 pub record Keyed : Type 0 where
   pub heap : Heap
@@ -24,6 +25,8 @@ pub record Keyed : Type 0 where
   pub entries : List KeyedEntry
   -- of the native at each key
   pub walks : List Walked
+  -- none where no marking goes on in slices
+  pub marking : Option ToScan
 
 -- Script objects by names
 

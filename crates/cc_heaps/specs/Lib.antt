@@ -1,3 +1,4 @@
+pub mod ToScan
 pub mod Keyed
 pub mod Changes
 pub mod Making
@@ -11,6 +12,7 @@ pub mod GrayHeld
 pub mod Roots
 pub mod Sweeping
 pub mod Standing
+pub mod Marks
 pub mod Rooting
 pub mod Keeping
 pub mod Leaving

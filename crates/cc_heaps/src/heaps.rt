@@ -34,6 +34,7 @@ mod sweeping;
 mod to_make;
 mod walks;
 
+use crate::to_scan::ToScan;
 use cc_counted::Counted;
 use cc_model::Notices;
 use cc_names::{BANK_LENGTH, Limits, NKey, Name, NoMemory, RegNo, SKey};
@@ -42,8 +43,8 @@ use cc_weakmaps::WeakMaps;
 use std::alloc::Global;
 use std::marker::Model;
 
-/// Both heaps by key, the entries of weak maps, the native registers and the script registers, and how many objects
-/// were ever made. What registers and slots of natives hold is there at each step.
+/// Both heaps by key, the entries of weak maps, what a marking in slices has yet to scan, the native registers and the script
+/// registers, and how many objects were ever made. What registers and slots of natives hold is there at each step.
 #[derive(Drop)]
 pub struct Heaps {
     native_registers: Vec<Option<NKey>>,
@@ -51,6 +52,8 @@ pub struct Heaps {
     counted: Counted,
     scripts: Scripts,
     weak: WeakMaps,
+    // with room for all script objects
+    to_scan: ToScan,
     natives_made: u32,
     scripts_made: u32,
     limits: Limits,
@@ -100,6 +103,7 @@ impl Heaps {
             counted: Counted::new(alloc),
             scripts: Scripts::new(alloc),
             weak: WeakMaps::new(alloc),
+            to_scan: ToScan::new(alloc),
             natives_made: 0,
             scripts_made: 0,
             limits,

@@ -16,12 +16,13 @@
 //! takes no memory, and says nothing of the heaps; an object that leaves its heap leaves the walk.
 //!
 //! What the laws make of these equations is said beside them, for callers who know no law. For which graph the heaps
-//! stand afterwards is one clause (`stands`). What a change keeps is another (`kept`), one promise of six parts
+//! stand afterwards is one clause (`stands`). What a change keeps is another (`kept`), one promise of seven parts
 //! (`KeepsParts`): objects keep their keys, the heaps stay in order, no count is greater than all references there can
-//! be, the colour invariant stays, snapshots stay fresh, and no native that nothing reaches is forgotten. A call that
-//! may come while a collection runs promises all six (`KeepsAll`). `select_next`, `sweep`, `root`, `unlink` and
-//! `unroot` are made where no snapshot is kept, and say nothing of the last two (`KeepsHeaps`). Nor does
-//! `mark_scripts`, which leaves objects white besides (`KeepsObjects`); `sweep` takes these out.
+//! be, the colour invariant stays, snapshots stay fresh, no native that nothing reaches is forgotten, and a marking in
+//! slices is left as it is. A call that may come while a collection runs promises all seven (`KeepsAll`). `select_next`,
+//! `sweep`, `root`, `unlink` and `unroot` are made where no snapshot is kept, and say nothing of the last three
+//! (`KeepsHeaps`). `mark_scripts` says nothing of snapshots and suspects either, and leaves objects white besides
+//! (`KeepsObjects`); `sweep` takes these out.
 //!
 //! Some promises need more of what is handed in. A snapshot stays fresh where what is stored is black
 //! (`KeepsAllIfBlack`). No native is forgotten where the native that is written into is reached (`KeepsAllIfReached`).
@@ -33,6 +34,7 @@
 mod heaps;
 mod make_stop;
 mod rooted;
+mod to_scan;
 
 pub use heaps::Heaps;
 pub use make_stop::MakeStop;

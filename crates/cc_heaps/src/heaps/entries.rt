@@ -11,6 +11,7 @@ ghost use Rattle.cc_counted.specs.declared.held.Held.TheVariants as held;
 ghost use Rattle.cc_heaps.specs.Keyed.{IsInOrder, changed_to, the_name_at};
 ghost use Rattle.cc_heaps.specs.Changes.{IsBlackHeld};
 ghost use Rattle.cc_heaps.specs.Standing.{IsReached, StandsAfter};
+ghost use Rattle.cc_heaps.specs.Marks.{KeepsMarks};
 ghost use Rattle.cc_heaps.specs.Keeping.{KeepsAll, KeepsAllIfBlack};
 
 use crate::heaps::Heaps;
@@ -29,6 +30,7 @@ impl Heaps {
         ensures in_place { IsSome (value_at (objects_of self.old.heap) (name_at self.old.scripts the_map.0) (name_at self.old.scripts key.0)) → IsOk result }
         ensures natives { self.new.keys ≡ self.old.keys }
         ensures scripts { self.new.scripts ≡ self.old.scripts }
+        ensures marks { KeepsMarks self.old self.new }
         ensures same { OnErr result (self.new ≡ self.old) }
         ensures order { (owned : List ℕ) → IsInOrder owned self.old → IsInOrder owned self.new }
     {

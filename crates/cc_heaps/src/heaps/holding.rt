@@ -15,6 +15,7 @@ ghost use Rattle.cc_heaps.specs.Keyed.{IsInOrder, counts_of, number_at, the_numb
 ghost use Rattle.cc_heaps.specs.Changes.{IsNativeThere, IsThere, KeepsKeys, held_name, moved_in, native_name, slot_held, stored_in, taken_from, IsBlackHeld};
 ghost use Rattle.cc_heaps.specs.Standing.{IsReached, StandsAfter};
 ghost use Rattle.cc_heaps.specs.Few.{AreOwnedOnce};
+ghost use Rattle.cc_heaps.specs.Marks.{KeepsMarks};
 ghost use Rattle.cc_heaps.specs.Keeping.{KeepsAll, KeepsAllIf, KeepsAllIfReached};
 ghost use Rattle.cc_heaps.specs.Leaving.{TellsWhatIsFreed};
 
@@ -175,6 +176,7 @@ impl Heaps {
         ensures heap { self.new.heap ≡ touched self.old.heap (held_name self.old content) }
         ensures natives { self.new.keys ≡ self.old.keys }
         ensures keys { KeepsKeys self.old self.new }
+        ensures marks { KeepsMarks self.old self.new }
         ensures order { (owned : List ℕ) → IsInOrder owned self.old → IsInOrder owned self.new }
     {
         match content {
@@ -192,6 +194,7 @@ impl Heaps {
         ensures heap { self.new.heap ≡ taken_from self.old.heap (the_number self.old key.0) j }
         ensures natives { self.new.keys ≡ self.old.keys }
         ensures keys { KeepsKeys self.old self.new }
+        ensures marks { KeepsMarks self.old self.new }
         ensures name { held_name self.new result ≡ slot_held self.old.heap (the_number self.old key.0) j }
         ensures there { IsThere self.new result }
         ensures order { (owned : List ℕ) → IsInOrder owned self.old → IsInOrder (numbers_of (held_name self.new result) ++ owned) self.new }

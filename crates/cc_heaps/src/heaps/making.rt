@@ -9,6 +9,7 @@ ghost use Rattle.cc_model.specs.Graph as graph;
 ghost use Rattle.cc_heaps.specs.Keyed.{IsInOrder, number_at};
 ghost use Rattle.cc_heaps.specs.Changes.{IsNativeThere, native_name};
 ghost use Rattle.cc_heaps.specs.Standing.{StandsAfter};
+ghost use Rattle.cc_heaps.specs.Marks.{KeepsMarks};
 ghost use Rattle.cc_heaps.specs.Keeping.{KeepsAll};
 ghost use Rattle.cc_heaps.specs.Leaving.{TellsWhatIsFreed};
 
@@ -29,6 +30,7 @@ impl Heaps {
         ensures there { IfOk result (λ key. IsNativeThere self.new (Some key)) }
         ensures scripts { self.new.scripts ≡ self.old.scripts }
         ensures kept { (key k : ℕ) → number_at self.old key ≡ Some k → number_at self.new key ≡ Some k }
+        ensures marks { KeepsMarks self.old self.new }
         ensures order { OnOk result ((owned : List ℕ) → IsInOrder owned self.old → IsInOrder ((self.old.heap.natives_made + 1) ∷ owned) self.new) }
         ensures same { OnErr result (self.new ≡ self.old) }
     {

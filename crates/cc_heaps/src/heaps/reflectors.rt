@@ -35,6 +35,7 @@ impl Heaps {
         let Some(number) = self.counted.number(key) else {
             unreachable!()
         };
+        self.to_scan.reserve(self.scripts.len() + 1)?;
         let made = self.scripts.create_reflector(key, number)?;
         self.counted.set_reflector(key, Some(made));
         self.counted.add_ref(key);

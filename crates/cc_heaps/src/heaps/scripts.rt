@@ -15,6 +15,7 @@ ghost use Rattle.cc_heaps.specs.Keyed.{IsInOrder, changed_to};
 ghost use Rattle.cc_heaps.specs.Making.{IsDelegateThere, MayBeMade, delegate_name, kind_to_make, made_in, object_to_make, slots_to_make};
 ghost use Rattle.cc_heaps.specs.Changes.{IsScriptThere, KeepsKeys, script_name};
 ghost use Rattle.cc_heaps.specs.Standing.{IsReached, IsReachedOrReflects, MayHold, StandsAfter, StillStands};
+ghost use Rattle.cc_heaps.specs.Marks.{KeepsMarks};
 ghost use Rattle.cc_heaps.specs.Keeping.{KeepsAll};
 
 use crate::heaps::Heaps;
@@ -46,6 +47,7 @@ impl Heaps {
         ensures heap { self.new.heap ≡ set_register self.old.heap (s_register r) (script_name self.old content) }
         ensures natives { self.new.keys ≡ self.old.keys }
         ensures scripts { self.new.scripts ≡ self.old.scripts }
+        ensures marks { KeepsMarks self.old self.new }
         ensures order { (owned : List ℕ) → IsInOrder owned self.old → IsInOrder owned self.new }
     {
         self.script_registers[r as usize] = content;
@@ -58,6 +60,7 @@ impl Heaps {
         ensures heap { self.new.heap ≡ exposed self.old.heap (script_name self.old content) }
         ensures natives { self.new.keys ≡ self.old.keys }
         ensures keys { KeepsKeys self.old self.new }
+        ensures marks { KeepsMarks self.old self.new }
         ensures name { script_name self.new content ≡ script_name self.old content }
         ensures there { IsScriptThere self.new content }
         ensures order { (owned : List ℕ) → IsInOrder owned self.old → IsInOrder owned self.new }
@@ -79,10 +82,12 @@ impl Heaps {
         ensures there { OnOk result (IsDelegateThere self.new.scripts what) }
         ensures natives { self.new.keys ≡ self.old.keys }
         ensures keys { KeepsKeys self.old self.new }
+        ensures marks { KeepsMarks self.old self.new }
         ensures same { OnErr result (self.new ≡ self.old) }
         ensures order { (owned : List ℕ) → IsInOrder owned self.old → IsInOrder owned self.new }
     {
         let number = ScriptNo(self.scripts_made + 1);
+        self.to_scan.reserve(self.scripts.len() + 1)?;
         let key = create(&mut self.scripts, number, what)?;
         self.scripts_made += 1;
         Ok(key)

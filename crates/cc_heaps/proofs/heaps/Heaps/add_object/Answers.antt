@@ -1,48 +1,113 @@
-use Rattle.std.proofs.Common.{◌+◌, sym, subst, ap, ◌∙◌}
+use Rattle.std.proofs.Common.{◌≡◌, ◌+◌, ℕ, List, length, refl, sym, ◌∙◌, ap, subst, arith}
+use Rattle.cc_model.specs.Effects.{with_object}
 use Rattle.cc_script.specs.Objects.{name_at}
+use Rattle.cc_heaps.specs.ToScan.{HasRoom}
 use Rattle.cc_heaps.specs.Keyed.{IsInOrder}
-use Rattle.cc_heaps.specs.Fields.{keyed_of, IsLinked}
+use Rattle.cc_heaps.specs.Fields.{heap_of, keyed_of, IsLinked}
+use Rattle.cc_heaps.specs.Making.{delegate_name, kind_to_make, object_to_make, slots_to_make}
+use Rattle.cc_heaps.specs.declared.heaps.Heaps.TheInside.{Inside}
+use Rattle.cc_heaps.proofs.Listing.{scripts-limited_to}
+use Rattle.cc_heaps.proofs.MarksKept.{marks-made}
+use Rattle.cc_heaps.proofs.Reserved.{keys-unchanged, marks-unchanged, order-unchanged, reserved-keyed, reserved-linked, with_lists}
 use Rattle.cc_heaps.proofs.ScriptsChanged.{with_objects}
-use Rattle.cc_heaps.proofs.ScriptCalls.{becomes-made, delegate_name-made, delegate_there-made, name_at-object}
+use Rattle.cc_heaps.proofs.ScriptCalls.{Becomes, becomes-made, delegate_name-made, delegate_there-made, name_at-object}
 use Rattle.cc_heaps.proofs.heaps.Heaps.add_object.Goals as goal
 
+pub overflow_add : goal.overflow_add
+overflow_add c =
+    let p = c.self.inside in
+    let order = rw (← c.self.view_is) at c.requires.order in
+    omega (arith, c.len.ensures, scripts-limited_to p order.0 order.1)
+
+-- Memory for the lists was wanting
+
+pub invariant_of-self : goal.invariant_of-self
+invariant_of-self c = reserved-linked c.self.inside c.reserve.new.self c.reserve.ensures.marking c.reserve.ensures.more c.self.invariant
+
+pub returns-in_err-reserve-clause-same : goal.returns-in_err-reserve-clause-same
+returns-in_err-reserve-clause-same c = reserved-keyed c.self.inside c.reserve.new.self c.reserve.ensures.marking ∙ c.self.view_is
+
+pub returns-in_err-reserve-clause-keys : goal.returns-in_err-reserve-clause-keys
+returns-in_err-reserve-clause-keys c = keys-unchanged c.args.self.now _ (returns-in_err-reserve-clause-same c)
+
+pub returns-in_err-reserve-clause-marks : goal.returns-in_err-reserve-clause-marks
+returns-in_err-reserve-clause-marks c = marks-unchanged c.args.self.now _ (returns-in_err-reserve-clause-same c)
+
+pub returns-in_err-reserve-clause-order : goal.returns-in_err-reserve-clause-order
+returns-in_err-reserve-clause-order c owned o = order-unchanged c.args.self.now _ (returns-in_err-reserve-clause-same c) owned o
+
+-- THE PARTS WITH ROOM for one more, which stand for the same heaps
+
+roomy : (c : goal.After-create) → Inside
+roomy c = with_lists c.self.inside c.reserve.new.self
+
+is : (c : goal.After-create) → keyed_of (roomy c) ≡ c.args.self.now
+is c = reserved-keyed c.self.inside c.reserve.new.self c.reserve.ensures.marking ∙ c.self.view_is
+
+linked : (c : goal.After-create) → IsLinked (roomy c)
+linked c = reserved-linked c.self.inside c.reserve.new.self c.reserve.ensures.marking c.reserve.ensures.more c.self.invariant
+
+-- Memory for the object was wanting
+
+pub invariant_of-self-2 : goal.invariant_of-self-2
+invariant_of-self-2 c = subst (λ os. IsLinked (with_objects (roomy c) os (roomy c).scripts_made)) (sym c.in_err-key.ensures.err) (linked c)
+
+pub returns-in_err-key-clause-same : goal.returns-in_err-key-clause-same
+returns-in_err-key-clause-same c = ap (λ os. keyed_of (with_objects (roomy c) os (roomy c).scripts_made)) c.in_err-key.ensures.err ∙ is c
+
+pub returns-in_err-key-clause-keys : goal.returns-in_err-key-clause-keys
+returns-in_err-key-clause-keys c = keys-unchanged c.args.self.now _ (returns-in_err-key-clause-same c)
+
+pub returns-in_err-key-clause-marks : goal.returns-in_err-key-clause-marks
+returns-in_err-key-clause-marks c = marks-unchanged c.args.self.now _ (returns-in_err-key-clause-same c)
+
 pub returns-in_err-key-clause-order : goal.returns-in_err-key-clause-order
-returns-in_err-key-clause-order c owned =
-    rw (← c.self.view_is) (λ o. subst (λ os. IsInOrder owned (keyed_of (with_objects c.self.inside os c.self.inside.scripts_made))) (sym c.in_err-key.ensures.err) o)
+returns-in_err-key-clause-order c owned o = order-unchanged c.args.self.now _ (returns-in_err-key-clause-same c) owned o
+
+-- The object is made
+
+-- whatever is owned besides
+made_owned : (c : goal.After-create) (owned : List ℕ) → IsInOrder owned (keyed_of (roomy c)) →
+    Becomes owned (roomy c) (with_objects (roomy c) c.create.new.scripts ((roomy c).scripts_made + 1))
+    (with_object (heap_of (roomy c)) (kind_to_make c.args.what) (slots_to_make c.args.what) (delegate_name (keyed_of (roomy c)) c.args.what))
+made_owned c owned o = becomes-made (roomy c) (linked c) o c.in_ok-key.key.0 c.args.what (rw (← is c) at c.requires.may) c.in_ok-key.ensures.vacant
+    (rw (← is c) at c.requires.room) (subst (λ n. HasRoom c.reserve.new.self (n + 1)) c.len.ensures c.in_ok-reserve.ensures.room) c.create.new.scripts c.in_ok-key.ensures.made
+
+order : (c : goal.After-create) → (owned : List ℕ) × IsInOrder owned (keyed_of (roomy c))
+order c = rw (← is c) at c.requires.order
+
+made : (c : goal.After-create) → Becomes (order c).0 (roomy c) (with_objects (roomy c) c.create.new.scripts ((roomy c).scripts_made + 1))
+    (with_object (heap_of (roomy c)) (kind_to_make c.args.what) (slots_to_make c.args.what) (delegate_name (keyed_of (roomy c)) c.args.what))
+made c = made_owned c (order c).0 (order c).1
+
+pub invariant_of-self-3 : goal.invariant_of-self-3
+invariant_of-self-3 c = (made c).linked
 
 pub returns-clause-heap : goal.returns-clause-heap
-returns-clause-heap c =
-    rw (← c.self.view_is) ((becomes-made c.self.inside c.self.invariant (rw (← c.self.view_is) at c.requires.order).1 c.in_ok-key.key.0 c.args.what (rw (← c.self.view_is) at c.requires.may) c.in_ok-key.ensures.vacant (rw (← c.self.view_is) at c.requires.room) c.create.new.scripts c.in_ok-key.ensures.made).heap)
+returns-clause-heap c = rw (← is c) (made c).heap
 
 pub returns-clause-name : goal.returns-clause-name
 returns-clause-name c =
-    let p = c.self.inside in
-    rw (← c.self.view_is) (ap (λ os. name_at os c.in_ok-key.key.0) c.in_ok-key.ensures.made
-    ∙ name_at-object p c.self.invariant (rw (← c.self.view_is) at c.requires.order).1 c.in_ok-key.key.0 c.args.what (rw (← c.self.view_is) at c.requires.may) c.in_ok-key.ensures.vacant)
+    rw (← is c) (ap (λ os. name_at os c.in_ok-key.key.0) c.in_ok-key.ensures.made
+    ∙ name_at-object (roomy c) (linked c) (order c).1 c.in_ok-key.key.0 c.args.what (rw (← is c) at c.requires.may) c.in_ok-key.ensures.vacant)
 
 pub returns-clause-delegate : goal.returns-clause-delegate
 returns-clause-delegate c =
-    let p = c.self.inside in
-    rw (← c.self.view_is) (delegate_name-made p c.self.invariant (rw (← c.self.view_is) at c.requires.order).1 c.in_ok-key.key.0 c.args.what (rw (← c.self.view_is) at c.requires.may) c.in_ok-key.ensures.vacant
-    (keyed_of (with_objects p c.create.new.scripts (p.scripts_made + 1))) c.in_ok-key.ensures.made)
+    rw (← is c) (delegate_name-made (roomy c) (linked c) (order c).1 c.in_ok-key.key.0 c.args.what (rw (← is c) at c.requires.may) c.in_ok-key.ensures.vacant
+    (keyed_of (with_objects (roomy c) c.create.new.scripts ((roomy c).scripts_made + 1))) c.in_ok-key.ensures.made)
 
 pub returns-clause-there : goal.returns-clause-there
 returns-clause-there c =
-    let p = c.self.inside in
-    delegate_there-made p c.self.invariant (rw (← c.self.view_is) at c.requires.order).1 c.in_ok-key.key.0 c.args.what (rw (← c.self.view_is) at c.requires.may) c.in_ok-key.ensures.vacant
+    delegate_there-made (roomy c) (linked c) (order c).1 c.in_ok-key.key.0 c.args.what (rw (← is c) at c.requires.may) c.in_ok-key.ensures.vacant
     c.create.new.scripts c.in_ok-key.ensures.made
 
 pub returns-clause-keys : goal.returns-clause-keys
-returns-clause-keys c =
-    rw (← c.self.view_is) ((becomes-made c.self.inside c.self.invariant (rw (← c.self.view_is) at c.requires.order).1 c.in_ok-key.key.0 c.args.what (rw (← c.self.view_is) at c.requires.may) c.in_ok-key.ensures.vacant (rw (← c.self.view_is) at c.requires.room) c.create.new.scripts c.in_ok-key.ensures.made).keys)
+returns-clause-keys c = rw (← is c) (made c).keys
+
+pub returns-clause-marks : goal.returns-clause-marks
+returns-clause-marks c =
+    rw (← is c) (marks-made (keyed_of (roomy c)) (keyed_of (with_objects (roomy c) c.create.new.scripts ((roomy c).scripts_made + 1)))
+    (object_to_make c.in_ok-key.key.0 (c.self.inside.scripts_made + 1) c.args.what) refl c.in_ok-key.ensures.made refl)
 
 pub returns-clause-order : goal.returns-clause-order
-returns-clause-order c owned =
-    rw (← c.self.view_is)
-    (λ o. (becomes-made c.self.inside c.self.invariant o c.in_ok-key.key.0 c.args.what (rw (← c.self.view_is) at c.requires.may) c.in_ok-key.ensures.vacant (rw (← c.self.view_is) at c.requires.room) c.create.new.scripts c.in_ok-key.ensures.made).order)
-
-pub invariant_of-self-2 : goal.invariant_of-self-2
-invariant_of-self-2 c = (becomes-made c.self.inside c.self.invariant (rw (← c.self.view_is) at c.requires.order).1 c.in_ok-key.key.0 c.args.what (rw (← c.self.view_is) at c.requires.may) c.in_ok-key.ensures.vacant (rw (← c.self.view_is) at c.requires.room) c.create.new.scripts c.in_ok-key.ensures.made).linked
-
-pub invariant_of-self : goal.invariant_of-self
-invariant_of-self c = subst (λ os. IsLinked (with_objects c.self.inside os c.self.inside.scripts_made)) (sym c.in_err-key.ensures.err) c.self.invariant
+returns-clause-order c owned = rw (← is c) (λ o. (made_owned c owned o).order)

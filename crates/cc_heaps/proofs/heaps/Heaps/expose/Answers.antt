@@ -19,6 +19,7 @@ returns-clause-kept c = record {
   colours = (keeps c).follows.colours;
   fresh = (keeps c).follows.fresh;
   suspected = (keeps c).suspected;
+  marks = c.expose_content.ensures.marks;
 }
 
 pub returns-clause-stands : goal.returns-clause-stands

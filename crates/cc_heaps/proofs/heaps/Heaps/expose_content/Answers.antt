@@ -1,6 +1,10 @@
-use Rattle.std.proofs.Common.{sym}
+use Rattle.std.proofs.Common.{sym, [], ◌∷◌, refl}
 use Rattle.cc_heaps.proofs.ScriptsChanged.{with_objects}
 use Rattle.cc_heaps.proofs.ScriptCalls.{content-exposed, content-kept, nothing-exposed}
+use Rattle.cc_script.specs.Walking.{keys_reached}
+use Rattle.cc_heaps.specs.Fields.{keyed_of}
+use Rattle.cc_heaps.proofs.MarksKept.{marks-same}
+use Rattle.cc_heaps.proofs.ScriptWrites.{KeepsObjects-raised, marks-written, raise_among}
 use Rattle.cc_heaps.proofs.heaps.Heaps.expose_content.Goals as goal
 
 pub expose-requires-clause-whole : goal.expose-requires-clause-whole
@@ -37,3 +41,12 @@ returns-in_default-clause-heap c = sym (nothing-exposed c.args.self.now c.args.c
 
 pub returns-in_default-clause-order : goal.returns-in_default-clause-order
 returns-in_default-clause-order c owned o = o
+
+pub returns-in_default-clause-marks : goal.returns-in_default-clause-marks
+returns-in_default-clause-marks c = marks-same c.args.self.now c.args.self.now refl refl
+
+pub returns-in-Some-clause-marks : goal.returns-in-Some-clause-marks
+returns-in-Some-clause-marks c =
+    let p = c.self.inside in
+    let keys = keys_reached p.scripts (c.in-Some.key.0 ∷ []) in
+    rw (← c.self.view_is) (marks-written (keyed_of p) (keyed_of (with_objects p c.expose.new.self p.scripts_made)) (raise_among keys) (KeepsObjects-raised keys) refl c.expose.ensures)

@@ -10,6 +10,7 @@ use Rattle.cc_heaps.proofs.KeysKept.{KeepsKeys-changed}
 use Rattle.cc_heaps.proofs.Ordered.{IsInOrder-marked}
 use Rattle.cc_heaps.proofs.Owned.{callers-own}
 use Rattle.cc_heaps.proofs.StandingStill.{buffer-goes_on}
+use Rattle.cc_heaps.proofs.MarksKept.{marks-changed}
 use Rattle.cc_heaps.proofs.heaps.Heaps.give_back.Goals as goal
 
 pub give_back-requires-clause-owned : goal.give_back-requires-clause-owned
@@ -45,6 +46,7 @@ returns-clause-kept c = record {
   colours = subst (λ (w : Keyed). KeepsColours c.args.self.now.heap w.heap) (sym (returns-clause-heap c)) ((keeps c).follows.colours);
   fresh = subst (λ (w : Keyed). KeepsFresh c.args.self.now.heap w.heap) (sym (returns-clause-heap c)) ((keeps c).follows.fresh);
   suspected = subst (λ (w : Keyed). KeepsSuspected c.args.self.now.heap w.heap) (sym (returns-clause-heap c)) ((keeps c).suspected);
+  marks = marks-changed c.args.self.now _ _ (returns-clause-heap c);
 }
 
 pub returns-clause-stands : goal.returns-clause-stands

@@ -5,12 +5,13 @@ use Rattle.cc_marking.specs.Marking.{marked_from}
 use Rattle.cc_heaps.specs.Keyed.{IsInOrder}
 use Rattle.cc_heaps.specs.Changes.{KeepsKeys}
 use Rattle.cc_heaps.specs.Fields.{keyed_of, heap_of, IsLinked}
+use Rattle.cc_heaps.specs.Marks.{KeepsMarks}
 use Rattle.cc_heaps.specs.Roots.{keys_in_registers}
 use Rattle.cc_heaps.proofs.ObjectsKept.{keys-counted, with_objects}
 use Rattle.cc_heaps.proofs.EntryNames.{delegates-order}
 use Rattle.cc_heaps.proofs.ReferenceNames.{few_slots-counted}
 use Rattle.cc_heaps.proofs.RootNames.{register-there, native-there}
-use Rattle.cc_heaps.proofs.MarkedObjects.{marked_objects, heap-marked, keys-marked, order-marked, linked-marked}
+use Rattle.cc_heaps.proofs.MarkedObjects.{marked_objects, heap-marked, keys-marked, marks-marked, order-marked, linked-marked}
 use Rattle.cc_laws_heap.proofs.Face.{HasColours-marked, marked-stands}
 use Rattle.cc_heaps.proofs.FewCounts.{few-owned}
 use Rattle.cc_heaps.proofs.heaps.Heaps.mark_scripts.Goals as goal
@@ -71,6 +72,8 @@ returns-clause-kept c = record {
   colours = tt;
   fresh = tt;
   suspected = tt;
+  marks = (let p = c.self.inside in
+      rw (← c.self.view_is) (subst (λ os. KeepsMarks (keyed_of p) (keyed_of (with_objects p os))) (objects c) (marks-marked p c.self.invariant (rw (← c.self.view_is) at c.requires.order).1)));
 }
 
 pub returns-clause-colours : goal.returns-clause-colours

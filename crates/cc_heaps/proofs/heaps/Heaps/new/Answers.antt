@@ -1,4 +1,4 @@
-use Rattle.std.proofs.Common.{◌≡◌, ◌==◌, ◌≤◌, ℕ, false, List, [], count_by, replicate, Option, None, refl, sym, ◌∙◌, ap, subst, arith, rules}
+use Rattle.std.proofs.Common.{◌≡◌, ◌==◌, ◌≤◌, ℕ, false, List, [], count_by, length, replicate, Option, None, refl, sym, ◌∙◌, ap, subst, arith, rules}
 use Rattle.std.specs.Global.{Vec}
 use Rattle.cc_lists.specs.Members.{Among}
 use Rattle.cc_names.specs.Allowance.{Allowance}
@@ -14,6 +14,7 @@ use Rattle.cc_counted.specs.Counts.{Counts, no_counts}
 use Rattle.cc_script.specs.Objects.{Object}
 use Rattle.cc_weakmaps.specs.Entries.{KeyedEntry}
 use Rattle.cc_heaps.specs.declared.heaps.Heaps.TheInside.{Inside}
+use Rattle.cc_heaps.specs.ToScan.{Lists, HasRoom}
 use Rattle.cc_heaps.specs.Keyed.{Keyed, IsInOrder, reflectors_by}
 use Rattle.cc_heaps.specs.Named.{named, script_named, IsLive, IsScriptLive}
 use Rattle.cc_heaps.specs.Fields.{keyed_of, IsLinked}
@@ -27,7 +28,7 @@ use Rattle.cc_heaps.proofs.heaps.Heaps.new.Goals as goal
 -- Nothing is there yet
 
 abbrev empty_keyed : Allowance → Keyed
-empty_keyed l = record { heap = empty_heap l; keys = []; scripts = []; entries = []; walks = [] }
+empty_keyed l = record { heap = empty_heap l; keys = []; scripts = []; entries = []; walks = []; marking = None }
 
 empty-sound : (l : Allowance) → IsSound [] (empty_heap l)
 empty-sound l = search rules
@@ -49,10 +50,11 @@ empty-order l few = record {
 shortest : IsBankLength bank_length
 shortest = record { enough = omega arith; allowed = omega arith }
 
-module _ (natives : Vec (Option NKey)) (scripts : Vec (Option SKey)) (limits : Allowance) {counted : Counts} {objects : List Object} {weak : List KeyedEntry}
-    (no_natives : natives.items ≡ replicate bank_length None) (no_scripts : scripts.items ≡ replicate bank_length None) (none_counted : counted ≡ no_counts) (none_made : objects ≡ []) (none_set : weak ≡ []) where
+module _ (natives : Vec (Option NKey)) (scripts : Vec (Option SKey)) (limits : Allowance) (lists : Lists) {counted : Counts} {objects : List Object} {weak : List KeyedEntry}
+    (no_natives : natives.items ≡ replicate bank_length None) (no_scripts : scripts.items ≡ replicate bank_length None) (none_counted : counted ≡ no_counts) (none_made : objects ≡ []) (none_set : weak ≡ [])
+    (no_marking : lists.marking ≡ None) where
   abbrev p : Inside
-  p = record { native_registers = natives; script_registers = scripts; counted = counted; scripts = objects; weak = weak; natives_made = 0; scripts_made = 0; limits = limits }
+  p = record { native_registers = natives; script_registers = scripts; counted = counted; scripts = objects; weak = weak; to_scan = lists; natives_made = 0; scripts_made = 0; limits = limits }
 
   empty-is : keyed_of p ≡ empty_keyed limits
   empty-is =
@@ -66,6 +68,7 @@ module _ (natives : Vec (Option NKey)) (scripts : Vec (Option SKey)) (limits : A
         scripts = [];
         entries = [];
         walks = [];
+        marking = no_marking i;
       })
 
   empty-linked : IsLinked p
@@ -78,20 +81,21 @@ module _ (natives : Vec (Option NKey)) (scripts : Vec (Option SKey)) (limits : A
     one_name = subst (λ os. (x : Name) → count_by (λ (o : Object). same_name o.name x) os ≤ 1) (sym none_made) (λ x. omega arith);
     reflectors = ap (λ (c : Counts). c.reflectors) none_counted ∙ sym (ap (λ (c : Counts). reflectors_by objects c.keys) none_counted);
     script_names = subst (λ os. (o : Object) → Among o os → is_native o.name ≡ false) (sym none_made) (λ o m. absurd m);
+    room = subst (λ (os : List Object). HasRoom lists (length os)) (sym none_made) (omega arith, omega arith);
   }
 
 pub returns-clause-empty : goal.returns-clause-empty
 returns-clause-empty c =
-    ap (λ (v : Keyed). v.heap) (empty-is c.in_ok-no_natives.field-0 c.in_ok-no_scripts.field-0 c.args.limits c.in_ok-no_natives.ensures c.in_ok-no_scripts.ensures c.new.ensures.natives c.new-2.ensures c.new-3.ensures)
+    ap (λ (v : Keyed). v.heap) (empty-is c.in_ok-no_natives.field-0 c.in_ok-no_scripts.field-0 c.args.limits c.new-4.result c.in_ok-no_natives.ensures c.in_ok-no_scripts.ensures c.new.ensures.natives c.new-2.ensures c.new-3.ensures c.new-4.ensures)
 
 pub returns-clause-order : goal.returns-clause-order
 returns-clause-order c =
-    subst (IsInOrder []) (sym (empty-is c.in_ok-no_natives.field-0 c.in_ok-no_scripts.field-0 c.args.limits c.in_ok-no_natives.ensures c.in_ok-no_scripts.ensures c.new.ensures.natives c.new-2.ensures c.new-3.ensures))
+    subst (IsInOrder []) (sym (empty-is c.in_ok-no_natives.field-0 c.in_ok-no_scripts.field-0 c.args.limits c.new-4.result c.in_ok-no_natives.ensures c.in_ok-no_scripts.ensures c.new.ensures.natives c.new-2.ensures c.new-3.ensures c.new-4.ensures))
     (empty-order c.args.limits (omega (arith, c.natives.ensures.same, c.natives.ensures.within), omega (arith, c.scripts.ensures.same, c.scripts.ensures.within)))
 
 pub invariant_of-result : goal.invariant_of-result
 invariant_of-result c =
-    empty-linked c.in_ok-no_natives.field-0 c.in_ok-no_scripts.field-0 c.args.limits c.in_ok-no_natives.ensures c.in_ok-no_scripts.ensures c.new.ensures.natives c.new-2.ensures c.new-3.ensures
+    empty-linked c.in_ok-no_natives.field-0 c.in_ok-no_scripts.field-0 c.args.limits c.new-4.result c.in_ok-no_natives.ensures c.in_ok-no_scripts.ensures c.new.ensures.natives c.new-2.ensures c.new-3.ensures c.new-4.ensures
 
 pub returns-clause-stands : goal.returns-clause-stands
 returns-clause-stands c = subst (λ (h : Heap). StandsFor h (empty_graph c.args.limits)) (sym (returns-clause-empty c)) (empty-stands c.args.limits)

@@ -15,6 +15,7 @@ use Rattle.cc_heaps.proofs.FewCounts.{few-owned}
 use Rattle.cc_heaps.proofs.Following.{make_native-keeps}
 use Rattle.cc_heaps.proofs.StandingAfter.{make_native-stands}
 use Rattle.cc_heaps.proofs.Made.{made-is, made-keeps}
+use Rattle.cc_heaps.proofs.MarksKept.{marks-left, marks-then}
 use Rattle.cc_heaps.proofs.heaps.Heaps.new_native.Goals as goal
 use Rattle.cc_lists.specs.Members.{Among}
 
@@ -65,6 +66,7 @@ returns-in-Ok-clause-kept g c = record {
   suspected = (let v = c.args.self.now in
       let allowed : v.heap.natives_made < v.heap.limits.natives = rw (← c.self.view_is) (omega (arith, c.if-self-natives.false, c.natives.ensures.same)) in
       subst (KeepsSuspected v.heap) (sym (returns-in-Ok-clause-heap g c)) (make_native-keeps v.heap c.args.r c.args.slots c.requires.within c.requires.slots allowed c.requires.order.1.sound).suspected);
+  marks = marks-then c.put.ensures.marks (marks-left c.put.new.self c.put_in_register.new.self _ c.put_in_register.ensures.heap);
 }
 
 pub returns-in-Ok-clause-stands : goal.returns-in-Ok-clause-stands

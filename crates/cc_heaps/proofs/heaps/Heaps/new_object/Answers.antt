@@ -11,6 +11,7 @@ use Rattle.cc_heaps.proofs.FewCounts.{few-owned}
 use Rattle.cc_heaps.proofs.Following.{Keeps, made_by, made_first, make_object-keeps}
 use Rattle.cc_heaps.proofs.KeysKept.{KeepsKeys-preserved}
 use Rattle.cc_heaps.proofs.StandingAfter.{make_object-stands}
+use Rattle.cc_heaps.proofs.MarksKept.{marks-changed, marks-then}
 use Rattle.cc_heaps.proofs.heaps.Heaps.new_object.Goals as goal
 
 pub preserve_delegate-requires-clause-order : goal.preserve_delegate-requires-clause-order
@@ -65,6 +66,8 @@ returns-in-Ok-clause-kept c = record {
   colours = (keeps c).follows.colours;
   fresh = (keeps c).follows.fresh;
   suspected = (keeps c).suspected;
+  marks = marks-then c.add_object.ensures.marks
+      (marks-then (marks-changed c.add_object.new.self c.preserve_delegate.new.self _ c.preserve_delegate.ensures.heap) c.write_script_reg.ensures.marks);
 }
 
 pub returns-in-Ok-clause-stands : goal.returns-in-Ok-clause-stands

@@ -1,26 +1,66 @@
-use Rattle.std.proofs.Common.{◌≡◌, ℕ, List, Some, sym, ◌∙◌, ap, subst, arith}
+use Rattle.std.proofs.Common.{◌≡◌, ℕ, ◌+◌, List, Some, sym, ◌∙◌, ap, subst, arith}
 use Rattle.cc_heaps.proofs.ObjectsKept.{named-there}
 use Rattle.cc_names.specs.Names.{native}
 use Rattle.cc_model.specs.Graph as graph
+use Rattle.cc_heaps.specs.declared.heaps.Heaps.TheInside.{Inside}
+use Rattle.cc_heaps.specs.ToScan.{HasRoom}
 use Rattle.cc_heaps.specs.Keyed.{IsInOrder, the_number}
 use Rattle.cc_heaps.specs.Fields.{keyed_of, IsLinked}
 use Rattle.cc_heaps.specs.Standing.{KeepsColours, KeepsFresh, KeepsSuspected, StandsAfter, IsReached}
 use Rattle.cc_heaps.proofs.Kept.{KeepsAll-same, KeepsAll-if_reached}
 use Rattle.cc_heaps.proofs.Calls.{count-fits, number-there}
 use Rattle.cc_heaps.proofs.FewCounts.{few-owned}
+use Rattle.cc_heaps.proofs.Listing.{scripts-limited_to}
 use Rattle.cc_heaps.proofs.Owned.{callers-own}
 use Rattle.cc_heaps.proofs.ReflectingMade.{reflector_made-colours, reflector_made-keeps_fresh, reflector_made-keeps_suspected, reflector_made-stands}
 use Rattle.cc_heaps.proofs.ReflectorMade.{IsReflectorMade, reflector-made}
+use Rattle.cc_heaps.proofs.Reserved.{reserved-keyed, reserved-linked, with_lists}
 use Rattle.cc_heaps.proofs.ScriptsChanged.{with_objects}
 use Rattle.cc_heaps.proofs.heaps.Heaps.new_reflector.Goals as goal
 
--- No memory: the objects are as they were
+pub overflow_add : goal.overflow_add
+overflow_add c =
+    let p = c.self.inside in
+    let order = rw (← c.self.view_is) at c.requires.order in
+    omega (arith, c.len.ensures, scripts-limited_to p order.0 order.1)
 
-same : (c : goal.After-from_residual) → keyed_of (with_objects c.self.inside c.create_reflector.new.self c.self.inside.scripts_made) ≡ c.args.self.now
-same c = ap (λ os. keyed_of (with_objects c.self.inside os c.self.inside.scripts_made)) c.in_err-made.ensures.err ∙ c.self.view_is
+-- No memory for the lists: the heaps are as they were
 
 pub invariant_of-self : goal.invariant_of-self
-invariant_of-self c = subst (λ os. IsLinked (with_objects c.self.inside os c.self.inside.scripts_made)) (sym c.in_err-made.ensures.err) c.self.invariant
+invariant_of-self c = reserved-linked c.self.inside c.reserve.new.self c.reserve.ensures.marking c.reserve.ensures.more c.self.invariant
+
+unchanged : (c : goal.After-reserve) → keyed_of (with_lists c.self.inside c.reserve.new.self) ≡ c.args.self.now
+unchanged c = reserved-keyed c.self.inside c.reserve.new.self c.reserve.ensures.marking ∙ c.self.view_is
+
+pub returns-in_err-reserve-clause-same : goal.returns-in_err-reserve-clause-same
+returns-in_err-reserve-clause-same c = unchanged c
+
+pub returns-in_err-reserve-clause-kept : goal.returns-in_err-reserve-clause-kept
+returns-in_err-reserve-clause-kept c =
+    let v = c.args.self.now in
+    KeepsAll-if_reached (IsReached v.heap (Some (native (the_number v c.args.key.0)))) v _ (KeepsAll-same v _ (unchanged c))
+
+-- THE PARTS WITH ROOM for one more, which stand for the same heaps
+
+roomy : (c : goal.After-reserve) → Inside
+roomy c = with_lists c.self.inside c.reserve.new.self
+
+is : (c : goal.After-reserve) → keyed_of (roomy c) ≡ c.args.self.now
+is c = reserved-keyed c.self.inside c.reserve.new.self c.reserve.ensures.marking ∙ c.self.view_is
+
+linked : (c : goal.After-reserve) → IsLinked (roomy c)
+linked c = reserved-linked c.self.inside c.reserve.new.self c.reserve.ensures.marking c.reserve.ensures.more c.self.invariant
+
+-- No memory for the object: the objects are as they were
+
+same : (c : goal.After-create_reflector) → keyed_of (with_objects (roomy c) c.create_reflector.new.self (roomy c).scripts_made) ≡ c.args.self.now
+same c = ap (λ os. keyed_of (with_objects (roomy c) os (roomy c).scripts_made)) c.in_err-made.ensures.err ∙ is c
+
+pub invariant_of-self-2 : goal.invariant_of-self-2
+invariant_of-self-2 c = subst (λ os. IsLinked (with_objects (roomy c) os (roomy c).scripts_made)) (sym c.in_err-made.ensures.err) (linked c)
+
+pub returns-in_err-made-clause-same : goal.returns-in_err-made-clause-same
+returns-in_err-made-clause-same c = same c
 
 pub returns-in_err-made-clause-kept : goal.returns-in_err-made-clause-kept
 returns-in_err-made-clause-kept c =
@@ -44,25 +84,26 @@ add_ref-requires-clause-owned c =
 -- The reflector
 
 -- whatever is owned besides
-made_owned : (c : goal.After-add_ref) (owned : List ℕ) → IsInOrder owned (keyed_of c.self.inside) →
-    IsReflectorMade owned c.self.inside (record c.self.inside { counted = c.add_ref.new.self; scripts = c.create_reflector.new.self })
-    (the_number (keyed_of c.self.inside) c.args.key.0) c.in_ok-made.made.0
-made_owned c owned o = reflector-made c.self.inside c.self.invariant o c.args.key (rw (← c.self.view_is) at c.requires.live)
-    (rw (← c.self.view_is) at c.requires.lacks) c.in_ok-made.made.0 c.in_ok-made.ensures.vacant c.in-Some.number.0 c.in-Some.ensures
+made_owned : (c : goal.After-add_ref) (owned : List ℕ) → IsInOrder owned (keyed_of (roomy c)) →
+    IsReflectorMade owned (roomy c) (record (roomy c) { counted = c.add_ref.new.self; scripts = c.create_reflector.new.self })
+    (the_number (keyed_of (roomy c)) c.args.key.0) c.in_ok-made.made.0
+made_owned c owned o = reflector-made (roomy c) (linked c) o c.args.key (rw (← is c) at c.requires.live)
+    (rw (← is c) at c.requires.lacks) (subst (λ n. HasRoom c.reserve.new.self (n + 1)) c.len.ensures c.in_ok-reserve.ensures.room)
+    c.in_ok-made.made.0 c.in_ok-made.ensures.vacant c.in-Some.number.0 c.in-Some.ensures
     c.create_reflector.new.self c.in_ok-made.ensures.made c.set_reflector.new.self c.set_reflector.ensures.reflectors c.add_ref.new.self c.add_ref.ensures.heap
 
-made : (c : goal.After-add_ref) → IsReflectorMade c.requires.order.0 c.self.inside (record c.self.inside { counted = c.add_ref.new.self; scripts = c.create_reflector.new.self })
-    (the_number (keyed_of c.self.inside) c.args.key.0) c.in_ok-made.made.0
-made c = made_owned c c.requires.order.0 (subst (IsInOrder c.requires.order.0) (sym c.self.view_is) c.requires.order.1)
+made : (c : goal.After-add_ref) → IsReflectorMade c.requires.order.0 (roomy c) (record (roomy c) { counted = c.add_ref.new.self; scripts = c.create_reflector.new.self })
+    (the_number (keyed_of (roomy c)) c.args.key.0) c.in_ok-made.made.0
+made c = made_owned c c.requires.order.0 (subst (IsInOrder c.requires.order.0) (sym (is c)) c.requires.order.1)
 
-pub invariant_of-self-2 : goal.invariant_of-self-2
-invariant_of-self-2 c = (made c).linked
+pub invariant_of-self-3 : goal.invariant_of-self-3
+invariant_of-self-3 c = (made c).linked
 
 pub returns-clause-heap : goal.returns-clause-heap
-returns-clause-heap c = rw (← c.self.view_is) ((made c).heap)
+returns-clause-heap c = rw (← is c) ((made c).heap)
 
 pub returns-clause-name : goal.returns-clause-name
-returns-clause-name c = rw (← c.self.view_is) ((made c).name)
+returns-clause-name c = rw (← is c) ((made c).name)
 
 pub returns-clause-there : goal.returns-clause-there
 returns-clause-there c = named-there c.create_reflector.new.self c.in_ok-made.made.0 _ ((made c).name)
@@ -78,8 +119,8 @@ returns-clause-stands c reached =
 
 pub returns-clause-kept : goal.returns-clause-kept
 returns-clause-kept c = record {
-  keys = rw (← c.self.view_is) ((made c).keys);
-  order = λ owned. (rw (← c.self.view_is) (λ o. (made_owned c owned o).order));
+  keys = rw (← is c) ((made c).keys);
+  order = λ owned. (rw (← is c) (λ o. (made_owned c owned o).order));
   counts = few-owned _;
   colours = (let v = c.args.self.now in
       subst (KeepsColours v.heap) (sym (returns-clause-heap c))
@@ -90,4 +131,5 @@ returns-clause-kept c = record {
   suspected = λ reached. (let v = c.args.self.now in
       subst (KeepsSuspected v.heap) (sym (returns-clause-heap c))
       (reflector_made-keeps_suspected v.heap (the_number v c.args.key.0) c.requires.order.1.sound (number-there c.requires.order.0 v c.args.key.0 c.requires.order.1 c.requires.live) c.requires.lacks reached));
+  marks = rw (← is c) ((made c).marks);
 }

@@ -1,4 +1,4 @@
-use Rattle.std.proofs.Common.{arith, sym, ap, subst}
+use Rattle.std.proofs.Common.{arith, sym, ap, subst, refl}
 use Rattle.cc_lists.proofs.Members.{Among-map}
 use Rattle.cc_heaps.specs.Keyed.{Keyed}
 use Rattle.cc_heaps.specs.Named.{named_native}
@@ -6,6 +6,7 @@ use Rattle.cc_heaps.specs.Fields.{IsLinked}
 use Rattle.cc_heaps.proofs.Linked.{with_counted}
 use Rattle.cc_heaps.proofs.Owned.{callers-own}
 use Rattle.cc_heaps.proofs.Made.{made-keyed, made-fit, made-kept}
+use Rattle.cc_heaps.proofs.MarksKept.{marks-same}
 use Rattle.cc_heaps.proofs.heaps.Heaps.put.Goals as goal
 
 pub create-requires-clause-above : goal.create-requires-clause-above
@@ -47,3 +48,9 @@ returns-clause-order c owned =
     rw (← c.self.view_is)
     (λ o. (made-fit p (record { order = o; linked = c.self.invariant }) c.create.new.self c.args.slots c.in_ok-key.key e.natives e.buffer e.others e.vacant
     e.key e.reflector e.other_reflectors e.as_many c.requires.slots (rw (← c.self.view_is) at c.requires.allowed) e.keyed).order)
+
+pub returns-clause-marks : goal.returns-clause-marks
+returns-clause-marks c = rw (← c.self.view_is) (marks-same _ _ refl refl)
+
+pub returns-in_err-key-clause-marks : goal.returns-in_err-key-clause-marks
+returns-in_err-key-clause-marks c = rw (← c.self.view_is) (marks-same _ _ refl refl)

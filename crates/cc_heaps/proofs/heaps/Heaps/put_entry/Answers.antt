@@ -1,10 +1,11 @@
-use Rattle.std.proofs.Common.{option_map, sym, ◌∙◌, subst}
+use Rattle.std.proofs.Common.{option_map, sym, ◌∙◌, subst, refl}
 use Rattle.std.specs.Prelude.{IsTrue}
 use Rattle.std.proofs.lemmas.Result.{on_ok_weaker}
 use Rattle.cc_weakmaps.specs.Entries.{has_value_in}
 use Rattle.cc_heaps.specs.Keyed.{Keyed}
 use Rattle.cc_heaps.proofs.EntriesSet.{becomes-set, map-there, order-set}
 use Rattle.cc_heaps.proofs.EntryNames.{has_value-named}
+use Rattle.cc_heaps.proofs.MarksKept.{marks-same}
 use Rattle.cc_heaps.proofs.heaps.Heaps.put_entry.Goals as goal
 
 pub returns-clause-heap : goal.returns-clause-heap
@@ -25,3 +26,6 @@ returns-clause-order c owned =
     rw (← c.self.view_is)
     (λ o. order-set c.self.inside c.self.invariant o c.args.the_map.0 c.args.key.0 (rw (← c.self.view_is) at c.requires.the_map)
     (rw (← c.self.view_is) at c.requires.key) c.args.value.0 (rw (← c.self.view_is) at c.requires.value) (option_map (λ k. k.0) c.delegate.result) c.delegate.ensures.delegate c.set.new.self c.set.result c.set.ensures.entries c.set.ensures.err)
+
+pub returns-clause-marks : goal.returns-clause-marks
+returns-clause-marks c = rw (← c.self.view_is) (marks-same _ _ refl refl)

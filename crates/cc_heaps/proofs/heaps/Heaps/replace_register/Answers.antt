@@ -43,6 +43,7 @@ module _ (p : Inside) (r : ℕ) (x : Option NKey) where
     one_name = l.one_name;
     reflectors = l.reflectors;
     script_names = l.script_names;
+    room = l.room;
   }
 
   written-fit : (owned : List ℕ) → r < length v.heap.native_registers → IsNativeThere v x → (was : Option NKey) → native_name v was ≡ register v.heap (N r) →

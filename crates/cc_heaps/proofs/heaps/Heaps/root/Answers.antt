@@ -25,4 +25,5 @@ returns-clause-kept c = record {
   colours = subst (λ (w : Keyed). KeepsColours c.args.self.now.heap w.heap) (sym c.take_reference.ensures.heap) ((goes_on c).colours);
   fresh = tt;
   suspected = tt;
+  marks = tt;
 }

@@ -46,6 +46,7 @@ module _ (p : Inside) (d : Counts) where
     one_name = l.one_name;
     reflectors = l.reflectors;
     script_names = l.script_names;
+    room = l.room;
   })
 
   ordered-front : (owned : List ℕ) → IsInOrder owned before → (o : Option Front) → TakesFront p.counted d o → IsInOrder owned after
@@ -70,4 +71,5 @@ returns-clause-kept c = record {
   colours = (front-goes_on c.args.self.now _ c.select_next.result (returns-clause-front c)).colours;
   fresh = tt;
   suspected = tt;
+  marks = tt;
 }

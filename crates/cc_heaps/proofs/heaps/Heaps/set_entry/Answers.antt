@@ -9,6 +9,7 @@ use Rattle.cc_heaps.proofs.EntriesFollow.{SetKeeps, entry-keeps, set-preserved}
 use Rattle.cc_heaps.proofs.EntriesSet.{map-there}
 use Rattle.cc_heaps.proofs.FewCounts.{few-owned}
 use Rattle.cc_heaps.proofs.Following.{held_name-black}
+use Rattle.cc_heaps.proofs.MarksKept.{marks-changed, marks-then}
 use Rattle.cc_heaps.proofs.heaps.Heaps.set_entry.Goals as goal
 
 -- Memory was wanting
@@ -56,4 +57,5 @@ returns-clause-kept c = record {
       let f = c.requires.order in
       (keeps c).fresh (held_name-black f.0 v f.1 (Some (held.Script c.args.key)) b.0) (held_name-black f.0 v f.1 (Some (held.Script c.args.value)) b.1));
   suspected = (keeps c).suspected;
+  marks = marks-then c.put_entry.ensures.marks (marks-changed c.put_entry.new.self c.preserve.new.self _ c.preserve.ensures.heap);
 }

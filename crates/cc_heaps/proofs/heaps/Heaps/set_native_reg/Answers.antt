@@ -17,6 +17,7 @@ use Rattle.cc_heaps.proofs.Following.{Keeps, hold_native-keeps}
 use Rattle.cc_heaps.proofs.KeysKept.{KeepsKeys-left}
 use Rattle.cc_heaps.proofs.StandingAfter.{native_register-stands}
 use Rattle.cc_heaps.proofs.Content.{held_of_native-name, native-in}
+use Rattle.cc_heaps.proofs.MarksKept.{marks-left}
 use Rattle.cc_heaps.proofs.heaps.Heaps.set_native_reg.Given as given
 use Rattle.cc_heaps.proofs.heaps.Heaps.set_native_reg.Goals as goal
 
@@ -77,6 +78,7 @@ returns-clause-kept g c = record {
   colours = rw (returns-clause-heap g c) ((keeps g c).follows.colours);
   fresh = rw (returns-clause-heap g c) ((keeps g c).follows.fresh);
   suspected = rw (returns-clause-heap g c) ((keeps g c).suspected);
+  marks = marks-left c.args.self.now c.put_in_register.new.self _ (returns-clause-heap g c);
 }
 
 pub returns-clause-stands : goal.returns-clause-stands

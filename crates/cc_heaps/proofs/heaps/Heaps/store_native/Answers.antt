@@ -18,6 +18,7 @@ use Rattle.cc_heaps.proofs.FewCounts.{few-owned}
 use Rattle.cc_heaps.proofs.Following.{Follows, held-follows, held-remembers, within-named, held-colours}
 use Rattle.cc_heaps.proofs.KeysKept.{KeepsKeys-left}
 use Rattle.cc_heaps.proofs.StandingAfter.{native_slot-stands}
+use Rattle.cc_heaps.proofs.MarksKept.{marks-left}
 use Rattle.cc_heaps.proofs.heaps.Heaps.store_native.Given as given
 use Rattle.cc_heaps.proofs.heaps.Heaps.store_native.Goals as goal
 
@@ -108,6 +109,7 @@ returns-clause-kept g c =
       fresh = λ black. ((follows g c black).fresh);
       suspected = λ reached. (held-remembers v c.let_go.new.self f.1 (the_number v c.args.key.0) c.args.i c.args.content within reached
           (in_order g c f.0 f.1).sound (returns-clause-heap g c));
+      marks = marks-left v c.let_go.new.self _ (returns-clause-heap g c);
     }
 
 pub returns-clause-stands : goal.returns-clause-stands

@@ -1,9 +1,13 @@
 use Rattle.cc_heaps.specs.Standing.{KeepsColours, KeepsFresh, KeepsSuspected}
-use Rattle.std.proofs.Common.{sym, subst}
+use Rattle.std.proofs.Common.{option_map, refl, sym, subst}
+use Rattle.cc_names.specs.declared.number.SKey.{SKey}
 use Rattle.cc_heaps.proofs.ScriptCalls.{becomes-slot}
 use Rattle.cc_model.specs.Heap.{set_slot}
 use Rattle.cc_script.specs.Objects.{name_at}
 use Rattle.cc_heaps.specs.Changes.{script_name}
+use Rattle.cc_heaps.specs.Fields.{keyed_of}
+use Rattle.cc_heaps.proofs.ScriptsChanged.{with_objects}
+use Rattle.cc_heaps.proofs.ScriptWrites.{KeepsObjects-slot, marks-written, write_slot}
 use Rattle.cc_heaps.proofs.FewCounts.{few-owned}
 use Rattle.cc_heaps.proofs.Following.{Keeps, object_slot-keeps}
 use Rattle.cc_heaps.proofs.StandingAfter.{script_slot-stands}
@@ -29,6 +33,9 @@ returns-clause-kept c = record {
   colours = subst (KeepsColours c.args.self.now.heap) (sym (returns-clause-heap c)) ((keeps c).follows.colours);
   fresh = subst (KeepsFresh c.args.self.now.heap) (sym (returns-clause-heap c)) ((keeps c).follows.fresh);
   suspected = subst (KeepsSuspected c.args.self.now.heap) (sym (returns-clause-heap c)) ((keeps c).suspected);
+  marks = (let item = option_map (λ (k : SKey). k.0) c.args.content in
+      rw (← c.self.view_is) (marks-written (keyed_of c.self.inside) (keyed_of (with_objects c.self.inside c.set_slot.new.self c.self.inside.scripts_made))
+      (write_slot c.args.key.0 c.args.i item) (KeepsObjects-slot c.args.key.0 c.args.i item) refl c.set_slot.ensures));
 }
 
 pub returns-clause-stands : goal.returns-clause-stands

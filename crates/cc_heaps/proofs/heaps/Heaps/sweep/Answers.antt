@@ -70,4 +70,5 @@ returns-clause-kept g c = record {
       (sweep-colours c.args.self.now.heap c.requires.closed c.requires.order.1.sound old);
   fresh = tt;
   suspected = tt;
+  marks = tt;
 }

@@ -9,6 +9,7 @@ use Rattle.cc_heaps.specs.Changes.{held_name}
 use Rattle.cc_heaps.proofs.Following.{within-named}
 use Rattle.cc_heaps.proofs.Kept.{KeepsKeys-on}
 use Rattle.cc_heaps.proofs.Moving.{number-same, slot-named, slots-touched}
+use Rattle.cc_heaps.proofs.MarksKept.{marks-changed, marks-then}
 use Rattle.cc_heaps.proofs.heaps.Heaps.take_out.Goals as goal
 
 pub touch_content-requires-clause-there : goal.touch_content-requires-clause-there
@@ -56,3 +57,6 @@ returns-clause-name c =
 
 pub returns-clause-order : goal.returns-clause-order
 returns-clause-order c owned o = c.replace_slot.ensures.order owned (c.touch_content.ensures.order owned o)
+
+pub returns-clause-marks : goal.returns-clause-marks
+returns-clause-marks c = marks-then c.touch_content.ensures.marks (marks-changed c.touch_content.new.self c.replace_slot.new.self _ c.replace_slot.ensures.heap)

@@ -6,6 +6,7 @@ use Rattle.cc_script.specs.Objects.{name_at}
 use Rattle.cc_heaps.specs.Changes.{held_name}
 use Rattle.cc_heaps.proofs.Content.{held-no_native}
 use Rattle.cc_heaps.proofs.Moving.{touched-exposed}
+use Rattle.cc_heaps.proofs.MarksKept.{marks-changed, marks-same}
 use Rattle.cc_heaps.proofs.heaps.Heaps.touch_content.Goals as goal
 
 pub returns-in-Some-Script-clause-heap : goal.returns-in-Some-Script-clause-heap
@@ -17,3 +18,12 @@ returns-in-Some-Script-clause-heap c =
     c.expose.ensures.heap
     ∙ (touched-exposed v.heap (name_at v.scripts key.0) (held-no_native f.0 v f.1 (Some (held.Script key)) refl)
     ∙ ap (λ (x : Option Held). touched v.heap (held_name v x)) (sym is))
+
+pub returns-in-Some-Native-clause-marks : goal.returns-in-Some-Native-clause-marks
+returns-in-Some-Native-clause-marks c = marks-changed c.args.self.now c.touch.new.self _ c.touch.ensures.heap
+
+pub returns-in-Some-Script-clause-marks : goal.returns-in-Some-Script-clause-marks
+returns-in-Some-Script-clause-marks c = c.expose.ensures.kept.marks
+
+pub returns-in-None-clause-marks : goal.returns-in-None-clause-marks
+returns-in-None-clause-marks c = marks-same c.args.self.now c.args.self.now refl refl

@@ -40,4 +40,5 @@ returns-clause-kept g c = record {
   colours = λ colours. (subst (λ (w : Keyed). HasColourInvariant (view w.heap)) (sym (returns-clause-heap g c)) ((unlink-colours c.requires.owned.0 c.args.self.now.heap (the_number c.args.self.now c.args.key.0) c.requires.owned.1.sound colours)));
   fresh = tt;
   suspected = tt;
+  marks = tt;
 }

@@ -45,6 +45,7 @@ returns-clause-kept g c = record {
   colours = subst (λ (w : Keyed). KeepsColours c.args.self.now.heap w.heap) (sym (returns-clause-heap g c)) ((goes_on g c).colours);
   fresh = tt;
   suspected = tt;
+  marks = tt;
 }
 
 pub returns-clause-tells : goal.returns-clause-tells

@@ -6,6 +6,7 @@ use Rattle.cc_heaps.proofs.Kept.{KeepsKeys-held}
 use Rattle.cc_heaps.proofs.EntriesFollow.{SetKeeps, entry-keeps}
 use Rattle.cc_heaps.proofs.EntriesSet.{becomes-unset, with_weak}
 use Rattle.cc_heaps.proofs.FewCounts.{few-owned}
+use Rattle.cc_heaps.proofs.MarksKept.{marks-same}
 use Rattle.cc_heaps.proofs.heaps.Heaps.unset_entry.Goals as goal
 
 pub returns-clause-heap : goal.returns-clause-heap
@@ -33,4 +34,5 @@ returns-clause-kept c = record {
   colours = (keeps c).colours;
   fresh = (keeps c).fresh_without refl;
   suspected = (keeps c).suspected;
+  marks = rw (← c.self.view_is) (marks-same (keyed_of c.self.inside) (keyed_of (with_weak c.self.inside c.unset.new.self)) refl refl);
 }
