@@ -15,10 +15,9 @@ use Rattle.cc_model.specs.Graph.{Graph, native_in, script_in}
 use Rattle.cc_model.specs.Reached.{edges_of, names_of}
 use Rattle.cc_model.specs.WellMade.{IsWellMade, was_made}
 use Rattle.cc_model.specs.StandsFor.{Shape, shape_in}
-use Rattle.cc_model.specs.Derivations.{leads_made}
+use Rattle.cc_model.specs.Derivations.{AreWithin, leads_made}
 use Rattle.cc_model.proofs.Joints.{Gives, its_value, its_key, joint-cases}
 use Rattle.cc_model.proofs.Reaching.{native-named, script-named}
-use Rattle.cc_model.proofs.Derivations.{AreWithin}
 use Rattle.cc_laws_heap.proofs.Shapes.{slots_of_shape, slots_in-graph, further_of, edges_of_some, edges_of-shape, proxy-found}
 use Rattle.cc_laws_heap.proofs.GraphParts.{is_some-found, reflector-made}
 use Rattle.cc_laws_heap.proofs.GraphReads.{slots_in-made}

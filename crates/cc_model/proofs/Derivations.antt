@@ -20,7 +20,7 @@ use Rattle.cc_model.specs.Answers.{Step}
 use Rattle.cc_model.specs.Slots.{Slots, contents}
 use Rattle.cc_model.specs.Entries.{Entry, Joint, joints_of, joints}
 use Rattle.cc_model.proofs.Reaching.{content-at}
-use Rattle.cc_model.specs.Derivations.{Leads, Walk, named, steps_of, is_found, with_step, with_bank, nothing_found, rooted, with_edges, with_joint, with_joints, is_member, with_entries, with_object, walked_first, walk, derivation, grounds, with_needed, needed_for, path_to, is_led_to}
+use Rattle.cc_model.specs.Derivations.{Leads, AreWithin, Walk, named, steps_of, is_found, with_step, with_bank, nothing_found, rooted, with_edges, with_joint, with_joints, is_member, with_entries, with_object, walked_first, walk, derivation, grounds, with_needed, needed_for, path_to, is_led_to}
 
 -- what holds a name in a register
 abbrev pub IsHeldBy : Leads → Reg → Name → Type 0
@@ -230,14 +230,6 @@ needed-front [] more x e = needed-none more x e
 needed-front (s ∷ front) more x e = ap (with_needed s) (needed-front front more x e)
 
 -- THE WALK ENDS
-
--- which names the steps can have
-pub record AreWithin (l : Leads) (names : List Name) : Type 0 where
-  pub natives : (x : Name) → Among x (contents l.native_registers) → Among x names
-  pub scripts : (x : Name) → Among x (contents l.script_registers) → Among x names
-  pub places : (y x : Name) → Among x (contents (l.places y)) → Among x names
-  pub joined : (j : Joint) → Among j (joints l.entries) → Among j.value names
-  pub enough : length names ≤ l.objects
 
 -- each name is one of them
 abbrev pub HasNamesOf : List Name → List Step → Type 0

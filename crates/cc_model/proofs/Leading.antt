@@ -19,14 +19,14 @@ use Rattle.cc_model.specs.declared.item.Reason.TheVariants.{Root, Edge, Pair}
 use Rattle.cc_model.specs.Answers.{Step}
 use Rattle.cc_model.specs.Slots.{Slots, contents}
 use Rattle.cc_model.specs.Entries.{Entry, Joint, joint, key_joint, joints_of, joints}
-use Rattle.cc_model.specs.Derivations.{Leads, Walk, named, steps_of, is_found, with_step, with_bank, nothing_found, rooted, with_edges, with_joint, with_joints, is_delegate, is_member, with_entries, with_object, walked_first, walk, derivation, is_led_to, leads_in}
+use Rattle.cc_model.specs.Derivations.{Leads, AreWithin, Walk, named, steps_of, is_found, with_step, with_bank, nothing_found, rooted, with_edges, with_joint, with_joints, is_delegate, is_member, with_entries, with_object, walked_first, walk, derivation, is_led_to, leads_in}
 use Rattle.cc_model.specs.Checks.{native_of, slots_or_none}
 use Rattle.cc_model.specs.Heap.{Heap, HeapNative, HeapScript, native_at, script_at}
 use Rattle.cc_model.specs.Places.{places_of_native, places_of_script, script_places_of, places_in}
 use Rattle.cc_model.specs.WellFormed.{IsWellFormed, native_names, script_names, names_there}
 use Rattle.cc_model.proofs.Places.{contents-last, script_place-cases}
 use Rattle.cc_model.proofs.Joints.{Gives, its_value, its_key, joint-cases}
-use Rattle.cc_model.proofs.Derivations.{AreSome, AreWithin, Follows, IsHeldBy, found-led, has-more, one_less-left, on_the_way-starts, rooted-walked, some-few, some-grows, steps-all, steps-step, walk-goes_on, walk-rests, walked_first-walked, with_step-found}
+use Rattle.cc_model.proofs.Derivations.{AreSome, Follows, IsHeldBy, found-led, has-more, one_less-left, on_the_way-starts, rooted-walked, some-few, some-grows, steps-all, steps-step, walk-goes_on, walk-rests, walked_first-walked, with_step-found}
 
 -- NOTHING ELSE is led to: what holds of what registers hold, and of what places and entries of its members give
 

@@ -1,6 +1,6 @@
 -- HOW THE REGISTERS REACH AN OBJECT: steps, each of which follows from a register or from steps before it.
-use Rattle.std.specs.Prelude.{ℕ, zero, suc, ◌+◌, Bool, true, false, ◌&&◌, ◌||◌, List, [], ◌∷◌, ◌++◌, map, length, Option, Some, None}
-use Rattle.cc_lists.specs.Members.{has}
+use Rattle.std.specs.Prelude.{ℕ, zero, suc, ◌+◌, ◌≤◌, Bool, true, false, ◌&&◌, ◌||◌, List, [], ◌∷◌, ◌++◌, map, length, Option, Some, None}
+use Rattle.cc_lists.specs.Members.{Among, has}
 use Rattle.cc_names.specs.declared.name.Name.{Name}
 use Rattle.cc_names.specs.declared.register.Reg.{Reg}
 use Rattle.cc_names.specs.declared.register.Reg.TheVariants.{N, S}
@@ -11,7 +11,7 @@ use Rattle.cc_model.specs.Answers.{Step, Answer, explaining}
 use Rattle.cc_model.specs.declared.item.Reply.{Reply}
 use Rattle.cc_model.specs.declared.item.Reply.TheVariants.{Done, Nothing}
 use Rattle.cc_model.specs.Slots.{Slots, contents}
-use Rattle.cc_model.specs.Entries.{Entry, Joint, joints_of}
+use Rattle.cc_model.specs.Entries.{Entry, Joint, joints_of, joints}
 use Rattle.cc_model.specs.Checks.{slots_or_none}
 use Rattle.cc_model.specs.Graph.{Graph}
 use Rattle.cc_model.specs.Heap.{Heap}
@@ -48,6 +48,14 @@ leads_in h = record {
   entries = h.entries;
   objects = length h.natives + length h.scripts;
 }
+
+-- THAT WHAT LEADS ON HAS THESE NAMES alone, and no more of them than objects
+pub record AreWithin (l : Leads) (names : List Name) : Type 0 where
+  pub natives : (x : Name) → Among x (contents l.native_registers) → Among x names
+  pub scripts : (x : Name) → Among x (contents l.script_registers) → Among x names
+  pub places : (y x : Name) → Among x (contents (l.places y)) → Among x names
+  pub joined : (j : Joint) → Among j (joints l.entries) → Among j.value names
+  pub enough : length names ≤ l.objects
 
 -- THE DERIVATION
 

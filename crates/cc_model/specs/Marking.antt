@@ -104,7 +104,7 @@ abbrev pub edges_unblack : NewMarks → List (Name × Name) → List (Name × Na
 edges_unblack m edges = filter (λ e. has same_name m.unblack e.0 && has same_name m.unblack e.1) edges
 
 abbrev pub exposure_rules_by_mark : Heap → NewMarks → Name → List (Rule Name)
-exposure_rules_by_mark h m x = system (filter (has same_name m.unblack) (x ∷ [])) (edges_unblack m (slots_of_scripts h)) []
+exposure_rules_by_mark h m x = system (filter (λ y. has same_name m.unblack y) (x ∷ [])) (edges_unblack m (slots_of_scripts h)) []
 
 abbrev pub blackened_by_mark : NewMarks → List Name → NewMarks
 blackened_by_mark m names = record m {

@@ -6,8 +6,8 @@ use Rattle.cc_names.specs.declared.name.Name.{Name}
 use Rattle.cc_names.specs.declared.register.Reg.TheVariants.{N, S}
 use Rattle.cc_names.specs.Names.{same_name}
 use Rattle.cc_model.specs.Answers.{Step}
-use Rattle.cc_model.specs.Derivations.{Leads, Walk, named, needed_for, nothing_found, steps_of, walked_first, with_bank, with_object}
-use Rattle.cc_model.proofs.Derivations.{AreWithin, IsOnTheWay, all-found, found-led, found-path, on_the_way-goes_on, on_the_way-starts, walked_first-walked}
+use Rattle.cc_model.specs.Derivations.{Leads, AreWithin, Walk, named, needed_for, nothing_found, steps_of, walked_first, with_bank, with_object}
+use Rattle.cc_model.proofs.Derivations.{IsOnTheWay, all-found, found-led, found-path, on_the_way-goes_on, on_the_way-starts, walked_first-walked}
 use Rattle.cc_search.specs.Found.{IsFirstWalked, IsIdle}
 use Rattle.cc_search.specs.Search.{HasEnded, has_sought}
 

@@ -2,8 +2,7 @@
 ghost use Rattle.std.specs.Prelude.{◌≡◌, ◌≤◌, ◌<◌, List, length, Option, None, Some, IsSome, slice_get, slice_index_or};
 ghost use Rattle.cc_names.specs.declared.name.Name.{Name as TheName};
 ghost use Rattle.cc_model.specs.Entries.{Entry};
-ghost use Rattle.cc_model.specs.Derivations.{Leads as TheLeads};
-ghost use Rattle.cc_model.proofs.Derivations.{AreWithin};
+ghost use Rattle.cc_model.specs.Derivations.{AreWithin, Leads as TheLeads};
 ghost use Rattle.cc_search.specs.Banks.{AreEmptyFrom, slots_in};
 ghost use Rattle.cc_search.specs.Members.{IsPlaceOf, place_below};
 ghost use Rattle.cc_search.specs.Named.{AreMembers, IsHeldAs};
