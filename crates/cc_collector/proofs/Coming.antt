@@ -114,11 +114,17 @@ module _ (v : Keyed) (c : Option Built) (r : RunsIn v c) where
 
   -- it comes to this, and tells this
   swept-by : (w : Keyed) (memory : List Bool) (d : UnitsDone) (t t₁ : Telling) → gc (with_memory (machine_of v.heap c) memory) ≡ then_scripts d → d.machine.snapshot ≡ None →
+      d.machine.weak ≡ (machine_of w.heap None).weak → d.machine.marking ≡ None →
       w.heap ≡ (collect_scripts d.machine.heap).heap → TellsEvents t t₁ (d.events ++ (collect_scripts d.machine.heap).events) → IsSwept (machine_of v.heap c) (machine_of w.heap None) t t₁
-  swept-by w memory d t t₁ is none heap told = record {
+  swept-by w memory d t t₁ is none weak marking heap told = record {
     memory = memory;
     led = record {
-      same = record { heap = ap (λ (e : UnitsDone). e.machine.heap) is ∙ sym heap; snapshot = ap (λ (e : UnitsDone). e.machine.snapshot) is ∙ none };
+      same = record {
+        heap = ap (λ (e : UnitsDone). e.machine.heap) is ∙ sym heap;
+        weak = ap (λ (e : UnitsDone). e.machine.weak) is ∙ weak;
+        marking = ap (λ (e : UnitsDone). e.machine.marking) is ∙ marking;
+        snapshot = ap (λ (e : UnitsDone). e.machine.snapshot) is ∙ none;
+      };
       came_to = refl;
       told = subst (TellsEvents t t₁) (sym (ap (λ (e : UnitsDone). e.events) is)) told;
       spares = gc-spares v c r memory;
@@ -132,7 +138,7 @@ module _ (v : Keyed) (c : Option Built) (r : RunsIn v c) where
       TellsEvents t₁ t₂ (collect_scripts m.heap).events → IsSwept (machine_of v.heap c) (machine_of w.heap None) t t₂
   swept-after m w p t t₁ t₂ some a heap told =
       swept-by w (a.stopped.memory []) (units_came (machine_of m.heap None) a.events p) t t₂
-      (gc-after (machine_of v.heap c) (machine_of m.heap None) a.events p a.stopped (some-runs v.heap c some)) refl heap
+      (gc-after (machine_of v.heap c) (machine_of m.heap None) a.events p a.stopped (some-runs v.heap c some)) refl refl refl heap
       (TellsEvents-trans t t₁ t₂ a.events (collect_scripts m.heap).events a.told told)
 
   -- where none runs
@@ -140,7 +146,7 @@ module _ (v : Keyed) (c : Option Built) (r : RunsIn v c) where
       IsSwept (machine_of v.heap c) (machine_of w.heap None) t t₁
   swept-alone w t t₁ none heap told =
       let idle : (machine_of v.heap c).snapshot ≡ None = ap (λ (d : Option Built). (machine_of v.heap d).snapshot) none in
-      swept-by w [] (units_came (machine_of v.heap c) [] went_on) t t₁ (gc-alone (machine_of v.heap c) idle) idle heap told
+      swept-by w [] (units_came (machine_of v.heap c) [] went_on) t t₁ (gc-alone (machine_of v.heap c) idle) idle refl refl heap told
 
   -- so it is after a running one was finished, if any,
   pub swept : (m w : Keyed) (t t₁ t₂ : Telling) → HasFinished v c m t t₁ → w.heap ≡ (collect_scripts m.heap).heap → TellsEvents t₁ t₂ (collect_scripts m.heap).events →

@@ -56,6 +56,7 @@ Keeps-then v c w d u e a b = record {
     colours = λ colours. b.kept.colours (a.kept.colours colours);
     fresh = tt;
     suspected = tt;
+    marks = tt;
   };
 }
 
@@ -107,6 +108,8 @@ begin-done v w b t r e s runs stands suspected = record {
   unit = record {
     memory = true;
     is = unit-granted v.heap None ∙ (ap (λ (h : Heap). going_on h (begun v.heap)) (sym (ap (λ (k : Keyed). k.heap) e)) ∙ ap (going_on w.heap) (sym s));
+    weak = refl;
+    marking = refl;
   };
   told = Tells-nil t;
   keeps = record {
@@ -128,7 +131,7 @@ begin-done v w b t r e s runs stands suspected = record {
 pub begin-refused : (v : Keyed) (t t₁ : Telling) → RunsIn v None → may_be_refused v.heap None ≡ true → TellsEvents t t₁ (Abandoned ∷ []) → HasDoneUnit v None v None refused t t₁
 begin-refused v t t₁ r asks told = record {
   events = Abandoned ∷ [];
-  unit = record { memory = false; is = unit-refused v.heap None asks };
+  unit = record { memory = false; is = unit-refused v.heap None asks; weak = refl; marking = refl };
   told = told;
   keeps = Keeps-nothing v None r;
   fewer = λ e. cc;
@@ -144,6 +147,8 @@ node-done v b d t r u goes candidates next = record {
     memory = true;
     is = unit-granted v.heap (Some (snapshot_of b))
         ∙ (ap (node_or_end v.heap (snapshot_of b)) u.first_one ∙ ap (going_on v.heap) (sym u.after));
+    weak = refl;
+    marking = refl;
   };
   told = Tells-nil t;
   keeps = record {
@@ -171,6 +176,8 @@ node-refused v w b ks t t₁ r asks candidates e runs stands suspected told = re
     memory = false;
     is = unit-refused v.heap (Some (snapshot_of b)) asks
         ∙ ap (λ (h : Heap). unit_came h None (Abandoned ∷ []) refused) (ap (λ (js : List ℕ). give_back js v.heap) (sym candidates) ∙ sym (ap (λ (k : Keyed). k.heap) e));
+    weak = refl;
+    marking = refl;
   };
   told = told;
   keeps = record {
@@ -207,6 +214,8 @@ module _ (v : Keyed) (b : Built) (g : Shown) (r : RunsIn v (Some b)) (traversed 
           ∙ (ap (node_or_end v.heap (snapshot_of b)) traversed
           ∙ (ap (λ (ks : List ℕ). unit_came (take_away ks v.heap).heap None (take_away ks v.heap).events at_end) (sym whites)
           ∙ ap (λ (h : Heap). unit_came h None (take_away (whites_of g v.heap) v.heap).events at_end) (sym heap)));
+      weak = refl;
+      marking = refl;
     };
     told = told;
     keeps = record {

@@ -69,6 +69,7 @@ kept-then u v w t t₁ well well_now told a b = record {
   colours = λ colours. b.colours (a.colours colours);
   fresh = tt;
   suspected = tt;
+  marks = tt;
 }
 
 -- `gc`, a collection that was not refused, and `gc`

@@ -15,10 +15,12 @@ use Rattle.cc_builder.specs.Building.{Built}
 use Rattle.cc_collector.specs.Kept.{ForgetsNothing, RunsIn, machine_of}
 use Rattle.cc_collector.specs.Collected.{units_counted}
 
--- ONE UNIT leads from one machine to another, for some answer of memory
+-- ONE UNIT leads from one machine to another, for some answer of memory; it leaves what stands beside the heaps
 pub record IsUnit (old new : Machine) (events : List Event) (progress : Progress) : Type 0 where
   pub memory : Bool
   pub is : unit old.heap old.snapshot memory ≡ unit_came new.heap new.snapshot events progress
+  pub weak : new.weak ≡ old.weak
+  pub marking : new.marking ≡ old.marking
 
 -- SO MANY UNITS WENT ON: with any later answers of memory there are answers that lead here, and what follows follows
 pub record HasGoneOn (so_far : ℕ) (before now : Machine) : Type 0 where

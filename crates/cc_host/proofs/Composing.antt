@@ -16,6 +16,7 @@ use Rattle.cc_heaps.specs.Changes.{KeepsKeys}
 use Rattle.cc_heaps.specs.Keeping.{KeepsAll}
 use Rattle.cc_heaps.specs.Leaving.{NoneCame, NothingLeft, TellsWhatIsFreed, freed}
 use Rattle.cc_heaps.specs.Standing.{StandsAfter}
+use Rattle.cc_heaps.proofs.MarksKept.{marks-then}
 use Rattle.cc_host.specs.Changes.{IsReady, IsChange, IsTried}
 use Rattle.cc_host.proofs.KeptDoomed.{doomed-then}
 
@@ -55,6 +56,7 @@ KeepsAll-with a b c keys s t = record {
   colours = λ k. t.colours (s.colours k);
   fresh = λ x k. t.fresh x (s.fresh x k);
   suspected = λ x k. t.suspected x (s.suspected x k);
+  marks = marks-then s.marks t.marks;
 }
 
 pub KeepsAll-then : (a b c : Keyed) → IsInOrder [] a → NoneCame b.heap c.heap → KeepsAll a b → KeepsAll b c → KeepsAll a c

@@ -151,7 +151,7 @@ module _ (h : Hosted) (r : RunsIn h.heaps h.running) (memory : List Bool) where
 
   -- beside a graph
   abbrev beside : Graph → State
-  beside g = state_of g (names_there h.heaps.heap)
+  beside g = state_of g (names_there h.heaps.heap) []
 
   -- it runs beside each graph that its heaps stand for
   is-running : (g : IsOfAGraph h) → IsRunning plain (beside g.0)

@@ -17,8 +17,10 @@ use Rattle.cc_model.proofs.Tellings.{Tells-nil}
 use Rattle.cc_laws_heap.proofs.Face.{IsTaken, IsTaken-from}
 use Rattle.cc_heaps.specs.Keyed.{Keyed, IsInOrder, left_with}
 use Rattle.cc_heaps.specs.Changes.{KeepsKeys}
+use Rattle.cc_heaps.specs.Marks.{KeepsMarks}
 use Rattle.cc_mutator.specs.Commands.{IsAnswered, IsApplied, IsNamed, IsTakenUp}
 use Rattle.cc_heaps.proofs.KeysKept.{KeepsKeys-left, KeepsKeys-same}
+use Rattle.cc_heaps.proofs.MarksKept.{marks-left, marks-same}
 
 -- Replies
 
@@ -37,17 +39,22 @@ done-not_refused r e = grind arith
 pub name-not_refused : (x : Name) (r : Refusal) → Named x ≢ Refused r
 name-not_refused x r e = grind arith
 
+-- where nothing changed, a marking is left as it is
+marks-still : (v w : Keyed) → w ≡ v → KeepsMarks v w
+marks-still v w e = marks-same v w (ap (λ (u : Keyed). u.marking) e) (ap (λ (u : Keyed). u.scripts) e)
+
 module _ (d : Deed) (answer : Reply) (old new : Keyed) (reply : Reply) (before after : Telling) where
   -- A DEED THAT IS DONE
   pub answered-done : (may_lack : Bool) → reply ≡ answer → answer ≢ Refused NoMemory → new.heap ≡ (done_in old.heap d).heap → TellsEvents before after (done_in old.heap d).events →
-      KeepsKeys old new → ((owned : List ℕ) → IsInOrder owned old → IsInOrder owned new) → IsAnswered d answer may_lack old new reply before after
-  answered-done may_lack is n h t k o = record {
+      KeepsKeys old new → ((owned : List ℕ) → IsInOrder owned old → IsInOrder owned new) → KeepsMarks old new → IsAnswered d answer may_lack old new reply before after
+  answered-done may_lack is n h t k o marks = record {
     answered = λ m. is;
     heap = λ m. h;
     told = λ m. t;
     memory = λ e. absurd (n (sym is ∙ e));
     keys = k;
     order = o;
+    marks = marks;
   }
 
   -- where some natives are no more
@@ -55,7 +62,7 @@ module _ (d : Deed) (answer : Reply) (old new : Keyed) (reply : Reply) (before a
       ((owned : List ℕ) → IsInOrder owned old → IsInOrder owned new) → IsAnswered d answer false old new reply before after
   answered-left o does is n h t order =
       answered-done false is n (ap (λ (v : Keyed). v.heap) h ∙ sym (ap (λ (p : Outcome). p.heap) does)) (subst (λ (p : Outcome). TellsEvents before after p.events) (sym does) t)
-      (KeepsKeys-left old new o.heap h) order
+      (KeepsKeys-left old new o.heap h) order (marks-left old new o.heap h)
 
   -- where it lacks memory
   pub answered-denied : (may_lack : Bool) → may_lack ≡ true → reply ≡ Refused NoMemory → new ≡ old → after ≡ before → IsAnswered d answer may_lack old new reply before after
@@ -66,13 +73,15 @@ module _ (d : Deed) (answer : Reply) (old new : Keyed) (reply : Reply) (before a
     memory = λ e. (lacks, same, quiet);
     keys = subst (KeepsKeys old) (sym same) (KeepsKeys-same old);
     order = λ owned o. subst (IsInOrder owned) (sym same) o;
+    marks = marks-still old new same;
   }
 
 -- where it tells nothing
 pub answered-silently : (d : Deed) (answer : Reply) (old new : Keyed) (reply : Reply) (t : Telling) (may_lack : Bool) (h : Heap) → done_in old.heap d ≡ silently h → reply ≡ answer →
-    answer ≢ Refused NoMemory → new.heap ≡ h → KeepsKeys old new → ((owned : List ℕ) → IsInOrder owned old → IsInOrder owned new) → IsAnswered d answer may_lack old new reply t t
-answered-silently d answer old new reply t may_lack h does is n e k o =
-    answered-done d answer old new reply t t may_lack is n (e ∙ sym (ap (λ (p : Outcome). p.heap) does)) (subst (λ (p : Outcome). TellsEvents t t p.events) (sym does) (Tells-nil t)) k o
+    answer ≢ Refused NoMemory → new.heap ≡ h → KeepsKeys old new → ((owned : List ℕ) → IsInOrder owned old → IsInOrder owned new) → KeepsMarks old new →
+    IsAnswered d answer may_lack old new reply t t
+answered-silently d answer old new reply t may_lack h does is n e k o marks =
+    answered-done d answer old new reply t t may_lack is n (e ∙ sym (ap (λ (p : Outcome). p.heap) does)) (subst (λ (p : Outcome). TellsEvents t t p.events) (sym does) (Tells-nil t)) k o marks
 
 -- by what is held
 pub named-as : (deed : Option Name → Deed) (x y : Option Name) (old new : Keyed) (reply : Reply) (before after : Telling) → x ≡ y → IsNamed (deed x) x old new reply before after →
@@ -82,7 +91,7 @@ named-as deed x y old new reply before after e a = subst (λ z. IsNamed (deed z)
 module _ (c : Command) (old new : Keyed) (reply : Reply) (before after : Telling) where
   -- A COMMAND THAT IS REFUSED
   pub applied-refused : (r : Refusal) → refusal_of (objects_of old.heap) c ≡ Some r → reply ≡ Refused r → new ≡ old → after ≡ before → IsApplied c old new reply before after
-  applied-refused r refuses is same quiet = grind (arith, refused-not_memory, KeepsKeys-same)
+  applied-refused r refuses is same quiet = grind (arith, refused-not_memory, KeepsKeys-same, marks-still)
 
   -- one that is not
   pub applied-taken : refusal_of (objects_of old.heap) c ≡ None → IsTakenUp c old new reply before after → IsApplied c old new reply before after
@@ -93,6 +102,7 @@ module _ (c : Command) (old new : Keyed) (reply : Reply) (before after : Telling
     memory = λ e. let f = a.memory e in (none, f.0, f.1, f.2);
     keys = a.keys;
     order = a.order;
+    marks = a.marks;
   }
 
 -- what is known of it

@@ -16,6 +16,7 @@ use Rattle.cc_counted.specs.declared.held.Held.{Held}
 use Rattle.cc_counted.specs.declared.held.Held.TheVariants as held
 use Rattle.cc_heaps.specs.Keyed.{Keyed, IsInOrder}
 use Rattle.cc_heaps.specs.Changes.{KeepsKeys}
+use Rattle.cc_heaps.specs.Marks.{KeepsMarks}
 use Rattle.cc_mutator.specs.Applied.{IsCarriedOut}
 
 -- A DEED IS ANSWERED: it is done, and answered so; or, where it may lack memory, it does, and nothing changes.
@@ -26,6 +27,7 @@ pub record IsAnswered (d : Deed) (answer : Reply) (may_lack : Bool) (old new : K
   pub memory : reply ≡ Refused no_memory → (may_lack ≡ true) × (new ≡ old) × (after ≡ before)
   pub keys : KeepsKeys old new
   pub order : (owned : List ℕ) → IsInOrder owned old → IsInOrder owned new
+  pub marks : KeepsMarks old new
 
 -- a deed that takes no memory
 abbrev pub IsDone : Deed → Keyed → Keyed → Reply → Telling → Telling → Type 0
@@ -47,6 +49,7 @@ pub record IsApplied (c : Command) (old new : Keyed) (reply : Reply) (before aft
       (refusal_of (objects_of old.heap) c ≡ None) × (takes_memory old.heap c ≡ true) × (new ≡ old) × (after ≡ before)
   pub keys : KeepsKeys old new
   pub order : (owned : List ℕ) → IsInOrder owned old → IsInOrder owned new
+  pub marks : KeepsMarks old new
 
 -- Contents of one kind alone
 

@@ -41,6 +41,7 @@ fn empty<N: Notices>(heaps: &mut Heaps, r: Reg, out: &mut N) -> Reply
     match r {
         Reg::N(k) => drop_native(heaps, k, out),
         Reg::S(k) => drop_script(heaps, k),
+        Reg::W(_) => unreachable!(),
     }
 }
 
@@ -55,6 +56,7 @@ fn get<N: Notices>(heaps: &mut Heaps, d: Reg, s: RegNo, i: u32, out: &mut N) -> 
     match d {
         Reg::N(k) => get_native(heaps, k, s, i, out),
         Reg::S(k) => get_script(heaps, k, s, i),
+        Reg::W(_) => unreachable!(),
     }
 }
 

@@ -35,7 +35,7 @@ fn script_slots(heaps: &Heaps, r: RegNo) -> SlotNo
     }
 }
 
-/// How many slots the object in a register of either kind has; 0 where the register is empty.
+/// How many slots the object in a register has; 0 where the register is empty, as a weak register reads.
 pub(crate) fn slots(heaps: &Heaps, r: Reg) -> SlotNo
     requires { (owned : List ℕ) × IsInOrder owned heaps.now }
     ensures { result ≡ length (slots_at (objects_of heaps.now.heap) r) }
@@ -43,6 +43,7 @@ pub(crate) fn slots(heaps: &Heaps, r: Reg) -> SlotNo
     match r {
         Reg::N(k) => native_slots(heaps, k),
         Reg::S(k) => script_slots(heaps, k),
+        Reg::W(_) => 0,
     }
 }
 
@@ -127,7 +128,7 @@ pub(crate) fn as_script(content: Option<Held>) -> Option<SKey>
     }
 }
 
-/// What a register of either kind holds.
+/// What a register holds; a weak register reads as empty.
 pub(crate) fn register_content(heaps: &Heaps, r: Reg) -> Option<Held>
     ensures name { held_name heaps.now result ≡ register heaps.now.heap r }
     ensures there { IsThere heaps.now result }
@@ -135,6 +136,7 @@ pub(crate) fn register_content(heaps: &Heaps, r: Reg) -> Option<Held>
     match r {
         Reg::N(k) => Held::of_native(heaps.native_reg(k)),
         Reg::S(k) => of_script(heaps.script_reg(k)),
+        Reg::W(_) => None,
     }
 }
 

@@ -31,7 +31,7 @@ IsDoneFor-same m k n ask a same d = grind arith
 -- one more ask
 AreDoneFor-more : (m k n : Machine) (asks : List Ask) (answers : List Answer) (ask : Ask) (a : Answer) →
     AreDoneFor m asks answers k → IsDoneFor k ask a n → AreDoneFor m (asks ++ ask ∷ []) (answers ++ a ∷ []) n
-AreDoneFor-more m k n [] [] ask a same d = (n, IsDoneFor-same m k n ask a same d, record { heap = refl; snapshot = refl })
+AreDoneFor-more m k n [] [] ask a same d = (n, IsDoneFor-same m k n ask a same d, record { heap = refl; weak = refl; marking = refl; snapshot = refl })
 AreDoneFor-more m k n [] (b ∷ bs) ask a done d = absurd done
 AreDoneFor-more m k n (x ∷ xs) [] ask a done d = absurd done
 AreDoneFor-more m k n (x ∷ xs) (b ∷ bs) ask a done d = (done.0, done.1, AreDoneFor-more done.0 k n xs bs ask a done.2 d)
@@ -42,7 +42,7 @@ all_items_of-more answers a = flat_map-append items_of answers (a ∷ []) ∙ ap
 
 -- no line is answered yet
 AreAnswered-none : (v : Dialect) (k : Machine) (t : Telling) → AreAnswered v v k k [] t t
-AreAnswered-none v k t = record { answers = []; done = record { heap = refl; snapshot = refl }; in_range = refl; told = Tells-nil t; next = refl }
+AreAnswered-none v k t = record { answers = []; done = record { heap = refl; weak = refl; marking = refl; snapshot = refl }; in_range = refl; told = Tells-nil t; next = refl }
 
 -- ONE MORE LINE IS ANSWERED
 AreAnswered-more : (v₀ v₁ v₂ : Dialect) (k₀ k₁ k₂ : Machine) (lines : List (List ℕ)) (line : List ℕ) (t₀ t₁ t₂ : Telling) →

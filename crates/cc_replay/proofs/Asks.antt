@@ -25,11 +25,11 @@ ask_of-long v line above = ap (λ b. elim b as (λ _. Ask) [ true ↦ long | fal
 -- a line that is too long, and one that is not in the grammar, change nothing
 IsDoneFor-long : (m : Machine) → IsDoneFor m long (replying [] (Refused Long)) m
 unfolding do_ask
-IsDoneFor-long m = record { memory = []; answer = refl; after = record { heap = refl; snapshot = refl } }
+IsDoneFor-long m = record { memory = []; answer = refl; after = record { heap = refl; weak = refl; marking = refl; snapshot = refl } }
 
 IsDoneFor-bad : (m : Machine) → IsDoneFor m bad (replying [] (Refused Line)) m
 unfolding do_ask
-IsDoneFor-bad m = record { memory = []; answer = refl; after = record { heap = refl; snapshot = refl } }
+IsDoneFor-bad m = record { memory = []; answer = refl; after = record { heap = refl; weak = refl; marking = refl; snapshot = refl } }
 
 -- so it is answered by its refusal alone
 answered-as : {ask : Ask} (answer : Answer) (v w : Dialect) (m : Machine) (line : List ℕ) {before after : Telling} → ask_of v line ≡ ask → IsDoneFor m ask answer m →

@@ -1,6 +1,6 @@
 -- THE ANSWER TO AN ASK, by what the plain run does.
 use Rattle.std.specs.Prelude.{IsTrue}
-use Rattle.std.proofs.Common.{◌≡◌, ◌≢◌, ℕ, Bool, true, false, List, [], ◌∷◌, ◌++◌, map, length, Option, Some, None, refl, sym, ◌∙◌, ap, subst, arith}
+use Rattle.std.proofs.Common.{◌≡◌, ◌≢◌, ℕ, Bool, true, false, List, [], ◌∷◌, ◌++◌, map, length, Option, Some, None, option_map, refl, sym, ◌∙◌, ap, subst, arith}
 use Rattle.cc_names.specs.declared.name.Name.{Name}
 use Rattle.cc_model.specs.declared.command.Command.{Command}
 use Rattle.cc_model.specs.declared.command.Command.TheVariants as command
@@ -12,13 +12,16 @@ use Rattle.cc_model.specs.declared.item.Reply.TheVariants.{Refused, Census, Done
 use Rattle.cc_model.specs.Telling.{Telling, Tells}
 use Rattle.cc_model.specs.Answers.{items_of, item_of_step}
 use Rattle.cc_model.specs.Derivations.{leads_in, path_to, is_led_to, done_or_nothing}
+use Rattle.cc_model.specs.Ranges.{in_range}
 use Rattle.cc_model.specs.Mutating.{is_applied, Class, Saying, path, census, says, does, class_of, is_deed, takes_memory_to_say}
 use Rattle.cc_model.specs.Asks.{taken}
 use Rattle.cc_model.specs.Checks.{refusal_of, reply_if_taken}
+use Rattle.cc_model.specs.Deeds.{deed_of}
 use Rattle.cc_model.specs.Heap.{objects_of}
 use Rattle.cc_model.specs.Effects.{effects, takes_memory}
+use Rattle.cc_model.specs.Marking.{marking_after}
 use Rattle.cc_model.specs.Lawful.{is_without_memory}
-use Rattle.cc_model.specs.Run.{Turn, answering, with_effects, if_granted, unless_refused, mutate, census_names, do_ask, turn_of, said, do_class}
+use Rattle.cc_model.specs.Run.{Turn, answering, with_effects, beside_deed, if_granted, unless_refused, mutate, census_names, do_ask, turn_of, said, do_class}
 use Rattle.cc_model.specs.Collecting.{Machine, UnitsDone, slice, collect, gc, reply_to_units}
 use Rattle.cc_model.specs.End.{Progress}
 use Rattle.cc_model.proofs.Replies.{is_without_memory-true}
@@ -29,11 +32,12 @@ use Rattle.cc_replay.specs.Answered.{IsAnswered}
 use Rattle.cc_builder.specs.Building.{Built}
 use Rattle.cc_collector.specs.Kept.{machine_of}
 use Rattle.cc_collector.specs.Collected.{LedTo, IsSliced, IsCollected, IsSwept}
-use Rattle.cc_laws_run.specs.Memory.{with_memory}
+use Rattle.cc_laws_run.specs.Memory.{SameMachine, with_memory}
+use Rattle.cc_laws_run.proofs.Spoken.{deed-leaves_weak}
 
--- A command is one of the mutator, where it is none of these
-pub others-applied : (c : Command) → c ≢ command.Nothing → c ≢ command.Version2 → ((x : Name) → c ≢ command.Why x) → c ≢ command.Census → ((u : ℕ) → c ≢ command.Slice u) → c ≢ command.Collect → c ≢ command.Gc → IsTrue (is_applied c)
-others-applied c no_line no_version no_why no_census no_slice no_collect no_gc = grind arith
+-- A command that a line asks is one of the mutator, where it is none of these
+pub others-applied : (c : Command) → IsTrue (in_range c) → c ≢ command.Nothing → c ≢ command.Version2 → ((x : Name) → c ≢ command.Why x) → c ≢ command.Census → ((u : ℕ) → c ≢ command.Slice u) → c ≢ command.Collect → c ≢ command.Gc → IsTrue (is_applied c)
+others-applied c range no_line no_version no_why no_census no_slice no_collect no_gc = grind arith
 
 -- the plain run does what the class of a command does
 class-done : (m : Machine) (c : Command) (k : Class) → class_of c ≡ k → do_ask m (taken c) ≡ do_class m c k
@@ -53,7 +57,7 @@ mutate-by m c o e = ap (unless_refused m c) e
 
 -- what a command of the mutator makes of a machine with these heaps
 abbrev mutating : Machine → Command → Machine → Turn
-mutating m c n = with_effects n (reply_if_taken (objects_of m.heap) c) (effects m.heap c)
+mutating m c n = with_effects (beside_deed n (deed_of (objects_of m.heap) c)) (reply_if_taken (objects_of m.heap) c) (effects m.heap c)
 
 -- where memory is there
 granted : (m : Machine) (takes : Bool) (done : Machine → Turn) → if_granted (with_memory m []) takes done ≡ done (with_memory m [])
@@ -68,21 +72,40 @@ denied m false done e = absurd (cc)
 
 module _ (old new : Machine) (before after : Telling) where
   -- by the turn
-  by_turn : (c : Command) (memory : List Bool) (t : Turn) → do_ask (with_memory old memory) (taken c) ≡ t → t.machine.heap ≡ new.heap → t.machine.snapshot ≡ new.snapshot →
+  by_turn : (c : Command) (memory : List Bool) (t : Turn) → do_ask (with_memory old memory) (taken c) ≡ t → SameMachine t.machine new →
       Tells before after (items_of t.answer) → IsAnswered old new (taken c) before after
-  by_turn c memory t e h s told = grind arith
+  by_turn c memory t e same told = record {
+    answer = t.answer;
+    done = record {
+      memory = memory;
+      answer = ap (λ (s : Turn). s.answer) e;
+      after = subst (λ (s : Turn). SameMachine s.machine new) (sym e) same;
+    };
+    told = told;
+  }
 
-  module _ (c : Command) (applied : IsTrue (is_applied c)) (same_snapshot : new.snapshot ≡ old.snapshot) where
-    -- a command of the mutator carried out
+  module _ (c : Command) (range : IsTrue (in_range c)) (applied : IsTrue (is_applied c)) (idle : old.marking ≡ None)
+      (same_weak : new.weak ≡ old.weak) (same_marking : new.marking ≡ old.marking) (same_snapshot : new.snapshot ≡ old.snapshot) where
+    -- a command of the mutator carried out: no line writes a weak register yet, and no marking goes on
     answered-done : (mid : Telling) (r : Reply) → refusal_of (objects_of old.heap) c ≡ None →
         IsCarriedOut c old.heap new.heap r before mid → Tells mid after (of_reply r ∷ []) → IsAnswered old new (taken c) before after
     answered-done mid r none d t =
         let m = with_memory old [] in
-        by_turn c [] (with_effects m (reply_if_taken (objects_of old.heap) c) (effects old.heap c))
+        let deed = deed_of (objects_of old.heap) c in
+        by_turn c [] (with_effects (beside_deed m deed) (reply_if_taken (objects_of old.heap) c) (effects old.heap c))
         (applied-mutates m c applied ∙ (mutate-by m c None none ∙ granted old (takes_memory old.heap c) (mutating old c)))
-        (sym d.heap) (sym same_snapshot)
+        (record {
+          heap = sym d.heap;
+          weak = deed-leaves_weak (objects_of old.heap) c old.weak range ∙ sym same_weak;
+          marking = ap (option_map (marking_after old.heap deed)) idle ∙ (sym idle ∙ sym same_marking);
+          snapshot = sym same_snapshot;
+        })
         (subst (λ (x : Reply). Tells before after (map of_event (effects old.heap c).events ++ of_reply x ∷ [])) d.reply_is
         (Tells-trans before mid after (map of_event (effects old.heap c).events) (of_reply r ∷ []) d.told t))
+
+    -- nothing changed
+    same-machine : (memory : List Bool) → new.heap ≡ old.heap → SameMachine (with_memory old memory) new
+    same-machine memory same = record { heap = sym same; weak = sym same_weak; marking = sym same_marking; snapshot = sym same_snapshot }
 
     -- refused memory
     answered-denied : refusal_of (objects_of old.heap) c ≡ None → takes_memory old.heap c ≡ true → new.heap ≡ old.heap →
@@ -90,7 +113,7 @@ module _ (old new : Machine) (before after : Telling) where
     answered-denied none takes same t =
         by_turn c (false ∷ []) (answering (with_memory old []) [] (Refused NoMemory))
         (applied-mutates (with_memory old (false ∷ [])) c applied ∙ (mutate-by (with_memory old (false ∷ [])) c None none ∙ denied old (takes_memory old.heap c) (mutating old c) takes))
-        (sym same) (sym same_snapshot)
+        (same-machine [] same)
         t
 
     -- refused by the checks
@@ -99,13 +122,14 @@ module _ (old new : Machine) (before after : Telling) where
     answered-refused r e same t =
         by_turn c [] (answering (with_memory old []) [] (Refused r))
         (applied-mutates (with_memory old []) c applied ∙ mutate-by (with_memory old []) c (Some r) e)
-        (sym same) (sym same_snapshot)
+        (same-machine [] same)
         t
 
   -- what units came to, answered by a reply
   answered-units : (c : Command) (memory : List Bool) (d : UnitsDone) (p : Progress) (reply : Reply) (mid : Telling) → LedTo d old new p before mid →
       do_ask (with_memory old memory) (taken c) ≡ answering d.machine d.events reply → Tells mid after (of_reply reply ∷ []) → IsAnswered old new (taken c) before after
-  answered-units c memory d p reply mid led e t = search (by_turn, Tells-trans)
+  answered-units c memory d p reply mid led e t = by_turn c memory (answering d.machine d.events reply) e led.same
+      (Tells-trans before mid after (map of_event d.events) (of_reply reply ∷ []) led.told t)
 
   -- a slice
   pub answered-slice : (units : ℕ) (p : Progress) (steps steps_now : ℕ) (reply : Reply) (mid : Telling) → IsSliced units old new p steps steps_now before mid →
@@ -130,17 +154,21 @@ module _ (old new : Machine) (before after : Telling) where
       let d = gc (with_memory old s.memory) in
       answered-units command.Gc s.memory d d.progress Done mid s.led refl t
 
+-- what stays is the same machine
+same-still : (m : Machine) (memory : List Bool) → SameMachine (with_memory m memory) m
+same-still m memory = record { heap = refl; weak = refl; marking = refl; snapshot = refl }
+
 -- WHAT IS SAID, where there is memory
 pub answered-said : (m : Machine) (c : Command) (q : Saying) (before after : Telling) → class_of c ≡ says q → Tells before after (items_of (said m.heap q)) →
     IsAnswered m m (taken c) before after
 answered-said m c q before after is t = by_turn m m before after c [] (turn_of (with_memory m []) (said m.heap q))
-    (class-done (with_memory m []) c (says q) is ∙ granted m (takes_memory_to_say q) (λ n. turn_of n (said m.heap q))) refl refl t
+    (class-done (with_memory m []) c (says q) is ∙ granted m (takes_memory_to_say q) (λ n. turn_of n (said m.heap q))) (same-still m []) t
 
 -- `why`, where there is none
 pub answered-no_memory : (m : Machine) (x : Name) (before after : Telling) → Tells before after (of_reply (Refused NoMemory) ∷ []) →
     IsAnswered m m (taken (command.Why x)) before after
 answered-no_memory m x before after t = by_turn m m before after (command.Why x) (false ∷ []) (answering (with_memory m []) [] (Refused NoMemory))
-    (class-done (with_memory m (false ∷ [])) (command.Why x) (says (path x)) refl) refl refl t
+    (class-done (with_memory m (false ∷ [])) (command.Why x) (says (path x)) refl) (same-still m []) t
 
 -- `why`, where there is memory
 pub answered-why : (m : Machine) (x : Name) (before mid after : Telling) → Tells before mid (map item_of_step (path_to (leads_in m.heap) x)) →
@@ -155,12 +183,12 @@ answered-census m before mid after listed t = answered-said m command.Census cen
     (Tells-trans before mid after (map Listed (census_names m.heap)) (of_reply (Census (length (census_names m.heap))) ∷ []) listed t)
 
 -- A COMMAND OF THE MUTATOR, by what applying it gives, and its reply
-pub answered-applied : (c : Command) → IsTrue (is_applied c) → (old new : Keyed) (kept : Option Built) (before mid after : Telling) (r : Reply) →
+pub answered-applied : (c : Command) → IsTrue (in_range c) → IsTrue (is_applied c) → (old new : Keyed) (kept : Option Built) (before mid after : Telling) (r : Reply) →
     ((cause : Refusal) → refusal_of (objects_of old.heap) c ≡ Some cause → (r ≡ Refused cause) × (new ≡ old) × (mid ≡ before)) →
     (refusal_of (objects_of old.heap) c ≡ None → r ≢ Refused NoMemory → IsCarriedOut c old.heap new.heap r before mid) →
     (r ≡ Refused NoMemory → (refusal_of (objects_of old.heap) c ≡ None) × (takes_memory old.heap c ≡ true) × (new ≡ old) × (mid ≡ before)) →
     Tells mid after (of_reply r ∷ []) → IsAnswered (machine_of old.heap kept) (machine_of new.heap kept) (taken c) before after
-answered-applied c applied old new kept before mid after r refused done memory t = by_checks (refusal_of (objects_of old.heap) c) refl
+answered-applied c range applied old new kept before mid after r refused done memory t = by_checks (refusal_of (objects_of old.heap) c) refl
   where
     -- nothing was told before the reply
     after_reply : (s : Reply) → r ≡ s → mid ≡ before → Tells before after (of_reply s ∷ [])
@@ -170,12 +198,12 @@ answered-applied c applied old new kept before mid after r refused done memory t
     by_memory none true e =
         let is : r ≡ Refused NoMemory = is_without_memory-true r e in
         let m = memory is in
-        answered-denied (machine_of old.heap kept) (machine_of new.heap kept) before after c applied refl m.0 m.1 (ap (λ (v : Keyed). v.heap) m.2) (after_reply (Refused NoMemory) is m.3)
-    by_memory none false e = answered-done (machine_of old.heap kept) (machine_of new.heap kept) before after c applied refl mid r none
+        answered-denied (machine_of old.heap kept) (machine_of new.heap kept) before after c range applied refl refl refl refl m.0 m.1 (ap (λ (v : Keyed). v.heap) m.2) (after_reply (Refused NoMemory) is m.3)
+    by_memory none false e = answered-done (machine_of old.heap kept) (machine_of new.heap kept) before after c range applied refl refl refl refl mid r none
         (done none (λ is. let both : false ≡ true = sym e ∙ ap is_without_memory is in absurd (cc))) t
 
     by_checks : (o : Option Refusal) → refusal_of (objects_of old.heap) c ≡ o → IsAnswered (machine_of old.heap kept) (machine_of new.heap kept) (taken c) before after
     by_checks (Some cause) e =
         let k = refused cause e in
-        answered-refused (machine_of old.heap kept) (machine_of new.heap kept) before after c applied refl cause e (ap (λ (v : Keyed). v.heap) k.1) (after_reply (Refused cause) k.0 k.2)
+        answered-refused (machine_of old.heap kept) (machine_of new.heap kept) before after c range applied refl refl refl refl cause e (ap (λ (v : Keyed). v.heap) k.1) (after_reply (Refused cause) k.0 k.2)
     by_checks None e = by_memory e (is_without_memory r) refl

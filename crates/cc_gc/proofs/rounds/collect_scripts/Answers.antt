@@ -49,5 +49,6 @@ returns g c =
         colours = λ before. done.invariant;
         fresh = tt;
         suspected = tt;
+        marks = tt;
       };
     }

@@ -23,4 +23,5 @@ returns-clause-kept g c =
       colours = λ before. c.sweep.ensures.invariant (IsBlackClosed-colours c.mark_scripts.new.self.heap c.mark_scripts.ensures.colours);
       fresh = tt;
       suspected = tt;
+      marks = tt;
     }

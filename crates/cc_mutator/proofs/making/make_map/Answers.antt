@@ -13,7 +13,7 @@ pub returns-in-Ok : goal.returns-in-Ok
 unfolding done_in
 returns-in-Ok c = λ t.
     let e = c.in-Ok.ensures in
-    answered-silently _ _ _ _ _ t true (make_object c.args.heaps.now.heap c.args.d Map 0 None) refl (ap (λ x. Named x) e.name) (name-not_refused _ NoMemory) e.heap e.kept.keys e.kept.order
+    answered-silently _ _ _ _ _ t true (make_object c.args.heaps.now.heap c.args.d Map 0 None) refl (ap (λ x. Named x) e.name) (name-not_refused _ NoMemory) e.heap e.kept.keys e.kept.order e.kept.marks
 
 pub returns-in-Err-NoMemory : goal.returns-in-Err-NoMemory
 returns-in-Err-NoMemory c = λ t. let e = c.in-Err-NoMemory.ensures in answered-denied _ _ _ _ _ _ _ true refl refl e.same refl

@@ -12,7 +12,7 @@ pub returns-in-Ok : goal.returns-in-Ok
 unfolding done_in
 returns-in-Ok g c =
     let e = c.in-Ok.ensures in
-    answered-done _ _ _ _ _ _ _ true (ap (λ x. Named x) e.name) (name-not_refused _ NoMemory) e.heap e.told e.kept.keys e.kept.order
+    answered-done _ _ _ _ _ _ _ true (ap (λ x. Named x) e.name) (name-not_refused _ NoMemory) e.heap e.told e.kept.keys e.kept.order e.kept.marks
 
 pub returns-in-Err-NoMemory : goal.returns-in-Err-NoMemory
 returns-in-Err-NoMemory g c = let e = c.in-Err-NoMemory.ensures in answered-denied _ _ _ _ _ _ _ true refl refl e.same e.silent

@@ -11,6 +11,7 @@ use Rattle.cc_model.specs.WellFormed.{native_names, script_names}
 use Rattle.cc_laws_heap.proofs.Face.{AreColoured-from_view}
 use Rattle.cc_script.specs.Objects.{Object, name_at}
 use Rattle.cc_heaps.specs.Keyed.{the_number}
+use Rattle.cc_heaps.proofs.MarksKept.{marks-then}
 use Rattle.cc_mutator.proofs.Carrying.{answered-denied, answered-silently, named-not_refused}
 use Rattle.cc_mutator.proofs.Exposing.{exposed-same}
 use Rattle.cc_mutator.proofs.NativesRead.{held-number}
@@ -44,6 +45,7 @@ returns-in-Ok c = λ t.
     (ap (λ y. Named y) is ∙ ap (λ y. named_or_nothing (reflector_of y)) (sym held)) (named-not_refused _ NoMemory)
     (left ∙ (ap (λ (g : Heap). set_register g (S c.args.d) (Some (reflector k))) e.heap ∙ ap (λ y. set_register (wrapped v.heap y) (S c.args.d) (reflector_of y)) (sym held)))
     (KeepsKeys-then v w c.set_script_reg.new.self e.kept.keys c.set_script_reg.ensures.kept.keys (ap native_names left) (ap script_names left)) (λ owned o. c.set_script_reg.ensures.kept.order owned (c.wrap.ensures.kept.order owned o))
+    (marks-then e.kept.marks c.set_script_reg.ensures.kept.marks)
 
 pub returns-in-Err : goal.returns-in-Err
 returns-in-Err c = λ t.

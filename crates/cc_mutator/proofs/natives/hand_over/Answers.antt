@@ -45,3 +45,6 @@ returns-clause-heap g c = c.move_slot.ensures.heap ∙ ap (λ (o : Outcome). o.h
 pub returns-clause-told : goal.returns-clause-told
 returns-clause-told g c =
     subst (λ (o : Outcome). TellsEvents (g.N.Notices.telling c.args.out.now) (g.N.Notices.telling c.move_slot.new.out) o.events) (moves g c) c.move_slot.ensures.told
+
+pub returns-clause-marks : goal.returns-clause-marks
+returns-clause-marks g c = c.move_slot.ensures.kept.marks

@@ -25,4 +25,4 @@ returns c = λ t.
     let same : exposed v.heap x ≡ v.heap = subst (λ y. exposed v.heap y ≡ v.heap) (sym name)
     (exposed-same v.heap colours (register v.heap (S c.args.s)) (register-black v.heap colours c.args.s)) in
     answered-silently _ _ _ _ _ t false (set_register v.heap (S c.args.d) (register v.heap (S c.args.s))) refl (c.naming_script-reply.ensures ∙ ap named_or_nothing name)
-    (named-not_refused _ NoMemory) (e.heap ∙ (ap (λ (h : Heap). set_register h (S c.args.d) x) same ∙ ap (set_register v.heap (S c.args.d)) name)) e.kept.keys e.kept.order
+    (named-not_refused _ NoMemory) (e.heap ∙ (ap (λ (h : Heap). set_register h (S c.args.d) x) same ∙ ap (set_register v.heap (S c.args.d)) name)) e.kept.keys e.kept.order e.kept.marks

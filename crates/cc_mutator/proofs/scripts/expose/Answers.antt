@@ -21,4 +21,4 @@ returns c = λ t.
     let e = c.touch.ensures in
     let name = as_script-named v _ _ _ c.as_script-content.ensures c.native_content.ensures.name in
     answered-silently _ _ _ _ _ t false (exposed v.heap (slot_at (objects_of v.heap) (N c.args.s) c.args.i)) refl (c.naming_script-reply.ensures ∙ ap named_or_nothing name)
-    (named-not_refused _ NoMemory) (e.heap ∙ ap (exposed v.heap) name) e.keys e.order
+    (named-not_refused _ NoMemory) (e.heap ∙ ap (exposed v.heap) name) e.keys e.order e.marks

@@ -13,4 +13,4 @@ returns c = λ t.
     let h = c.args.heaps.now.heap in
     let e = c.preserve.ensures in
     answered-silently _ _ _ _ _ t false (preserve h (register h (S c.args.s))) refl refl (done-not_refused NoMemory)
-    (ap (λ (w : Keyed). w.heap) e.heap ∙ ap (preserve h) c.in-Some.ensures.name) e.kept.keys e.kept.order
+    (ap (λ (w : Keyed). w.heap) e.heap ∙ ap (preserve h) c.in-Some.ensures.name) e.kept.keys e.kept.order e.kept.marks

@@ -21,4 +21,4 @@ returns c = λ t.
     let e = c.store_script.ensures in
     let to = register h (S c.args.d) in
     answered-silently _ _ _ _ _ t false (put_in_script h to c.args.i (source h (option_map S c.args.from))) refl refl (done-not_refused NoMemory)
-    (e.heap ∙ ap (put_in_script h to c.args.i) c.script_source-content.ensures.name) e.keys e.order
+    (e.heap ∙ ap (put_in_script h to c.args.i) c.script_source-content.ensures.name) e.keys e.order e.marks

@@ -12,4 +12,4 @@ returns-in-Ok c = λ t.
     let h = c.args.heaps.now.heap in
     let e = c.in-Ok.ensures in
     answered-silently _ _ _ _ _ t _ (set_entry h (register h (S c.args.m)) (register h (S c.args.k)) (source h (option_map S c.args.from))) refl refl (done-not_refused NoMemory)
-    (e.heap ∙ ap (set_entry h (register h (S c.args.m)) (register h (S c.args.k))) c.script_source-value.ensures.name) e.keys e.order
+    (e.heap ∙ ap (set_entry h (register h (S c.args.m)) (register h (S c.args.k))) c.script_source-value.ensures.name) e.keys e.order e.marks

@@ -2,6 +2,7 @@ use Rattle.std.proofs.Common.{◌<◌, length, List, sym, subst, ap, arith}
 use Rattle.cc_script.specs.Objects.{Object}
 use Rattle.cc_script.specs.Objects as objects
 use Rattle.cc_heaps.specs.Keyed.{Keyed}
+use Rattle.cc_heaps.proofs.MarksKept.{marks-then}
 use Rattle.cc_mutator.proofs.ScriptsRead.{script_slots-as_many, script_slots-few}
 use Rattle.cc_mutator.proofs.scripts.store_script.Goals as goal
 
@@ -24,3 +25,6 @@ returns-clause-order c owned o = c.store_script.ensures.kept.order owned (c.pres
 
 pub returns-clause-keys : goal.returns-clause-keys
 returns-clause-keys c = grind arith
+
+pub returns-clause-marks : goal.returns-clause-marks
+returns-clause-marks c = marks-then c.preserve-is_reflector.ensures.kept.marks c.store_script.ensures.kept.marks

@@ -1,4 +1,5 @@
-use Rattle.std.proofs.Common.{arith}
+use Rattle.std.proofs.Common.{refl, arith}
+use Rattle.cc_heaps.proofs.MarksKept.{marks-same}
 use Rattle.cc_mutator.proofs.Carrying.{exposed-none}
 use Rattle.cc_mutator.proofs.scripts.touch.Goals as goal
 
@@ -13,3 +14,9 @@ returns-in-Some-clause-order c = c.expose.ensures.kept.order
 
 pub returns-in_default-clause-order : goal.returns-in_default-clause-order
 returns-in_default-clause-order c owned o = o
+
+pub returns-in-Some-clause-marks : goal.returns-in-Some-clause-marks
+returns-in-Some-clause-marks c = c.expose.ensures.kept.marks
+
+pub returns-in_default-clause-marks : goal.returns-in_default-clause-marks
+returns-in_default-clause-marks c = marks-same c.args.heaps.now c.args.heaps.now refl refl

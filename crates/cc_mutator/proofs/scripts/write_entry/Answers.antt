@@ -22,8 +22,14 @@ returns-in-Some-value-clause-keys c = c.set_entry.ensures.kept.keys
 pub returns-in-Some-value-clause-order : goal.returns-in-Some-value-clause-order
 returns-in-Some-value-clause-order c = c.set_entry.ensures.kept.order
 
+pub returns-in-Some-value-clause-marks : goal.returns-in-Some-value-clause-marks
+returns-in-Some-value-clause-marks c = c.set_entry.ensures.kept.marks
+
 pub returns-in-None-clause-keys : goal.returns-in-None-clause-keys
 returns-in-None-clause-keys c = c.unset_entry.ensures.kept.keys
 
 pub returns-in-None-clause-order : goal.returns-in-None-clause-order
 returns-in-None-clause-order c = c.unset_entry.ensures.kept.order
+
+pub returns-in-None-clause-marks : goal.returns-in-None-clause-marks
+returns-in-None-clause-marks c = c.unset_entry.ensures.kept.marks

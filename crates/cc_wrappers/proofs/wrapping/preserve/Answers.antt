@@ -42,6 +42,7 @@ returns-in-Some-clause-kept c =
       fresh = λ black. kept.fresh
           (black-not_gray c.requires.order.0 v c.requires.order.1 c.args.key.0 (reflector (the_number v c.in-Some.native.0)) (named c) black);
       suspected = kept.suspected;
+      marks = kept.marks;
     }
 
 pub returns-in-Some-clause-reached : goal.returns-in-Some-clause-reached

@@ -47,6 +47,7 @@ returns-clause-kept g c =
       colours = λ before. c.collect_scripts.ensures.invariant;
       fresh = tt;
       suspected = tt;
+      marks = tt;
     }
 
 pub returns-clause-runs : goal.returns-clause-runs
