@@ -33,7 +33,7 @@ use Rattle.cc_builder.specs.Building.{Built}
 use Rattle.cc_collector.specs.Kept.{machine_of}
 use Rattle.cc_collector.specs.Collected.{LedTo, IsSliced, IsCollected, IsSwept}
 use Rattle.cc_laws_run.specs.Memory.{SameMachine, with_memory}
-use Rattle.cc_laws_run.proofs.Spoken.{deed-leaves_weak}
+use Rattle.cc_laws_run.proofs.Face.{deed-leaves_weak}
 
 -- A command that a line asks is one of the mutator, where it is none of these
 pub others-applied : (c : Command) → IsTrue (in_range c) → c ≢ command.Nothing → c ≢ command.Version2 → ((x : Name) → c ≢ command.Why x) → c ≢ command.Census → ((u : ℕ) → c ≢ command.Slice u) → c ≢ command.Collect → c ≢ command.Gc → IsTrue (is_applied c)
