@@ -27,6 +27,7 @@ pub use number::{NKey, NativeNo, SKey, ScriptNo, narrow_key};
 pub use register::{Reg, write_register};
 pub use sizes::{
     BANK_LENGTH, FIRST_BANK_LENGTH, FIRST_MOST_SLOTS, MOST_ROOTS, MOST_SLOTS, RegNo, SlotNo,
+    WEAK_LENGTH, WeakNo,
 };
 
 /// The test of the specifications tells names apart: it says yes exactly for equal ones.
