@@ -3,9 +3,9 @@ use Rattle.std.proofs.Common.{◌≡◌, ◌≢◌, ◌≤◌, Bool, false, ℕ,
 use Rattle.std.specs.Prelude.{IsTrue}
 use Rattle.std.proofs.Math.ListN.{set, get_or-map, length-set}
 use Rattle.std.proofs.Math.Path.{fun_ext}
-use Rattle.std.proofs.lemmas.Bool.{cases_lt, false≢true}
+use Rattle.std.proofs.lemmas.Bool.{false≢true}
 use Rattle.std.proofs.lemmas.Bool.Decides.{eqb_tells}
-use Rattle.std.proofs.lemmas.List.{get_or-set_other, get_or-set_same, get_or_past}
+use Rattle.std.proofs.lemmas.List.{get_or-set_other, get_or-set_same}
 use Rattle.std.proofs.lemmas.Simd.{map-map}
 use Rattle.cc_lists.proofs.Held.{is_some-map, is_some-found}
 use Rattle.slab.specs.Slab.{Slab, ContainsKey, Updates, get}
@@ -190,19 +190,6 @@ module _ (s mid : Slab Label) (contents more : List Content) (marks more_marks c
       ∙ ap (λ xs. paired in_new_mark White xs marks)
       (paired-same filled nothing mid.slots contents more (λ k held. same k) ∙ ap (λ ys. paired filled nothing ys contents) slots))
 
-  pub HaveAll-reached : {may_be_gray : Bool} → length contents ≤ length more → length marks ≤ length more_marks → length colours ≤ length more_colours →
-      HaveAll s contents marks colours may_be_gray → HaveAll mid more more_marks more_colours may_be_gray
-  HaveAll-reached longer longer_marks longer_colours all = record {
-    filled = λ key held. omega (arith, longer, all.filled key (stood key held));
-    marked = λ key held. omega (arith, longer_marks, all.marked key (stood key held));
-    coloured = λ key held. omega (arith, longer_colours, all.coloured key (stood key held));
-    emptied = λ key none. same key ∙ all.emptied key (ap (λ ys. get_or ys key None) (sym slots) ∙ none);
-    gray = λ none key gray. all.gray none key (sym (same_colours key) ∙ gray);
-  }
-    where
-      stood : (key : ℕ) → ContainsKey mid key → ContainsKey s key
-      stood key held = ap (λ ys. is_some (get_or ys key None)) (sym slots) ∙ held
-
 -- what a contract sees of all parts
 module _ {room : ℕ} (s : Slab Label) (contents : List Content) (marks colours : List Colour) (now : Slab Linked) (same : coloured_slab room (bare_slab s contents marks) colours ≡ now)
     (key : ℕ) where
@@ -291,11 +278,6 @@ written-here none y more free key is_key long = subst (λ k. get_or (set more fr
 pub written-others : {Y : Type 0} (none y : Y) (old more : List Y) (free key : ℕ) → free ≡ key → ((k : ℕ) → get_or more k none ≡ get_or old k none) →
     (k : ℕ) → k ≢ key → get_or (set more free y) k none ≡ get_or old k none
 written-others none y old more free key is_key same k other = get_or-set_other more free k y none (λ e. other (e ∙ is_key)) ∙ same k
-
--- more colours, which are white
-pub more-white : (old more : List Colour) → ((k : ℕ) → k < length old → get_or more k White ≡ get_or old k White) → ((k : ℕ) → length old ≤ k → k < length more → get_or more k White ≡ White) →
-    (k : ℕ) → get_or more k White ≡ get_or old k White
-more-white old more below above k = grind (arith, get_or_past, cases_lt)
 
 -- a colour written, which is noted where it is gray
 pub noted-written : {before after : Bool} (old colours : List Colour) (key : ℕ) (colour : Colour) → key < length colours →

@@ -1,4 +1,4 @@
-use Rattle.std.proofs.Common.{rules, ◌≡◌, ◌≢◌, ℕ, List, get_or, set, Some, None, ap, sym, subst, ◌∙◌, arith}
+use Rattle.std.proofs.Common.{rules, ◌≡◌, set, Some, None, ap, sym, subst, ◌∙◌, arith}
 use Rattle.slab.specs.Slab.{Slab, Updates, get}
 use Rattle.cc_names.specs.declared.kind.Colour.TheVariants.{White, Black}
 use Rattle.cc_script.specs.Cells.{Label, bare_slab, filled, filled_slab, in_new_mark, nothing}
