@@ -139,3 +139,12 @@ returns-clause-heard c = λ p command asks line lines heard other. (
         follows = subst (λ (q : Place). Follows q asks h.rest) (place-ended p command h.events h.reply h.ending) h.follows;
       })),
 )
+
+-- No lines are no answer
+
+no-lines : (events : List Event) (r : Reply) (rest : List (List ℕ)) → [] ≡ answer_lines events r rest → ⊥
+no-lines [] r rest e = cc
+no-lines (event ∷ events) r rest e = cc
+
+pub returns-clause-end : goal.returns-clause-end
+returns-clause-end c = λ p command asks heard f. let a = follows-answered p command asks [] heard f in no-lines a.events a.reply a.rest a.lines_are
