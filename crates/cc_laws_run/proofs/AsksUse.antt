@@ -100,11 +100,11 @@ granted-use m takes f a leaves replies events = go takes
       said_no = said_no (next_answer m.memory) (later_answers m.memory);
       ample = λ e. subst (λ b. HasAmple (answered true []) (answered b (later_answers m.memory))) (sym (ample-next m.memory e))
           (record {
-        same = any true (later_answers m.memory) [];
-        memory = ap noes (leaves.left (with_memory m (later_answers m.memory))) ∙ ample-later m.memory e;
-        reply = replies;
-        events = events;
-      });
+            same = any true (later_answers m.memory) [];
+            memory = ap noes (leaves.left (with_memory m (later_answers m.memory))) ∙ ample-later m.memory e;
+            reply = replies;
+            events = events;
+          });
     }
     go false = record {
       used = [];
@@ -129,7 +129,7 @@ mutate-use m c = go (refusal_of (objects_of m.heap) c) (refusal-noes (objects_of
     o = effects m.heap c
 
     -- its deed, and what it does to the heaps
-    abbrev done : Machine → Machine
+    done : Machine → Machine
     done n = record (beside_deed n (deed_of (objects_of m.heap) c)) { heap = o.heap }
 
     go : (r : Option Refusal) → noes_of_refusal r ≡ 0 → TurnUse (λ memory. unless_refused (with_memory m memory) c r) in_reply m.memory (unless_refused m c r)

@@ -20,7 +20,7 @@ use Rattle.cc_model.specs.Entries.{Entry, is_entry_of, value_in, Joint, joints, 
 use Rattle.cc_model.specs.Checks.{slots_or_none, slot_at, value_at, native_of, reflector_of}
 use Rattle.cc_model.specs.declared.command.Command.{Command}
 use Rattle.cc_model.specs.Deeds.{deed_of}
-use Rattle.cc_model.specs.Heap.{Heap, HeapNative, HeapScript, native_at, script_at, slots_in, slots_of_script, slots_of_kind, register, objects_of, source}
+use Rattle.cc_model.specs.Heap.{Heap, HeapNative, HeapScript, native_at, script_at, slots_in, slots_of_script, slots_of_kind, register, objects_of}
 use Rattle.cc_model.specs.View.{view, ReachedIn}
 use Rattle.cc_model.specs.WellFormed.{IsWellFormed}
 use Rattle.cc_model.proofs.Places.{slot-place}
