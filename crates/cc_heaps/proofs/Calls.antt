@@ -138,6 +138,7 @@ module _ {p : Inside} {next : Counts} {owned : List ℕ} {call : Heap → Outcom
         scripts = p.scripts;
         entries = p.weak;
         walks = walks_left-agree alone.heap (shown v.heap p.scripts alone.heap) (state_left-shown p.scripts v.heap alone.heap) p.counted.keys p.counted.walks i;
+        marking = p.to_scan.marking;
       })
       ∙ ap (λ (o : Outcome). left_with v o.heap) (sym l.beside))
 

@@ -1,5 +1,6 @@
 -- ROOM WAS MADE for one more script object, or a part of it where memory was wanting: nothing else is changed.
 use Rattle.std.proofs.Common.{◌≡◌, ℕ, ◌+◌, List, length, refl, sym, ap, subst, arith}
+use Rattle.std.specs.Prelude.{Result, Ok, Err, OnErr}
 use Rattle.cc_heaps.specs.ToScan.{Lists, HasMoreRoom, HasRoom}
 use Rattle.cc_heaps.specs.Marks.{KeepsMarks}
 use Rattle.cc_heaps.specs.Keyed.{Keyed, IsInOrder}
@@ -34,6 +35,11 @@ module _ (p : Inside) (lists : Lists) (same : lists.marking ≡ p.to_scan.markin
   reserved-order {owned} o = subst (IsInOrder owned) (sym reserved-keyed) o
 
 -- Where nothing is changed
+
+-- whatever a call answers
+pub on-error : {T E P : Type 0} (r : Result T E) → P → OnErr r P
+on-error (Ok x) p = tt
+on-error (Err e) p = p
 
 pub keys-unchanged : (v w : Keyed) → w ≡ v → KeepsKeys v w
 keys-unchanged v w same = subst (KeepsKeys v) (sym same) (KeepsKeys-same v)

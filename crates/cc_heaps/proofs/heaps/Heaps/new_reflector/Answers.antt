@@ -14,58 +14,51 @@ use Rattle.cc_heaps.proofs.Listing.{scripts-limited_to}
 use Rattle.cc_heaps.proofs.Owned.{callers-own}
 use Rattle.cc_heaps.proofs.ReflectingMade.{reflector_made-colours, reflector_made-keeps_fresh, reflector_made-keeps_suspected, reflector_made-stands}
 use Rattle.cc_heaps.proofs.ReflectorMade.{IsReflectorMade, reflector-made}
-use Rattle.cc_heaps.proofs.Reserved.{reserved-keyed, reserved-linked, with_lists}
+use Rattle.cc_heaps.proofs.Reserved.{on-error, reserved-keyed, reserved-linked, with_lists}
 use Rattle.cc_heaps.proofs.ScriptsChanged.{with_objects}
 use Rattle.cc_heaps.proofs.heaps.Heaps.new_reflector.Goals as goal
 
-pub overflow_add : goal.overflow_add
-overflow_add c =
+pub overflow_add-len : goal.overflow_add-len
+overflow_add-len c =
     let p = c.self.inside in
     let order = rw (← c.self.view_is) at c.requires.order in
     omega (arith, c.len.ensures, scripts-limited_to p order.0 order.1)
 
 -- No memory for the lists: the heaps are as they were
 
+unchanged : (c : goal.After-from_residual) → keyed_of (with_lists c.self.inside c.reserve.new.self) ≡ c.args.self.now
+unchanged c = reserved-keyed c.self.inside c.reserve.new.self c.reserve.ensures.marking ∙ c.self.view_is
+
 pub invariant_of-self : goal.invariant_of-self
 invariant_of-self c = reserved-linked c.self.inside c.reserve.new.self c.reserve.ensures.marking c.reserve.ensures.more c.self.invariant
 
-unchanged : (c : goal.After-reserve) → keyed_of (with_lists c.self.inside c.reserve.new.self) ≡ c.args.self.now
-unchanged c = reserved-keyed c.self.inside c.reserve.new.self c.reserve.ensures.marking ∙ c.self.view_is
-
 pub returns-in_err-reserve-clause-same : goal.returns-in_err-reserve-clause-same
-returns-in_err-reserve-clause-same c = unchanged c
+returns-in_err-reserve-clause-same c = on-error c.from_residual.result (unchanged c)
 
 pub returns-in_err-reserve-clause-kept : goal.returns-in_err-reserve-clause-kept
 returns-in_err-reserve-clause-kept c =
     let v = c.args.self.now in
     KeepsAll-if_reached (IsReached v.heap (Some (native (the_number v c.args.key.0)))) v _ (KeepsAll-same v _ (unchanged c))
 
--- THE PARTS WITH ROOM for one more, which stand for the same heaps
+-- No memory for the object: the same
 
-roomy : (c : goal.After-reserve) → Inside
-roomy c = with_lists c.self.inside c.reserve.new.self
+still : (c : goal.After-from_residual-in_err-made) → keyed_of (with_objects (with_lists c.self.inside c.reserve.new.self) c.create_reflector.new.self c.self.inside.scripts_made) ≡ c.args.self.now
+still c =
+    ap (λ os. keyed_of (with_objects (with_lists c.self.inside c.reserve.new.self) os c.self.inside.scripts_made)) c.in_err-made.ensures.err
+    ∙ (reserved-keyed c.self.inside c.reserve.new.self c.reserve.ensures.marking ∙ c.self.view_is)
 
-is : (c : goal.After-reserve) → keyed_of (roomy c) ≡ c.args.self.now
-is c = reserved-keyed c.self.inside c.reserve.new.self c.reserve.ensures.marking ∙ c.self.view_is
-
-linked : (c : goal.After-reserve) → IsLinked (roomy c)
-linked c = reserved-linked c.self.inside c.reserve.new.self c.reserve.ensures.marking c.reserve.ensures.more c.self.invariant
-
--- No memory for the object: the objects are as they were
-
-same : (c : goal.After-create_reflector) → keyed_of (with_objects (roomy c) c.create_reflector.new.self (roomy c).scripts_made) ≡ c.args.self.now
-same c = ap (λ os. keyed_of (with_objects (roomy c) os (roomy c).scripts_made)) c.in_err-made.ensures.err ∙ is c
-
-pub invariant_of-self-2 : goal.invariant_of-self-2
-invariant_of-self-2 c = subst (λ os. IsLinked (with_objects (roomy c) os (roomy c).scripts_made)) (sym c.in_err-made.ensures.err) (linked c)
+pub invariant_of-self-in_err-made : goal.invariant_of-self-in_err-made
+invariant_of-self-in_err-made c =
+    subst (λ os. IsLinked (with_objects (with_lists c.self.inside c.reserve.new.self) os c.self.inside.scripts_made)) (sym c.in_err-made.ensures.err)
+    (reserved-linked c.self.inside c.reserve.new.self c.reserve.ensures.marking c.reserve.ensures.more c.self.invariant)
 
 pub returns-in_err-made-clause-same : goal.returns-in_err-made-clause-same
-returns-in_err-made-clause-same c = same c
+returns-in_err-made-clause-same c = on-error c.from_residual-in_err-made.result (still c)
 
 pub returns-in_err-made-clause-kept : goal.returns-in_err-made-clause-kept
 returns-in_err-made-clause-kept c =
     let v = c.args.self.now in
-    KeepsAll-if_reached (IsReached v.heap (Some (native (the_number v c.args.key.0)))) v _ (KeepsAll-same v _ (same c))
+    KeepsAll-if_reached (IsReached v.heap (Some (native (the_number v c.args.key.0)))) v _ (KeepsAll-same v _ (still c))
 
 -- The reference
 
@@ -81,7 +74,16 @@ add_ref-requires-clause-owned c =
     let f = callers-own known.0 c.self.inside (record { order = known.1; linked = c.self.invariant }) in
     (f.0, c.set_reflector.ensures.owned f.0 f.1)
 
--- The reflector
+-- The reflector is made in THE PARTS WITH ROOM for one more, which stand for the same heaps
+
+abbrev roomy : (c : goal.After-add_ref) → Inside
+roomy c = with_lists c.self.inside c.reserve.new.self
+
+is : (c : goal.After-add_ref) → keyed_of (roomy c) ≡ c.args.self.now
+is c = reserved-keyed c.self.inside c.reserve.new.self c.reserve.ensures.marking ∙ c.self.view_is
+
+linked : (c : goal.After-add_ref) → IsLinked (roomy c)
+linked c = reserved-linked c.self.inside c.reserve.new.self c.reserve.ensures.marking c.reserve.ensures.more c.self.invariant
 
 -- whatever is owned besides
 made_owned : (c : goal.After-add_ref) (owned : List ℕ) → IsInOrder owned (keyed_of (roomy c)) →
@@ -96,8 +98,8 @@ made : (c : goal.After-add_ref) → IsReflectorMade c.requires.order.0 (roomy c)
     (the_number (keyed_of (roomy c)) c.args.key.0) c.in_ok-made.made.0
 made c = made_owned c c.requires.order.0 (subst (IsInOrder c.requires.order.0) (sym (is c)) c.requires.order.1)
 
-pub invariant_of-self-3 : goal.invariant_of-self-3
-invariant_of-self-3 c = (made c).linked
+pub invariant_of-self-2 : goal.invariant_of-self-2
+invariant_of-self-2 c = (made c).linked
 
 pub returns-clause-heap : goal.returns-clause-heap
 returns-clause-heap c = rw (← is c) ((made c).heap)
