@@ -12,7 +12,9 @@ more. ALL=1 counts every shape of bench.py, and not these four. LIVE are the num
 counted (1000,10000,100000 if left out; none where empty).
 
 A row has the instructions of a script's second part, for each object: those of the whole script less those of its first
-part. A slice is one of 900 in a row, each of one unit, in a collection of so many natives that live.
+part. Left out is what the C library takes to join freed blocks (malloc_consolidate, unlink_chunk), some 70 an object at the end
+of a run: by the number of objects it falls into both runs, or into one of them. A slice is one of 900 in a row, each of one
+unit, in a collection of so many natives that live.
 """
 
 import os
@@ -33,10 +35,11 @@ SLICES = 900
 FUNCTIONS = bool(os.environ.get("FUNCTIONS"))
 ALL = bool(os.environ.get("ALL"))
 LIVE = [int(it) for it in os.environ.get("LIVE", "1000,10000,100000").split(",") if it]
+JOINING = ("malloc_consolidate", "unlink_chunk")
 
 
 def count(folder, lines):
-    """The instructions of one run, and those of each function."""
+    """The instructions of one run but for the joining of freed blocks, and those of each function."""
     script, profile = f"{folder}/script", f"{folder}/profile"
     with open(script, "w") as it:
         it.write("".join(f"{line}\n" for line in lines))
@@ -48,14 +51,16 @@ def count(folder, lines):
     found = re.search(r"Collected : (\d+)", run.stderr)
     if run.returncode or not found:
         sys.exit(f"count: the run ended with status {run.returncode}")
-    functions = {}
-    if FUNCTIONS:
-        rows = subprocess.run(
-            ["callgrind_annotate", "--threshold=100", "--show-percs=no", profile], capture_output=True, text=True
-        ).stdout
-        for number, name in re.findall(r"^ *([\d,]+) +(\S.*)$", rows, re.MULTILINE):
+    rows = subprocess.run(
+        ["callgrind_annotate", "--threshold=100", "--show-percs=no", profile], capture_output=True, text=True
+    ).stdout
+    functions, joining = {}, 0
+    for number, name in re.findall(r"^ *([\d,]+) +(\S.*)$", rows, re.MULTILINE):
+        if any(it in name for it in JOINING):
+            joining += int(number.replace(",", ""))
+        else:
             functions[name] = functions.get(name, 0) + int(number.replace(",", ""))
-    return int(found.group(1)), functions
+    return int(found.group(1)) - joining, functions
 
 
 def difference(folder, name, size, first, more, by):
@@ -65,7 +70,7 @@ def difference(folder, name, size, first, more, by):
     print(f"| {name} | {size} | {(whole - part) / by:.0f} |", flush=True)
     rows = sorted(((of_whole.get(it, 0) - of_part.get(it, 0)) / by, it) for it in of_whole.keys() | of_part.keys())
     for took, function in reversed(rows):
-        if abs(took) >= 1:
+        if FUNCTIONS and abs(took) >= 1:
             print(f"    {took:8.1f}  {function[:120]}", flush=True)
 
 
