@@ -1,7 +1,7 @@
 -- ROOM WAS MADE for one more script object, or a part of it where memory was wanting: nothing else is changed.
-use Rattle.std.proofs.Common.{◌≡◌, ℕ, ◌+◌, List, length, refl, sym, ap, subst, arith}
+use Rattle.std.proofs.Common.{◌≡◌, ℕ, List, refl, sym, subst, arith}
 use Rattle.std.specs.Prelude.{Result, Ok, Err, OnErr}
-use Rattle.cc_heaps.specs.ToScan.{Lists, HasMoreRoom, HasRoom}
+use Rattle.cc_heaps.specs.ToScan.{Lists, HasMoreRoom}
 use Rattle.cc_heaps.specs.Marks.{KeepsMarks}
 use Rattle.cc_heaps.specs.Keyed.{Keyed, IsInOrder}
 use Rattle.cc_heaps.specs.Changes.{KeepsKeys}
