@@ -31,9 +31,6 @@ module _ (p : Inside) (lists : Lists) (same : lists.marking ≡ p.to_scan.markin
     room = (omega (arith, l.room.0, more.0), omega (arith, l.room.1, more.1));
   }
 
-  pub reserved-order : {owned : List ℕ} → IsInOrder owned (keyed_of p) → IsInOrder owned (keyed_of (with_lists p lists))
-  reserved-order {owned} o = subst (IsInOrder owned) (sym reserved-keyed) o
-
 -- Where nothing is changed
 
 -- whatever a call answers
