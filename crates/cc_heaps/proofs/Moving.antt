@@ -33,6 +33,7 @@ use Rattle.cc_script.specs.Objects.{name_at}
 use Rattle.cc_heaps.specs.Keyed.{Keyed, IsInOrder, changed_to, counts_of, keyed_name, left_with, the_number}
 use Rattle.cc_heaps.specs.Changes.{KeepsKeys, held_name, moved_in, slot_held, taken_from, written_in}
 use Rattle.cc_heaps.specs.Leaving.{TellsWhatIsFreed}
+use Rattle.cc_heaps.specs.Marks.{KeepsMarks}
 use Rattle.cc_heaps.specs.Standing.{IsReached, StandsAfter}
 use Rattle.cc_heaps.proofs.ContentNames.{IsHeldAs, content-named}
 use Rattle.cc_heaps.proofs.Following.{Follows, Follows-from, Remembers, Remembers-from, name_at-there, put-sound, put-gentle, put-scripts, slots-keyed, within-named}
@@ -40,6 +41,7 @@ use Rattle.cc_heaps.proofs.Leaving.{given-up}
 use Rattle.cc_heaps.proofs.LeftWith.{key_left-there}
 use Rattle.cc_heaps.proofs.SlotsHeld.{has-slot}
 use Rattle.cc_heaps.proofs.StandingAfter.{StandsAfter-from, handed-made}
+use Rattle.cc_heaps.proofs.MarksKept.{marks-same, marks-then}
 use Rattle.cc_heaps.proofs.ReflectingWritten.{handed-reached}
 
 -- a script object is exposed, where no native is what is touched
@@ -199,6 +201,11 @@ module _ {v t put w : Keyed} {to from i j : ℕ} {content held : Option Held} (c
         (subst (Among y) (sym (touched-scripts v.heap (slot_held v.heap (the_number v from) j) o.sound.well_formed))
         (name_at-there owned v o key y (subst (λ q. Among y (option_to_list q)) (sym at) (inl refl))))));
   }
+
+  -- a marking in slices is left as what was taken out left it
+  pub moved-marks : KeepsMarks v t → KeepsMarks v w
+  moved-marks k = marks-then k (marks-same t w (ap (λ (u : Keyed). u.marking) c.left ∙ ap (λ (u : Keyed). u.marking) c.put_is)
+      (ap (λ (u : Keyed). u.scripts) c.left ∙ ap (λ (u : Keyed). u.scripts) c.put_is))
 
   -- the names before what the slot held is given up
   put-names : IsWellFormed v.heap → names_there put.heap ≡ names_there v.heap

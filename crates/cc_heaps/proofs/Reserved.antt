@@ -1,7 +1,7 @@
 -- ROOM WAS MADE for one more script object, or a part of it where memory was wanting: nothing else is changed.
-use Rattle.std.proofs.Common.{◌≡◌, ℕ, ◌+◌, List, length, refl, sym, ap, subst, arith}
+use Rattle.std.proofs.Common.{◌≡◌, ℕ, List, refl, sym, subst, arith}
 use Rattle.std.specs.Prelude.{Result, Ok, Err, OnErr}
-use Rattle.cc_heaps.specs.ToScan.{Lists, HasMoreRoom, HasRoom}
+use Rattle.cc_heaps.specs.ToScan.{Lists, HasMoreRoom}
 use Rattle.cc_heaps.specs.Marks.{KeepsMarks}
 use Rattle.cc_heaps.specs.Keyed.{Keyed, IsInOrder}
 use Rattle.cc_heaps.specs.Changes.{KeepsKeys}
@@ -30,9 +30,6 @@ module _ (p : Inside) (lists : Lists) (same : lists.marking ≡ p.to_scan.markin
     script_names = l.script_names;
     room = (omega (arith, l.room.0, more.0), omega (arith, l.room.1, more.1));
   }
-
-  pub reserved-order : {owned : List ℕ} → IsInOrder owned (keyed_of p) → IsInOrder owned (keyed_of (with_lists p lists))
-  reserved-order {owned} o = subst (IsInOrder owned) (sym reserved-keyed) o
 
 -- Where nothing is changed
 

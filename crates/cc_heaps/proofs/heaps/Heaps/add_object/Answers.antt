@@ -1,4 +1,4 @@
-use Rattle.std.proofs.Common.{◌≡◌, ◌+◌, ℕ, List, length, refl, sym, ◌∙◌, ap, subst, arith}
+use Rattle.std.proofs.Common.{◌≡◌, ◌+◌, ℕ, List, refl, sym, ◌∙◌, ap, subst, arith}
 use Rattle.cc_model.specs.Effects.{with_object}
 use Rattle.cc_script.specs.Objects.{name_at}
 use Rattle.cc_heaps.specs.ToScan.{HasRoom}

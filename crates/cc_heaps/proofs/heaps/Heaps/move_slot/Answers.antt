@@ -9,8 +9,7 @@ use Rattle.cc_heaps.specs.Keyed.{IsInOrder, the_number}
 use Rattle.cc_heaps.specs.Standing.{StandsAfter}
 use Rattle.cc_heaps.proofs.FewCounts.{few-owned}
 use Rattle.cc_heaps.proofs.Following.{Follows, Remembers, within-named}
-use Rattle.cc_heaps.proofs.Moving.{Moves, moved-heap, moved-is, moved-kept, moved-keys, moved-tells, moved_in-follows, moved_in-remembers, moved_in-stands, within-taken}
-use Rattle.cc_heaps.proofs.MarksKept.{marks-changed, marks-left, marks-then}
+use Rattle.cc_heaps.proofs.Moving.{Moves, moved-heap, moved-is, moved-kept, moved-keys, moved-marks, moved-tells, moved_in-follows, moved_in-remembers, moved_in-stands, within-taken}
 use Rattle.cc_heaps.proofs.heaps.Heaps.move_slot.Given as given
 use Rattle.cc_heaps.proofs.heaps.Heaps.move_slot.Goals as goal
 
@@ -82,9 +81,7 @@ returns-clause-kept g c =
       suspected = λ reached. subst (Remembers v.heap) (sym (returns-clause-heap g c))
           (moved_in-remembers v.heap (the_number v c.args.to.0) c.args.i (the_number v c.args.from.0) c.args.j (within-named v c.args.to.0 c.args.i c.requires.to_within)
           (within-named v c.args.from.0 c.args.j c.requires.from_within) c.requires.order.1.sound reached);
-      marks = marks-then c.take_out-content.ensures.marks
-          (marks-then (marks-changed c.take_out-content.new.self c.replace_slot-held.new.self _ c.replace_slot-held.ensures.heap)
-          (marks-left c.replace_slot-held.new.self c.let_go.new.self _ c.let_go.ensures.heap));
+      marks = moved-marks (moves g c) c.take_out-content.ensures.marks;
     }
 
 pub returns-clause-stands : goal.returns-clause-stands

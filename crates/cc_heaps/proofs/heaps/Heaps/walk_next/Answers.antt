@@ -1,4 +1,4 @@
-use Rattle.std.proofs.Common.{◌≡◌, Some, option_map, sym, ◌∙◌, ap, subst}
+use Rattle.std.proofs.Common.{◌≡◌, option_map, sym, ◌∙◌, ap, subst}
 use Rattle.cc_counted.specs.declared.held.Held.TheVariants as held
 use Rattle.cc_heaps.specs.Fields.{keyed_of}
 use Rattle.cc_heaps.proofs.Walking.{GivesNext, native-next, script-next}
