@@ -134,9 +134,12 @@ expose_form v = form (codes "expose") (of_two command.Expose (native_register v)
 abbrev pub move_form : Dialect → Form
 move_form v = form (codes "move") (of_four command.Move (native_register v) number (native_register v) number)
 
--- another one, without registers
+-- two others, without registers
 abbrev pub why_form : Form
 why_form = form (codes "why") (of_one command.Why object_name)
+
+abbrev pub forget_form : Form
+forget_form = form (codes "forget") (alone command.Forget)
 
 -- the forms without registers
 abbrev pub slice_form : Form
@@ -191,4 +194,4 @@ common_forms v =
 abbrev pub forms_of : Dialect → List Form
 forms_of Start = version_form ∷ common_forms Start
 forms_of One = common_forms One
-forms_of Two = move_form Two ∷ why_form ∷ common_forms Two
+forms_of Two = move_form Two ∷ why_form ∷ forget_form ∷ common_forms Two

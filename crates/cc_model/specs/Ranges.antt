@@ -4,7 +4,7 @@ use Rattle.cc_names.specs.declared.register.Reg.{Reg}
 use Rattle.cc_names.specs.declared.register.Reg.TheVariants.{N, S, W}
 use Rattle.cc_names.specs.Sizes.{bank_length, most_slots}
 use Rattle.cc_model.specs.declared.command.Command.{Command}
-use Rattle.cc_model.specs.declared.command.Command.TheVariants.{Native, Script, WeakMap, Proxy, CopyNative, CopyScript, Drop, Set, Get, Move, Put, Take, Wrap, Unwrap, Preserve, SetEntry, GetEntry, Expose, Forget, Weak, Deref, Mark}
+use Rattle.cc_model.specs.declared.command.Command.TheVariants.{Native, Script, WeakMap, Proxy, CopyNative, CopyScript, Drop, Set, Get, Move, Put, Take, Wrap, Unwrap, Preserve, SetEntry, GetEntry, Expose, Weak, Deref, Mark}
 
 -- a register is one of its bank
 abbrev pub is_register : ℕ → Bool
@@ -52,7 +52,6 @@ in_range (SetEntry m k v) = are_registers m k && is_script_source v
 in_range (GetEntry d m k) = is_register d && are_registers m k
 in_range (Expose s i) = is_register s
 -- no line asks these yet
-in_range Forget = false
 in_range (Weak w s) = false
 in_range (Deref d w) = false
 in_range (Mark n) = false
