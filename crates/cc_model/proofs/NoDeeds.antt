@@ -5,14 +5,14 @@ use Rattle.cc_model.specs.declared.command.Command.{Command}
 use Rattle.cc_model.specs.declared.item.Reply.{Reply}
 use Rattle.cc_model.specs.declared.item.Reply.TheVariants.{Done}
 use Rattle.cc_model.specs.Ranges.{in_range}
-use Rattle.cc_model.specs.Mutating.{is_deed, is_units, class_of}
+use Rattle.cc_model.specs.Mutating.{Class, is_deed, is_mutator, is_units, class_of}
 use Rattle.cc_model.specs.Checks.{Objects, refusal_of, reply_if_taken, refused_or, reply_of}
 use Rattle.cc_model.specs.Deeds.{nothing_done, deed_of}
 use Rattle.cc_model.specs.Graph.{Graph, objects_of, done_to, changed, unless_refused, step}
 use Rattle.cc_model.specs.Heap.{Heap}
 use Rattle.cc_model.specs.Effects.{takes_memory}
 use Rattle.cc_model.specs.Listed.{after_reply}
-use Rattle.cc_model.specs.Lawful.{graph_after}
+use Rattle.cc_model.specs.Lawful.{step_of, graph_after}
 
 -- a command that runs units of a collection is in range
 pub units-in_range : (c : Command) → is_units (class_of c) ≡ true → in_range c ≡ true
@@ -47,9 +47,13 @@ module _ (c : Command) (none : is_deed (class_of c) ≡ false) where
   unfolding changed done_to
   no_deed-leaves g = ap (λ r. unless_refused r g (changed g c)) (no_deed-allowed (objects_of g)) ∙ ap (done_to g) (no_deed-nothing (objects_of g))
 
+  -- where it reads no weak register, it takes none beside ended names either
+  step_of-leaves : (ended : List Name) (g : Graph) (k : Class) → is_mutator k ≡ false → step_of ended g c k ≡ g
+  step_of-leaves ended g k e = grind (arith, no_deed-leaves)
+
   -- whatever is replied
-  pub no_deed-graph : (g : Graph) (reply : Option Reply) → graph_after g c reply ≡ g
-  no_deed-graph g reply = grind (arith, no_deed-leaves)
+  pub no_deed-graph : is_mutator (class_of c) ≡ false → (ended : List Name) (g : Graph) (reply : Option Reply) → graph_after ended g c reply ≡ g
+  no_deed-graph e ended g reply = grind (arith, step_of-leaves)
 
   -- nothing is listed for it
   pub no_deed-lists : (names : List Name) (reply : Option Reply) → after_reply names c reply ≡ names

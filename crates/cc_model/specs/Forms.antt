@@ -1,11 +1,11 @@
 -- The grammar of commands as a list of forms. A form is a word and what stands after it.
 use Rattle.std.specs.Prelude.{ℕ, List, [], ◌∷◌, Option, Some, None, if◌then◌else◌, codes, option_map}
-use Rattle.cc_names.specs.declared.register.Reg.TheVariants.{N, S}
+use Rattle.cc_names.specs.declared.register.Reg.TheVariants.{N, S, W}
 use Rattle.cc_model.specs.declared.command.Command.{Command}
 use Rattle.cc_model.specs.declared.command.Command.TheVariants as command
 use Rattle.cc_model.specs.declared.dialect.Dialect.{Dialect}
 use Rattle.cc_model.specs.declared.dialect.Dialect.TheVariants.{Start, One, Two}
-use Rattle.cc_model.specs.Tokens.{number, slots_number, units_number, native_register, script_register, object_name, is_none_word, is_version_two}
+use Rattle.cc_model.specs.Tokens.{number, slots_number, units_number, native_register, script_register, weak_register, object_name, is_none_word, is_version_two}
 
 -- a word, and how the tokens after it are read; none where they are not of this form
 pub record Form : Type 0 where
@@ -134,6 +134,16 @@ expose_form v = form (codes "expose") (of_two command.Expose (native_register v)
 abbrev pub move_form : Dialect → Form
 move_form v = form (codes "move") (of_four command.Move (native_register v) number (native_register v) number)
 
+-- those of weak registers
+abbrev pub weak_form : Dialect → Form
+weak_form v = form (codes "weak") (of_two command.Weak weak_register (native_register v))
+
+abbrev pub deref_form : Dialect → Form
+deref_form v = form (codes "deref") (of_two command.Deref (native_register v) weak_register)
+
+abbrev pub drop_weak_form : Form
+drop_weak_form = form (codes "drop") (of_one (λ w. command.Drop (W w)) weak_register)
+
 -- two others, without registers
 abbrev pub why_form : Form
 why_form = form (codes "why") (of_one command.Why object_name)
@@ -194,4 +204,4 @@ common_forms v =
 abbrev pub forms_of : Dialect → List Form
 forms_of Start = version_form ∷ common_forms Start
 forms_of One = common_forms One
-forms_of Two = move_form Two ∷ why_form ∷ forget_form ∷ common_forms Two
+forms_of Two = move_form Two ∷ why_form ∷ forget_form ∷ weak_form Two ∷ deref_form Two ∷ drop_weak_form ∷ common_forms Two

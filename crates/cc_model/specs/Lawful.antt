@@ -1,5 +1,5 @@
 -- WHEN A TRANSCRIPT IS ONE OF AN OBJECT GRAPH FROM WHICH NOTHING IS FREED.
-use Rattle.std.specs.Prelude.{◌≡◌, ℕ, ◌+◌, Bool, true, false, not, ◌&&◌, ◌||◌, ◌⊎◌, IsTrue, List, [], ◌∷◌, length, flat_map, Option, Some, None, is_none, nat_lt, nat_le}
+use Rattle.std.specs.Prelude.{◌≡◌, ℕ, ◌+◌, Bool, true, false, not, ◌&&◌, ◌||◌, ◌⊎◌, IsTrue, List, [], ◌∷◌, length, flat_map, Option, Some, None, is_none, option_and_then, slice_index_or, nat_lt, nat_le}
 use Rattle.cc_lists.specs.Members.{Among, has}
 use Rattle.cc_names.specs.Allowance.{Allowance}
 use Rattle.cc_names.specs.declared.name.Name.{Name}
@@ -15,8 +15,8 @@ use Rattle.cc_model.specs.declared.item.Event.TheVariants.{Unlinked, Freed, Aban
 use Rattle.cc_model.specs.Answers.{Answer, no_answer, replying, listing}
 use Rattle.cc_model.specs.Asks.{Ask, long, bad, taken}
 use Rattle.cc_model.specs.Mutating.{takes_memory_to_say, silence, path, census, whole, Class, says, does, forgets, reads_weak, runs as runs_some, collects_scripts, class_of, is_units, is_script_collection}
-use Rattle.cc_model.specs.Checks.{refusal_of, value_at, reflector_of}
-use Rattle.cc_model.specs.Graph.{Graph, empty_graph, register, objects_of, step, reply_to}
+use Rattle.cc_model.specs.Checks.{refusal_of, value_at, reflector_of, named_or_nothing}
+use Rattle.cc_model.specs.Graph.{Graph, empty_graph, register, set_register, objects_of, step, reply_to}
 use Rattle.cc_model.specs.Reached.{Reached}
 use Rattle.cc_model.specs.Derivations.{leads_made, why_of}
 use Rattle.cc_model.specs.Listed.{listed, after_event, census_order, ended_after}
@@ -37,15 +37,38 @@ abbrev pub is_without_memory : Reply → Bool
 is_without_memory (Refused NoMemory) = true
 is_without_memory _ = false
 
+-- WHAT A WEAK REGISTER GIVES, beside the names that have ended: the native that it notes, where that has not
+abbrev pub unless_ended : List Name → Name → Option Name
+unless_ended ended x = elim (has same_name ended x) [ true ↦ None | false ↦ Some x ]
+
+abbrev pub noted_in : List Name → Graph → ℕ → Option Name
+noted_in ended g w = option_and_then (unless_ended ended) (slice_index_or g.weak_registers w None)
+
+-- A STEP OF THE GRAPH BESIDE THE ENDED NAMES: they decide what a register gets from a weak one, and nothing else
+abbrev pub step_of : List Name → Graph → Command → Class → Graph
+step_of ended g c (reads_weak d w) = set_register g (N d) (noted_in ended g w)
+step_of ended g c _ = step g c
+
+abbrev pub step_with : List Name → Graph → Command → Graph
+step_with ended g c = step_of ended g c (class_of c)
+
+-- and the reply to it
+abbrev pub reply_of_class : List Name → Graph → Command → Class → Reply
+reply_of_class ended g c (reads_weak d w) = named_or_nothing (noted_in ended g w)
+reply_of_class ended g c _ = reply_to g c
+
+abbrev pub reply_with : List Name → Graph → Command → Reply
+reply_with ended g c = reply_of_class ended g c (class_of c)
+
 -- want of memory leaves the graph
-abbrev pub graph_after : Graph → Command → Option Reply → Graph
-graph_after g c None = g
-graph_after g c (Some reply) = elim (is_without_memory reply) [ true ↦ g | false ↦ step g c ]
+abbrev pub graph_after : List Name → Graph → Command → Option Reply → Graph
+graph_after ended g c None = g
+graph_after ended g c (Some reply) = elim (is_without_memory reply) [ true ↦ g | false ↦ step_with ended g c ]
 
 abbrev pub next : State → Ask → Answer → State
 next s long a = s
 next s bad a = s
-next s (taken c) a = state_of (graph_after s.graph c a.reply) (listed s.listed c a.events a.reply) (ended_after s.ended a.events)
+next s (taken c) a = state_of (graph_after s.ended s.graph c a.reply) (listed s.listed c a.events a.reply) (ended_after s.ended a.events)
 
 -- The first clause: the reply
 
@@ -82,7 +105,7 @@ pub record WantsMemory (s : State) (c : Command) (reply : Reply) : Type 0 where
   pub no_other : refusal_of (objects_of s.graph) c ≡ None
 
 abbrev pub RepliesWith : State → Command → Reply → Type 0
-RepliesWith s c reply = (reply ≡ reply_to s.graph c) ⊎ WantsMemory s c reply
+RepliesWith s c reply = (reply ≡ reply_with s.ended s.graph c) ⊎ WantsMemory s c reply
 
 -- The second clause: a refused ask has no events, but an abandoned collection
 
@@ -183,7 +206,7 @@ has_abandonment_in_place c reply es = elim (is_abandoning c reply) [
 pub record AnswersCommand (s : State) (c : Command) (reply : Reply) (events : List Event) : Type 0 where
   pub replies : RepliesWith s c reply
   pub quiet : IsTrue (is_refused reply && not (is_abandoning c reply)) → events ≡ []
-  pub each : EachMayBe (graph_after s.graph c (Some reply)) s.listed c events
+  pub each : EachMayBe (graph_after s.ended s.graph c (Some reply)) s.listed c events
   pub rising : IsTrue (nat_le (runs (unlinked_numbers events)) (runs_allowed c))
   pub abandonment : IsTrue (has_abandonment_in_place c reply events)
 

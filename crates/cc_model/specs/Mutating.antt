@@ -73,6 +73,14 @@ is_script_collection (reads_weak d w) = false
 is_script_collection (runs u) = false
 is_script_collection (collects_scripts u) = true
 
--- THE COMMANDS OF THE MUTATOR: those that do a deed
+abbrev pub is_mutator : Class → Bool
+is_mutator (says q) = false
+is_mutator does = true
+is_mutator forgets = false
+is_mutator (reads_weak d w) = true
+is_mutator (runs u) = false
+is_mutator (collects_scripts u) = false
+
+-- THE COMMANDS OF THE MUTATOR: those that do a deed, and the one that reads a weak register
 abbrev pub is_applied : Command → Bool
-is_applied c = is_deed (class_of c)
+is_applied c = is_mutator (class_of c)

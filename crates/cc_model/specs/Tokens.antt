@@ -2,6 +2,7 @@
 use Rattle.std.specs.Prelude.{ℕ, ◌+◌, ◌-◌, ◌*◌, ◌^◌, Bool, true, false, List, [], ◌∷◌, ◌++◌, ◌==◌, ◌&&◌, ◌||◌, Option, Some, None, if◌then◌else◌, nat_le, nat_lt, length, slice_index, filter, bytes_eq, codes, option_and_then, option_map}
 use Rattle.cc_names.specs.declared.name.Name.{Name}
 use Rattle.cc_names.specs.Names.{native, object, reflector}
+use Rattle.cc_names.specs.Sizes.{weak_length}
 use Rattle.cc_model.specs.declared.dialect.Dialect.{Dialect}
 use Rattle.cc_model.specs.Dialects.{registers_of, slots_of}
 
@@ -69,6 +70,11 @@ native_register d token = register_with d 110 token
 
 abbrev pub script_register : Dialect → List ℕ → Option ℕ
 script_register d token = register_with d 115 token
+
+-- A WEAK REGISTER: the letter w, and at once its number
+abbrev pub weak_register : List ℕ → Option ℕ
+weak_register [] = None
+weak_register (b ∷ token) = if b == 119 then number_within (weak_length - 1) token else None
 
 -- the number of a version that a script may ask for
 abbrev pub is_version_two : List ℕ → Bool
