@@ -17,7 +17,6 @@ pub mod RefusedUnits
 pub mod FreedListed
 pub mod EachNamed
 pub mod RunsOfNumbers
-pub mod BufferStands
 pub mod UnitLawful
 pub mod HoldingUnits
 pub mod BesideUnits

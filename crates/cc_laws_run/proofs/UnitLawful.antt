@@ -36,7 +36,7 @@ use Rattle.cc_laws_snapshot.proofs.NodeUnit.{after_node-fresh}
 use Rattle.cc_laws_run.specs.Running.{IsFreshNow}
 use Rattle.cc_laws_snapshot.proofs.WhiteNatives.{white_natives-there, white_natives-unreached_in}
 use Rattle.cc_laws_snapshot.proofs.GivingBack.{given_back, give_back-buffer, given_back-buffer}
-use Rattle.cc_laws_run.proofs.BufferStands.{IsSound-buffer, HasColourInvariant-buffer, StandsFor-buffer}
+use Rattle.cc_laws_heap.proofs.BufferStands.{IsSound-buffer, HasColourInvariant-buffer, StandsFor-buffer}
 use Rattle.cc_laws_run.proofs.FreedListed.{there-listed, census_names-end}
 use Rattle.cc_laws_run.proofs.EachNamed.{FreeLast, FreeLast-end, each-from}
 use Rattle.cc_laws_run.proofs.RunsOfNumbers.{runs-rising, has_none-natives}
