@@ -155,7 +155,13 @@ module _ (g : Graph) (well : IsWellMade g) (c : Command) (moves : (runs_units c 
 
   -- with another buffer, and no snapshot, the heaps run
   buffer-runs : (h : Heap) (bs : List Buffered) (s : Option Snapshot) → RunsOn g names h s → IsBuffer h bs → RunsOn g names (with_buffer h bs) None
-  buffer-runs h bs s r b = grind (arith, IsSound-buffer, HasColourInvariant-buffer, StandsFor-buffer)
+  buffer-runs h bs s r b = record {
+    sound = IsSound-buffer h bs r.sound b;
+    colours = HasColourInvariant-buffer h bs r.colours;
+    fresh = tt;
+    stands = StandsFor-buffer h bs g r.stands;
+    listed = r.listed;
+  }
 
   -- A UNIT THAT IS REFUSED
   abandoned-lawful : (h : Heap) (s : Option Snapshot) → RunsOn g names h s → UnitIsLawful g names c (abandoned h s)
