@@ -20,11 +20,11 @@ use Rattle.cc_model.specs.WellFormed.{IsWellFormed}
 use Rattle.cc_model.specs.Colours.{HasColourInvariant}
 use Rattle.cc_model.specs.StandsFor.{StandsFor}
 use Rattle.cc_model.specs.Snapshot.{Snapshot}
-use Rattle.cc_model.specs.Fresh.{IsFresh}
 use Rattle.cc_model.specs.Suspected.{IsSuspected}
 use Rattle.cc_laws_heap.specs.Sound.{IsSound}
 use Rattle.cc_laws_heap.proofs.Kept.{with_buffer, IsWellFormed-buffer}
 use Rattle.cc_laws_heap.proofs.BufferStands.{IsBuffer-marks, IsSound-buffer, HasColourInvariant-buffer, StandsFor-buffer}
+use Rattle.cc_laws_snapshot.specs.Kinds.{IsFreshIn}
 use Rattle.cc_laws_snapshot.specs.Losing.{IsLoyal}
 use Rattle.cc_laws_snapshot.proofs.KindsFresh.{fresh-more}
 use Rattle.cc_laws_snapshot.proofs.LoyalSuspected.{loyal-suspected}
@@ -42,7 +42,7 @@ module _ (h : Heap) (f : Buffered → Buffered) (same : (b : Buffered) → (f b)
   marks-names = map-kept buffered f h.buffer (λ b. ap native (same b))
 
   -- Snapshots do not read marks.
-  marks-fresh : (s : Snapshot) → IsFresh h.natives_made (view h) s → IsFresh h.natives_made (view changed) s
+  marks-fresh : (s : Snapshot) → IsFreshIn h s → IsFreshIn changed s
   marks-fresh s = fresh-more h.natives_made (view h) (view changed).buffer (view changed).purple
       (λ u m. subst (Among u) (sym marks-names) m) s
 
@@ -109,7 +109,7 @@ without_mark-cases k b = go (b.number == k) refl
     go false e = inr refl
 
 -- EVERY SNAPSHOT STAYS FRESH when a native loses its mark.
-pub unmarked-fresh : (h : Heap) (s : Snapshot) (k : ℕ) → IsFresh h.natives_made (view h) s → IsFresh h.natives_made (view (unmarked h k)) s
+pub unmarked-fresh : (h : Heap) (s : Snapshot) (k : ℕ) → IsFreshIn h s → IsFreshIn (unmarked h k) s
 unmarked-fresh h s k = marks-fresh h (without_mark k) (without_mark-number k) s
 
 -- NO UNREACHED NATIVE IS FORGOTTEN when a native that is reached loses its mark.
@@ -178,7 +178,7 @@ unmarked_among-kept names b p = go b.purple (has same_name names (buffered b)) r
     go false u e f q = absurd (true≢false (sym q ∙ e))
 
 -- EVERY SNAPSHOT STAYS FRESH when suspects are forgotten.
-pub forgotten-fresh : (h : Heap) (s : Snapshot) → IsFresh h.natives_made (view h) s → IsFresh h.natives_made (view (forgotten h)) s
+pub forgotten-fresh : (h : Heap) (s : Snapshot) → IsFreshIn h s → IsFreshIn (forgotten h) s
 unfolding forgotten
 forgotten-fresh h s = marks-fresh h (unmarked_among (skippable_names h)) (unmarked_among-number (skippable_names h)) s
 
