@@ -48,6 +48,7 @@ pub mod Shapes
 pub mod Holds
 pub mod EntryLists
 pub mod HeapShapes
+pub mod Given
 pub mod ReachedAlike
 pub mod Following
 pub mod Standing

@@ -43,7 +43,7 @@ IsUnlinked-slot i n t = record { emptied = IsEmptied-slot i n t.emptied; for_goo
 
 -- what is unlinked again stays so
 IsUnlinked-again : (n : HeapNative) → IsUnlinked n → IsUnlinked (as_unlinked n)
-IsUnlinked-again n t = record { emptied = record { slots = t.emptied.slots; preserved = refl }; for_good = refl }
+IsUnlinked-again n t = record { emptied = record { unlinked = refl; slots = t.emptied.slots; preserved = refl }; for_good = refl }
 
 -- a native is as one of the heaps was, but for its count, unless it is one of these; and it is unlinked where that was
 pub record ComesFrom (ks : List ℕ) (h : Heap) (n : HeapNative) : Type 0 where
