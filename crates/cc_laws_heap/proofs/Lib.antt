@@ -92,6 +92,7 @@ pub mod Wrapping
 pub mod StepsAlike
 pub mod WeakRegisters
 pub mod CommandsStand
+pub mod BroughtBack
 pub mod Lengthening
 pub mod GraphLeads
 pub mod WalksAlike
