@@ -1,7 +1,8 @@
--- THE END OF A COLLECTION LEAVES HEAPS THAT STAND FOR THE SAME GRAPH, and frees nothing that a register reaches.
-use Rattle.std.proofs.Common.{ℕ, List, [], refl, sym, subst, inl, inr, ⊎_elim, ◌==◌}
+-- THE END OF A COLLECTION LEAVES HEAPS THAT STAND FOR THE SAME GRAPH, where the natives that it takes are apart, and frees nothing
+-- that a register reaches.
+use Rattle.std.proofs.Common.{ℕ, List, [], refl, sym, subst, inl}
 use Rattle.cc_lists.specs.Members.{Among}
-use Rattle.cc_lists.proofs.Members.{Among-flat_map, Among_or_not}
+use Rattle.cc_lists.proofs.Members.{Among-flat_map}
 use Rattle.cc_names.specs.declared.name.Name.{Name}
 use Rattle.cc_names.specs.Names.{native, natives_in}
 use Rattle.cc_model.specs.declared.item.Event.TheVariants.{Freed}
@@ -13,23 +14,20 @@ use Rattle.cc_model.specs.End.{take_away}
 use Rattle.cc_model.specs.WellFormed.{native_names, names_there}
 use Rattle.cc_model.specs.StandsFor.{StandsFor}
 use Rattle.cc_laws_heap.specs.Sound.{IsSound}
+use Rattle.cc_laws_heap.specs.Apart.{AreApart}
 use Rattle.cc_laws_heap.specs.Ending.{freed_in, freed_numbers}
 use Rattle.cc_laws_heap.proofs.References.{native-there}
 use Rattle.cc_laws_heap.proofs.ReachedAlike.{reached-there}
 use Rattle.cc_laws_heap.proofs.Leaving.{Leave-not_freed}
-use Rattle.cc_laws_heap.proofs.StandingOn.{stands-on}
-use Rattle.cc_lists.proofs.Numbers.{number-exact}
+use Rattle.cc_laws_heap.proofs.Apart.{apart-stands}
 use Rattle.cc_laws_heap.proofs.TakingAway.{take_away-sound, taken-emptied, others-kept, take_away-leaves, take_away-takes}
 
 module _ (h : Heap) (g : Graph) (ks : List ℕ) (s : IsSound [] h) (there : (k : ℕ) → Among k ks → Among (native k) (native_names h))
-    (m : IsWellMade g) (t : StandsFor h g) (d : (k : ℕ) → Among k ks → ¬ (Reached g (native k))) where
+    (m : IsWellMade g) (t : StandsFor h g) (apart : AreApart h ks) where
   -- THE END LEAVES HEAPS THAT STAND FOR THE SAME GRAPH.
   pub take_away-stands : StandsFor (take_away ks h).heap g
-  take_away-stands = stands-on h (take_away ks h).heap g s.well_formed (take_away-sound h ks s there).well_formed m (take_away-leaves h ks s there).beside
-      (λ n i. ⊎_elim
-      (λ l. inr (record { there = there n.number l; emptied = taken-emptied h ks s there n i l; unreached = d n.number l }))
-      (λ o. inl (others-kept h ks s there n i o))
-      (Among_or_not ◌==◌ number-exact ks n.number)) t
+  take_away-stands = apart-stands h (take_away ks h).heap g ks s.well_formed m t apart (take_away-sound h ks s there).well_formed
+      (take_away-leaves h ks s there).beside there (taken-emptied h ks s there) (others-kept h ks s there)
 
   -- What it frees no register reaches.
   pub take_away-unreached : (x : Name) → Among (Freed x) (take_away ks h).events → ¬ (Reached g x)
