@@ -48,10 +48,12 @@ pub mod Shapes
 pub mod Holds
 pub mod EntryLists
 pub mod HeapShapes
+pub mod Given
 pub mod ReachedAlike
 pub mod Following
 pub mod Standing
 pub mod StandingOn
+pub mod Apart
 pub mod EndsStand
 pub mod GraphParts
 pub mod Changing
