@@ -1,7 +1,10 @@
 -- THE NATIVES THAT ARE WHITE: they are there, by rising number, and no register reaches them.
-use Rattle.std.proofs.Common.{arith, ◌≡◌, ℕ, List, [], sym, subst, inl, ◌⊎◌, ⊎_elim, refl, ◌∙◌}
+use Rattle.std.proofs.Common.{arith, ◌≡◌, ℕ, true, List, [], ◌++◌, sym, subst, inl, inr, ◌⊎◌, ⊎_elim, refl, ◌∙◌}
+use Rattle.std.specs.List.{filter}
+use Rattle.std.proofs.lemmas.Bool.{not-true}
 use Rattle.cc_lists.specs.Members.{Among}
-use Rattle.cc_lists.proofs.Members.{Among-map, Among-map_cases, Among-filtered, Among-passes, Among-flat_map, has-among}
+use Rattle.cc_lists.proofs.Members.{Among-map, Among-map_cases, Among-append, Among-filter, Among-filtered, Among-passes, Among-flat_map, has-among, has-there}
+use Rattle.cc_lists.proofs.Numbers.{number-exact}
 use Rattle.cc_names.specs.declared.name.Name.{Name}
 use Rattle.cc_names.specs.Names.{native, natives_in}
 use Rattle.cc_names.proofs.NameTests.{same_name-exact}
@@ -9,16 +12,18 @@ use Rattle.cc_model.specs.declared.item.Event.TheVariants.{Freed, Unlinked}
 use Rattle.cc_model.specs.Graph.{Graph}
 use Rattle.cc_model.specs.WellMade.{IsWellMade}
 use Rattle.cc_model.specs.Reached.{Reached}
-use Rattle.cc_model.specs.Heap.{Heap}
-use Rattle.cc_model.specs.View.{view, ReachedIn}
+use Rattle.cc_model.specs.Heap.{Heap, HeapNative}
+use Rattle.cc_model.specs.View.{view, counted, ReachedIn}
 use Rattle.cc_model.specs.WellFormed.{names_there}
 use Rattle.cc_model.specs.Colours.{HasColourInvariant}
 use Rattle.cc_model.specs.End.{take_away}
 use Rattle.cc_model.specs.StandsFor.{StandsFor, shape_at}
 use Rattle.cc_model.specs.Lawful.{unlinked_in}
 use Rattle.cc_model.specs.Snapshot.{Snapshot, IsWhite, white_natives}
-use Rattle.cc_model.specs.Fresh.{IsFresh, IsTraversed}
+use Rattle.cc_model.specs.Fresh.{IsLiving, IsFresh, IsTraversed}
 use Rattle.cc_laws_heap.specs.Sound.{IsSound}
+use Rattle.cc_laws_heap.specs.Freeing.{is_none_of}
+use Rattle.cc_laws_heap.specs.Apart.{natives_beside, AreApart}
 use Rattle.cc_laws_heap.specs.Ending.{AreThere, TakesAway}
 use Rattle.cc_lists.proofs.Rising.{rising-part}
 use Rattle.cc_laws_heap.proofs.ReachedAlike.{reached-there, reached-in}
@@ -27,7 +32,7 @@ use Rattle.cc_laws_heap.proofs.NativesKeepScripts.{SameScripts-coloured}
 use Rattle.cc_laws_heap.proofs.TakingAway.{take_away-sound, take_away-takes}
 use Rattle.cc_laws_heap.proofs.EndsStand.{take_away-stands, take_away-unreached}
 use Rattle.cc_laws_snapshot.proofs.SoundView.{IsSound-view}
-use Rattle.cc_laws_snapshot.proofs.Unreached.{white-unreached}
+use Rattle.cc_laws_snapshot.proofs.Unreached.{white-apart, white-unreached}
 
 -- the white natives are white
 white_natives-white : (h : Heap) (s : Snapshot) (k : ℕ) → Among k (white_natives h s) → IsWhite (view h) s (native k)
@@ -39,7 +44,31 @@ pub white_natives-there : (h : Heap) (s : Snapshot) → IsSound [] h → AreTher
 unfolding white_natives
 white_natives-there h s sound = grind (arith, rising-part, Among-map_cases, Among-map, Among-filtered)
 
+-- a native of the heaps that is not among them is not white
+beside-not_white : (h : Heap) (s : Snapshot) (n : HeapNative) → Among n h.natives → is_none_of (white_natives h s) n ≡ true → ¬ (IsWhite (view h) s (native n.number))
+unfolding white_natives
+beside-not_white h s n m none w = grind (arith, Among-map, Among-filter, has-there, same_name-exact, number-exact, not-true)
+
 module _ (h : Heap) (s : Snapshot) (sound : IsSound [] h) (fresh : IsFresh h.natives_made (view h) s) (all : IsTraversed s) where
+  -- THEY ARE APART: the registers and the other natives of the heaps lead to none of them.
+  pub white_natives-apart : AreApart h (white_natives h s)
+  white_natives-apart k m = white-apart h.natives_made (view h) s (IsSound-view h sound) fresh all
+      ((view h).registers ++ natives_beside h (white_natives h s)) beside k (white_natives-white h s k m)
+    where
+      beside : (x : Name) → Among x ((view h).registers ++ natives_beside h (white_natives h s)) → Among x (view h).registers ⊎
+          ((i : ℕ) × (x ≡ native i) × IsLiving (view h) (native i) × (¬ (IsWhite (view h) s (native i))))
+      beside x i = ⊎_elim (λ r. inl r)
+          (λ o.
+          let f = Among-map_cases (λ (n : HeapNative). native n.number) (filter (is_none_of (white_natives h s)) h.natives) x o in
+          let there = Among-filtered (is_none_of (white_natives h s)) f.0 h.natives f.1 in
+          inr (
+            f.0.number,
+            sym f.2,
+            (f.0.count, Among-map counted f.0 h.natives there),
+            beside-not_white h s f.0 there (Among-passes (is_none_of (white_natives h s)) f.0 h.natives f.1),
+          ))
+          (Among-append x (view h).registers (natives_beside h (white_natives h s)) i)
+
   -- No register reaches them over the heaps,
   pub white_natives-unreached : (k : ℕ) → Among k (white_natives h s) → ¬ (ReachedIn (view h) (native k))
   white_natives-unreached k m = white-unreached h.natives_made (view h) s (IsSound-view h sound) fresh all k (white_natives-white h s k m)
