@@ -27,6 +27,7 @@ use Rattle.cc_laws_heap.specs.Apart.{natives_beside, AreApart}
 use Rattle.cc_laws_heap.specs.Ending.{AreThere, TakesAway}
 use Rattle.cc_lists.proofs.Rising.{rising-part}
 use Rattle.cc_laws_heap.proofs.ReachedAlike.{reached-there, reached-in}
+use Rattle.cc_laws_heap.proofs.Standing.{stands-reached}
 use Rattle.cc_laws_heap.proofs.Coloured.{AreColoured-from_view, HasColourInvariant-from}
 use Rattle.cc_laws_heap.proofs.NativesKeepScripts.{SameScripts-coloured}
 use Rattle.cc_laws_heap.proofs.TakingAway.{take_away-sound, take_away-takes}
@@ -93,14 +94,14 @@ module _ (h : Heap) (s : Snapshot) (sound : IsSound [] h) (fresh : IsFresh h.nat
     -- leaves heaps that stand for the same graph,
     pub taking_white-stands : StandsFor (take_away (white_natives h s) h).heap g
     taking_white-stands =
-        take_away-stands h g (white_natives h s) sound (white_natives-there h s sound).there made stands (white_natives-unreached_in g made stands)
+        take_away-stands h g (white_natives h s) sound (white_natives-there h s sound).there made stands white_natives-apart
 
     -- in which what is reached is there with its slots and its flag,
     pub taking_white-kept : (x : Name) → Reached g x →
         Among x (names_there (take_away (white_natives h s) h).heap) × (shape_at (take_away (white_natives h s) h).heap x ≡ shape_at h x)
     taking_white-kept x r =
-        let before = stands.reached x r in
-        let left = taking_white-stands.reached x r in (
+        let before = stands-reached h g stands x r in
+        let left = stands-reached (take_away (white_natives h s) h).heap g taking_white-stands x r in (
           reached-there (take_away (white_natives h s) h).heap g x taking_white-stands r,
           left.there ∙ (sym left.made ∙ (before.made ∙ sym before.there)),
         )
@@ -109,7 +110,7 @@ module _ (h : Heap) (s : Snapshot) (sound : IsSound [] h) (fresh : IsFresh h.nat
     pub taking_white-unreached : (x : Name) → Among (Freed x) (take_away (white_natives h s) h).events ⊎ Among (Unlinked x) (take_away (white_natives h s) h).events →
         ¬ (Reached g x)
     taking_white-unreached x told r = ⊎_elim
-        (λ i. take_away-unreached h g (white_natives h s) sound (white_natives-there h s sound).there made stands (white_natives-unreached_in g made stands) x i r)
+        (λ i. take_away-unreached h g (white_natives h s) sound (white_natives-there h s sound).there made stands white_natives-apart x i r)
         (λ i.
         let t = taking_white-takes.1 in
         let k = t.natives_alone (Unlinked x) i in
