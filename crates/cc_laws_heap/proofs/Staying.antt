@@ -1,5 +1,5 @@
 -- NATIVES THAT ARE LEFT ARE AS THEY WERE, but for counts and where they were unlinked; and what was emptied stays so.
-use Rattle.std.proofs.Common.{arith, ◌≡◌, ℕ, suc, not, List, ◌∷◌, set, None, refl, sym, ◌∙◌, ap, subst}
+use Rattle.std.proofs.Common.{arith, ◌≡◌, ℕ, suc, not, List, ◌∷◌, set, None, refl, ◌∙◌, ap, subst}
 use Rattle.std.proofs.lemmas.Bool.{eqb-true}
 use Rattle.std.proofs.lemmas.List.{length-set}
 use Rattle.cc_lists.specs.Members.{Among}
