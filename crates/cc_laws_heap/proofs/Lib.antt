@@ -53,6 +53,7 @@ pub mod ReachedAlike
 pub mod Following
 pub mod Standing
 pub mod StandingOn
+pub mod Apart
 pub mod EndsStand
 pub mod GraphParts
 pub mod Changing

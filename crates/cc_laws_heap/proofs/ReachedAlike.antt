@@ -41,9 +41,13 @@ ArePart-skip (x ∷ xs) y ys p = inr p
 pub edges_of-made : (g : Graph) (x : Name) (s : Shape) → shape_in g x ≡ Some s → edges_of g x ≡ edges_of_shape x s
 edges_of-made g x s e = edges_of-shape g x ∙ ap (edges_of_some x) e
 
--- All that is reached in the graph is in the heaps.
+-- All that is given is in the heaps,
+pub given-there : (h : Heap) (g : Graph) (x : Name) → StandsFor h g → Given h g x → Among x (names_there h)
+given-there h g x s d = let k = s.given x d in shape_at-there h x k.shape k.there
+
+-- and all that is reached in the graph.
 pub reached-there : (h : Heap) (g : Graph) (x : Name) → StandsFor h g → Reached g x → Among x (names_there h)
-reached-there h g x s d = let k = s.given x (Reached-given h g x d) in shape_at-there h x k.shape k.there
+reached-there h g x s d = given-there h g x s (Reached-given h g x d)
 
 module _ (h : Heap) (g : Graph) (w : IsWellFormed h) (m : IsWellMade g) (s : StandsFor h g) where
   -- the entry of a given map and a given key is there

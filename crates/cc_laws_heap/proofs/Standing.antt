@@ -23,7 +23,7 @@ use Rattle.cc_laws_heap.proofs.EntryLists.{found-among, found-only}
 use Rattle.cc_laws_heap.proofs.Shapes.{edges_of_shape, further_of, kind_of_shape, kind_in-shape, no_delegate-from}
 use Rattle.cc_laws_heap.proofs.HeapShapes.{shape_at-found, there-shape_at}
 use Rattle.cc_laws_heap.proofs.ReachedAlike.{edges_of-made}
-use Rattle.cc_laws_heap.proofs.Following.{NativeFollows, IsBlank, Follows, shape_in-native, roots-within, given-within, stands-follows}
+use Rattle.cc_laws_heap.proofs.Following.{NativeFollows, Follows, shape_in-native, given-within, stands-follows}
 
 -- what an object of the heaps refers to is there
 edges-there : (h : Heap) → IsWellFormed h → (x y : Name) (s : Shape) → shape_at h x ≡ Some s → Among y (edges_of_shape x s) → Among y (names_there h)

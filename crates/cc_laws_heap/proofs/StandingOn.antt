@@ -34,14 +34,14 @@ abbrev pub StandsOn : (Name → Type 0) → Heap → HeapNative → Type 0
 StandsOn P h n = (IsOf h n × (n.unlinked ≡ false → P (native n.number))) ⊎ IsEmptiedOf P h n
 
 -- natives that are the same but for their counts have one name and one shape
-uncounted-name : (m n : HeapNative) → uncounted m ≡ uncounted n → native m.number ≡ native n.number
+pub uncounted-name : (m n : HeapNative) → uncounted m ≡ uncounted n → native m.number ≡ native n.number
 uncounted-name m n e = ap (λ (u : HeapNative). native u.number) e
 
 uncounted-shape : (m n : HeapNative) → uncounted m ≡ uncounted n → shape_of_held_native m ≡ shape_of_held_native n
 uncounted-shape m n e = grind arith
 
 -- both were unlinked, or neither
-uncounted-flag : (m n : HeapNative) → uncounted m ≡ uncounted n → m.unlinked ≡ n.unlinked
+pub uncounted-flag : (m n : HeapNative) → uncounted m ≡ uncounted n → m.unlinked ≡ n.unlinked
 uncounted-flag m n e = ap (λ (u : HeapNative). u.unlinked) e
 
 -- HEAPS OF WHICH EACH NATIVE STANDS ON stand for the graph that the heaps before stood for.

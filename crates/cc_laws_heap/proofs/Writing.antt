@@ -109,9 +109,13 @@ pub HeapChanges-native : (h : Heap) (k : ℕ) (a : HeapNative → HeapNative) (f
     HeapChanges (changed_at (native k) f) h (change_native h k a)
 HeapChanges-native h k a f number flag changes named = record {
   natives = λ n i.
-      let m = Among-map_cases (λ (n : HeapNative). if n.number == k then a n else n) h.natives n i in
-      (m.0, m.1, sym (changed_at-number k a number m.0) ∙ ap (λ (n : HeapNative). n.number) m.2, ap shape_of_held_native (sym m.2) ∙ changed-read shape_of_held_native a f changes (m.0.number == k) m.0,
-      sym (kept m.0 (m.0.number == k)) ∙ ap (λ (n : HeapNative). n.unlinked) m.2);
+      let m = Among-map_cases (λ (n : HeapNative). if n.number == k then a n else n) h.natives n i in (
+        m.0,
+        m.1,
+        sym (changed_at-number k a number m.0) ∙ ap (λ (n : HeapNative). n.number) m.2,
+        ap shape_of_held_native (sym m.2) ∙ changed-read shape_of_held_native a f changes (m.0.number == k) m.0,
+        sym (kept m.0 (m.0.number == k)) ∙ ap (λ (n : HeapNative). n.unlinked) m.2,
+      );
   scripts = λ o i. (o, i, refl, same o o.name (named o i));
 }
   where
