@@ -10,7 +10,7 @@ ghost use Rattle.cc_model.specs.Banks.{Bank};
 ghost use Rattle.cc_model.specs.Slots.{contents, empty_slots};
 ghost use Rattle.cc_model.specs.Heap.{Heap, HeapNative, native_at, has_reflector, set_register, change_native, change_script, with_native_slot, with_script_slot, set_preserved, register, lengthen};
 ghost use Rattle.cc_model.specs.Cascade.{Draining, add_ref, give_up, natives_of_slots, without_native};
-ghost use Rattle.cc_model.specs.Effects.{make_native, make_object, with_reflector, wrapped, set_entry};
+ghost use Rattle.cc_model.specs.Effects.{make_native, hold_native, make_object, with_reflector, wrapped, set_entry};
 ghost use Rattle.cc_model.specs.Exposure.{exposed};
 ghost use Rattle.cc_model.specs.View.{view, ReachedIn};
 ghost use Rattle.cc_model.specs.WellFormed.{IsWellFormed, IsRising, FitsName, is_proxy_kind, native_names};
@@ -26,6 +26,10 @@ ghost use Rattle.cc_laws_snapshot.specs.KindsSuspected.{IsSuspectedIn, IsSuspect
 /// reflector; a register, a slot, a flag or an entry is written, where no script object that is named then, or is the
 /// delegate of the one that is made, is gray, and a native that is put into a slot stands in the buffer; registers come,
 /// empty; something is exposed; a reference is given up; the front of the queue leaves.
+///
+/// One more kind is a native that is brought back, whether something reaches it or not, as a weak reference does it: it gets a
+/// reference that a register holds from then on, in one change, and what the register held is given up. A weak register that is
+/// written changes nothing here, since the heaps have none.
 pub fn kinds_of_change_keep_fresh()
     ensures native_made { (owned : List ℕ) (h : Heap) (s : Snapshot) (d n : ℕ) → IsSound owned h → d < length h.native_registers → n ≤ most_slots →
         h.natives_made < h.limits.natives → IsFreshIn h s → IsFreshIn (make_native h d n).heap s }
@@ -61,6 +65,8 @@ pub fn kinds_of_change_keep_fresh()
     ensures full_front_leaves { (d : Draining) (s : Snapshot) (k : ℕ) → IsRising (map (λ n. n.number) d.heap.natives) →
         IsFreshCounting (k ∷ d.queue) d.heap s →
         IsFreshCounting (natives_of_slots (native_at d.heap k) ++ d.queue) (without_native d k).heap s }
+    ensures brought_back { (owned : List ℕ) (h : Heap) (s : Snapshot) (d : ℕ) (x : Option Name) → IsSound owned h → d < length h.native_registers →
+        IsNativeThere h x → IsFreshIn h s → IsFreshIn (hold_native h d x).heap s }
 {}
 
 /// What waits asks less of a snapshot; where nothing waits, it is fresh as it was.
@@ -77,6 +83,9 @@ pub fn waiting_asks_less()
 /// The kinds: a native is made, and a register holds it; a script object is made; a reached native gets a reference, or a
 /// reflector; a register, a slot, a flag or an entry is written, whatever it then holds; registers come, empty; something
 /// is exposed; a reference is given up; the front of the queue leaves.
+///
+/// One more kind is a native that is brought back, whether something reaches it or not: it gets a reference that a register holds
+/// from then on, in one change, and what the register held is given up. A weak register that is written changes nothing here.
 pub fn kinds_of_change_keep_suspected()
     ensures native_made { (owned : List ℕ) (h : Heap) (candidates : List ℕ) (d n : ℕ) → IsSound owned h → d < length h.native_registers → n ≤ most_slots →
         h.natives_made < h.limits.natives → IsSuspectedIn h candidates → IsSuspectedIn (make_native h d n).heap candidates }
@@ -110,4 +119,6 @@ pub fn kinds_of_change_keep_suspected()
     ensures full_front_leaves { (d : Draining) (candidates : List ℕ) (k : ℕ) → IsWellFormed d.heap →
         IsSuspectedCounting (k ∷ d.queue) d.heap candidates →
         IsSuspectedCounting (natives_of_slots (native_at d.heap k) ++ d.queue) (without_native d k).heap candidates }
+    ensures brought_back { (owned : List ℕ) (h : Heap) (candidates : List ℕ) (d : ℕ) (x : Option Name) → IsSound owned h → d < length h.native_registers →
+        IsNativeThere h x → IsSuspectedIn h candidates → IsSuspectedIn (hold_native h d x).heap candidates }
 {}

@@ -1,3 +1,4 @@
+use Rattle.cc_laws_snapshot.proofs.BroughtBack.{brought_back-fresh}
 use Rattle.cc_laws_snapshot.proofs.Lengthened.{lengthen-fresh}
 use Rattle.cc_laws_snapshot.proofs.KindsMade.{native_made-fresh, object_made-fresh, reflector_made-fresh, exposed-fresh, wrapped-fresh}
 use Rattle.cc_laws_snapshot.proofs.KindsWritten.{reference_added-fresh, register_written-fresh, slot_written-fresh, script_slot_written-fresh, flag_written-fresh, entry_written-fresh}
@@ -48,3 +49,6 @@ returns-clause-wrapped c = wrapped-fresh
 
 pub returns-clause-registers_come : goal.returns-clause-registers_come
 returns-clause-registers_come c = lengthen-fresh
+
+pub returns-clause-brought_back : goal.returns-clause-brought_back
+returns-clause-brought_back c = brought_back-fresh

@@ -1,3 +1,4 @@
+use Rattle.cc_laws_snapshot.proofs.BroughtBack.{brought_back-suspected}
 use Rattle.cc_laws_snapshot.proofs.Lengthened.{lengthen-suspected}
 use Rattle.cc_laws_snapshot.proofs.KindsHeld.{native_made-suspected, object_made-suspected, reflector_made-suspected, wrapped-suspected, reference_added-suspected, script_slot_written-suspected, flag_written-suspected, entry_written-suspected, exposed-suspected}
 use Rattle.cc_laws_snapshot.proofs.KindsWaiting.{register_written-suspected, slot_written-suspected, given_up-suspected, front_leaves-suspected, full_front_leaves-suspected}
@@ -47,3 +48,6 @@ returns-clause-full_front_leaves c = full_front_leaves-suspected
 
 pub returns-clause-registers_come : goal.returns-clause-registers_come
 returns-clause-registers_come c = lengthen-suspected
+
+pub returns-clause-brought_back : goal.returns-clause-brought_back
+returns-clause-brought_back c = brought_back-suspected
