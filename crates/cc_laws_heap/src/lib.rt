@@ -23,4 +23,6 @@ pub use counts::cascade_keeps_counts;
 pub use ends::{ends_keep_counts, ends_stand, unlinking_keeps_counts};
 pub use paths::{paths_agree, paths_are_right};
 pub use rounds::{marking_is_least, rounds_keep_counts, rounds_stand, sweeps_stand};
-pub use stands::{commands_stand, graphs_are_well_made, reached_alike, replies_agree};
+pub use stands::{
+    brought_back_stands, commands_stand, graphs_are_well_made, reached_alike, replies_agree,
+};
