@@ -17,10 +17,13 @@ pub mod InARow
 pub mod RefusedUnits
 pub mod FreedListed
 pub mod EachNamed
+pub mod EndedAfter
+pub mod EndedDeeds
 pub mod RunsOfNumbers
 pub mod UnitLawful
 pub mod HoldingUnits
 pub mod BesideUnits
+pub mod EndedUnits
 pub mod GivingUp
 pub mod UnitsLawful
 pub mod ScriptsLawful
