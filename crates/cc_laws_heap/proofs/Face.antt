@@ -24,7 +24,7 @@ pub use Rattle.cc_laws_heap.proofs.Freed.{TakesOut}
 pub use Rattle.cc_laws_heap.proofs.FreedNames.{FreesNames-left}
 pub use Rattle.cc_laws_heap.proofs.Given.{Reached-given, living-given, living-named, named-living}
 pub use Rattle.cc_laws_heap.proofs.GiveUp.{IsBalanced-give_up_each, living-one, lower_native}
-pub use Rattle.cc_laws_heap.proofs.GraphCommands.{KeepsReflector-slot, proxy-well, step-well}
+pub use Rattle.cc_laws_heap.proofs.GraphCommands.{KeepsReflector-slot, proxy-well, step-well, step_with-well}
 pub use Rattle.cc_laws_heap.proofs.GraphLeads.{graph-within}
 pub use Rattle.cc_laws_heap.proofs.GraphParts.{Grows, IsMadeEntry-grows, IsWellMade-entries, is_some-found, with_natives}
 pub use Rattle.cc_laws_heap.proofs.GraphReads.{Made, MadeNative, MadeScript, native_register-made}
