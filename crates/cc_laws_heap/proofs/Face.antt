@@ -2,6 +2,7 @@
 pub use Rattle.cc_laws_heap.proofs.Apart.{unlink-stands}
 pub use Rattle.cc_laws_heap.proofs.BroughtBack.{IsGivenNative, come_back-given, come_back-there, hold-invariant, hold-sound, hold-stands, hold-unreached, hold-well, usable-given, usable-native}
 pub use Rattle.cc_laws_heap.proofs.Buffer.{places-with_mark_other, places-with_mark_same}
+pub use Rattle.cc_laws_heap.proofs.BufferStands.{HasColourInvariant-buffer, IsSound-buffer, StandsFor-buffer}
 pub use Rattle.cc_laws_heap.proofs.CascadeTakesOut.{TakesOut-cascade, TakesOut-let_go, let_go-gone}
 pub use Rattle.cc_laws_heap.proofs.Cascades.{above-one_at_zero, cascade-frees, cascade-sound, one_above_zero-above, one_at_zero-above}
 pub use Rattle.cc_laws_heap.proofs.Changing.{Follows-left, Leaves, option_map-found}
