@@ -95,7 +95,6 @@ pub mod StepsAlike
 pub mod WeakRegisters
 pub mod CommandsStand
 pub mod UnlinkedKept
-pub mod EndedOn
 pub mod BroughtBack
 pub mod Lengthening
 pub mod GraphLeads
