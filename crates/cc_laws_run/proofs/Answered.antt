@@ -12,7 +12,7 @@ use Rattle.cc_model.specs.declared.item.Refusal.{Refusal}
 use Rattle.cc_model.specs.declared.item.Refusal.TheVariants.{NoMemory}
 use Rattle.cc_model.specs.declared.item.Reply.{Reply}
 use Rattle.cc_model.specs.declared.item.Reply.TheVariants.{Refused, Done}
-use Rattle.cc_model.specs.Mutating.{Saying, silence, version, path, census, says, does, class_of, is_deed}
+use Rattle.cc_model.specs.Mutating.{Saying, silence, version, path, census, says, does, class_of, is_deed, is_mutator}
 use Rattle.cc_model.specs.Asks.{taken}
 use Rattle.cc_model.specs.Ranges.{in_range}
 use Rattle.cc_model.specs.Checks.{refusal_of, reply_if_taken, refused_or}
@@ -53,7 +53,7 @@ running-listed m s r = AreListed-heap m.heap s.listed r.sound.well_formed r.list
 -- Events
 
 -- free lines tell no abandonment
-has_none-freed : (ks : List ℕ) → has_none (map freed_event ks) ≡ true
+pub has_none-freed : (ks : List ℕ) → has_none (map freed_event ks) ≡ true
 has_none-freed [] = refl
 has_none-freed (k ∷ ks) = has_none-freed ks
 
@@ -63,16 +63,16 @@ none-first [] e = refl
 none-first (x ∷ events) e = (and_parts (not (is_abandonment x)) (has_none events) e).1
 
 -- where no collection moves, an abandonment is out of place
-abandonment-none : (c : Command) (reply : Reply) (events : List Event) → IsTrue (moves_no_collection (taken c)) → has_none events ≡ true →
+pub abandonment-none : (c : Command) (reply : Reply) (events : List Event) → IsTrue (moves_no_collection (taken c)) → has_none events ≡ true →
     IsTrue (has_abandonment_in_place c reply events)
 abandonment-none c reply events t e = grind (arith, none-first)
 
 -- nothing unlinked makes no run
-rising-none : (c : Command) (events : List Event) → unlinked_numbers events ≡ [] → IsTrue (nat_le (runs (unlinked_numbers events)) (runs_allowed c))
+pub rising-none : (c : Command) (events : List Event) → unlinked_numbers events ≡ [] → IsTrue (nat_le (runs (unlinked_numbers events)) (runs_allowed c))
 rising-none c events e = subst (λ ks. IsTrue (nat_le (runs ks) (runs_allowed c))) (sym e) (le-leb 0 (runs_allowed c) (omega arith))
 
 -- distinct natives that were listed and that nothing reaches may be freed one after another
-each-freed : (g : Graph) (c : Command) (ks : List ℕ) (names : List Name) → ((k : ℕ) → times k ks ≤ 1) → ((k : ℕ) → Among k ks → Among (native k) names) →
+pub each-freed : (g : Graph) (c : Command) (ks : List ℕ) (names : List Name) → ((k : ℕ) → times k ks ≤ 1) → ((k : ℕ) → Among k ks → Among (native k) names) →
     ((k : ℕ) → Among k ks → ¬ (Reached g (native k))) → EachMayBe g names c (map freed_event ks)
 each-freed g c [] names once there unreached = tt
 each-freed g c (k ∷ ks) names once there unreached = (

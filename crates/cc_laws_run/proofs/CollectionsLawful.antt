@@ -1,6 +1,6 @@
 -- UNITS AND SCRIPT COLLECTIONS are answered lawfully and leave a machine that runs.
 use Rattle.std.specs.Prelude.{IsTrue, nat_le}
-use Rattle.std.proofs.Common.{arith, ◌≡◌, true, false, not, ◌&&◌, List, Some, None, refl, sym, subst, ap, inl}
+use Rattle.std.proofs.Common.{arith, ◌≡◌, true, false, not, ◌&&◌, List, Some, None, refl, sym, ◌∙◌, subst, ap, inl}
 use Rattle.std.proofs.lemmas.Bool.{false≢true, le-leb, or_left}
 use Rattle.cc_names.specs.declared.name.Name.{Name}
 use Rattle.cc_model.specs.declared.command.Command.{Command}

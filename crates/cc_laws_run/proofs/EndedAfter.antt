@@ -1,8 +1,8 @@
 -- WHICH NATIVES HAVE ENDED after what the heaps tell: those that had, and those that a free or an unlink line has. They are those that are
 -- gone, and those that were unlinked.
-use Rattle.std.proofs.Common.{◌≡◌, ℕ, ◌+◌, ◌≤◌, ◌<◌, Bool, true, false, not, ◌&&◌, ◌||◌, List, [], ◌∷◌, ◌++◌, map, Option, Some, None, is_some, refl, sym, ◌∙◌, ap, subst, inl, inr, ◌⊎◌, ⊎_elim, ◌==◌, arith}
+use Rattle.std.proofs.Common.{◌≡◌, ℕ, ◌+◌, ◌≤◌, ◌<◌, Bool, true, false, not, ◌&&◌, ◌||◌, List, [], ◌∷◌, ◌++◌, map, Option, Some, None, is_some, refl, sym, ◌∙◌, ap, subst, inl, inr, ◌⊎◌, ⊎_elim, ◌==◌, nat_le, arith}
 use Rattle.std.specs.List.{filter}
-use Rattle.std.proofs.lemmas.Bool.{false≢true, true≢false, cases_Bool}
+use Rattle.std.proofs.lemmas.Bool.{false≢true, true≢false, cases_Bool, le-leb, leb-true}
 use Rattle.cc_lists.specs.Members.{Among, has}
 use Rattle.cc_lists.proofs.Members.{Among-left, Among-right, Among-append, Among-map, Among-map_cases, Among-filter, Among_or_not, has-among, has-there}
 use Rattle.cc_lists.proofs.Numbers.{number-exact}
@@ -39,7 +39,7 @@ ended-stays (Unlinked y ∷ es) ended x m = ended-stays es (y ∷ ended) x (inr 
 ended-stays (Abandoned ∷ es) ended x m = ended-stays es ended x m
 
 ended-told : (es : List Event) (ended : List Name) (j : ℕ) → IsTold es j → Among (native j) (ended_after ended es)
-ended-told [] ended j t = ⊎_elim (λ f. f) (λ u. u) t
+ended-told [] ended j t = ⊎_elim (λ f. absurd f) (λ u. absurd u) t
 ended-told (Freed y ∷ es) ended j t = ⊎_elim
     (λ f. ⊎_elim (λ e. ended-stays es (y ∷ ended) (native j) (inl e)) (λ r. ended-told es (y ∷ ended) j (inl r)) f)
     (λ u. ended-told es (y ∷ ended) j (inr u))
@@ -51,10 +51,6 @@ ended-told (Unlinked (name.Native k) ∷ es) ended j t = ⊎_elim
     t
 ended-told (Unlinked (name.Script k) ∷ es) ended j t = ended-told es (name.Script k ∷ ended) j t
 ended-told (Unlinked (name.Reflector k) ∷ es) ended j t = ended-told es (name.Reflector k ∷ ended) j t
-
--- what is native j and a name of another kind is nothing
-apart-script : (j : ℕ) (x : Name) → name.Script _ ≡ native j → ⊥
-apart-script j x e = cc
 
 -- a native among the ended names was among them, or is told
 ended-cases : (es : List Event) (ended : List Name) (j : ℕ) → Among (native j) (ended_after ended es) → Among (native j) ended ⊎ IsTold es j
@@ -135,14 +131,17 @@ ended-after h k ended es t a = record {
     unusable : (j : ℕ) → 1 ≤ j → j ≤ k.natives_made → is_usable k (native j) ≡ false → Among (native j) (ended_after ended es)
     unusable j one few e = ⊎_elim
         (λ old. ⊎_elim
-            (λ u. ended-told es ended j (t.told j old u e))
-            (λ u. ended-stays es ended (native j) (has-ended ended j (a.agrees j one old ∙ ap not u)))
-            (cases_Bool (is_usable h (native j))))
+        (λ u. ended-told es ended j (t.told j old u e))
+        (λ u. ended-stays es ended (native j) (has-ended ended j (a.agrees j one old ∙ ap not u)))
+        (cases_Bool (is_usable h (native j))))
         (λ new. ended-told es ended j (t.made j new few e))
         (below j h.natives_made)
       where
+        above : (i n : ℕ) → ¬ (i ≤ n) → n < i
+        above i n d = omega (arith, d)
+
         below : (i n : ℕ) → (i ≤ n) ⊎ (n < i)
-        below i n = omega arith
+        below i n = ⊎_elim (λ e. inl (leb-true i n e)) (λ e. inr (above i n (λ l. true≢false (sym (le-leb i n l) ∙ e)))) (cases_Bool (nat_le i n))
 
 -- The heaps that keep what they do not tell
 
@@ -195,9 +194,9 @@ module _ (h k : Heap) (es : List Event) (made : List Name) (w : IsWellFormed h) 
     gone = λ j t. there-usable k j (λ m. (left-apart (freed_names es) (native_names h ++ made) (native j) (subst (Among (native j)) names m)).1 (told-freed j t));
     told = λ j few u e. ⊎_elim
         (λ m.
-          let n = there-found k j (IsWellFormed-distinct k v) m in
-          let still : is_usable k (native j) ≡ true = usable-kept h k j (IsWellFormed-distinct h w) keep few ∙ (ap (λ b. b && is_some (native_at k j)) u ∙ ap is_some n.1) in
-          absurd (true≢false (sym still ∙ e)))
+        let n = there-found k j (IsWellFormed-distinct k v) m in
+        let still : is_usable k (native j) ≡ true = usable-kept h k j (IsWellFormed-distinct h w) keep few ∙ (ap (λ b. b && is_some (native_at k j)) u ∙ ap is_some n.1) in
+        absurd (true≢false (sym still ∙ e)))
         (λ t. t)
         (there-or-told j (Among-left (native j) (native_names h) made (usable-there h j u)));
     stays = λ j few u. usable-kept h k j (IsWellFormed-distinct h w) keep few ∙ ap (λ b. b && is_some (native_at k j)) u;

@@ -1,5 +1,5 @@
 -- WHICH NATIVES HAVE ENDED after a command: it ends those that it tells freed, and no others.
-use Rattle.std.proofs.Common.{◌≡◌, ℕ, ◌+◌, ◌≤◌, ◌<◌, true, false, List, [], ◌∷◌, ◌++◌, map, Option, Some, None, refl, sym, ◌∙◌, ap, subst, inl, inr, ⊎_elim, arith}
+use Rattle.std.proofs.Common.{◌≡◌, ℕ, ◌+◌, ◌≤◌, ◌<◌, Bool, true, false, List, [], ◌∷◌, ◌++◌, map, Option, Some, None, refl, sym, ◌∙◌, ap, subst, inl, inr, ⊎_elim, arith}
 use Rattle.std.specs.Prelude.{IsTrue}
 use Rattle.std.specs.List.{filter}
 use Rattle.cc_lists.specs.Members.{Among}
@@ -86,7 +86,7 @@ move-made h d i s j =
 wrapped-made : (h : Heap) (x : Option Name) → (wrapped h x).natives_made ≡ h.natives_made
 wrapped-made h (Some (name.Native k)) = go (has_reflector h k.0)
   where
-    go : (b : _) → (elim b as (λ _. Heap) [ true ↦ exposed h (Some (reflector k.0)) | false ↦ with_reflector h k.0 ]).natives_made ≡ h.natives_made
+    go : (b : Bool) → (elim b as (λ _. Heap) [ true ↦ exposed h (Some (reflector k.0)) | false ↦ with_reflector h k.0 ]).natives_made ≡ h.natives_made
     go true = exposed-made h (Some (reflector k.0))
     go false = (Leaves-add_ref (with_script h (reflector k.0) Reflector reflector_slots None) k.0).beside.natives_made
 wrapped-made h (Some (name.Script k)) = refl
@@ -103,20 +103,21 @@ entry-made h (Some m) (Some k) None = refl
 entry-made h (Some m) None v = refl
 entry-made h None k v = refl
 
--- how many a deed makes
-abbrev natives_to_make : Deed → ℕ
-natives_to_make (native_made d n) = 1
-natives_to_make _ = 0
+-- how many were made then
+abbrev made_after : Heap → Deed → ℕ
+made_after h (native_made d n) = h.natives_made + 1
+made_after h _ = h.natives_made
+
+-- a native made
+make-made : (h : Heap) (d n : ℕ) → (make_native h d n).heap.natives_made ≡ h.natives_made + 1
+unfolding make_native
+make-made h d n = put-made (with_native h n) d (Some (native (h.natives_made + 1)))
 
 -- HOW MANY WERE MADE after a deed
-done_in-made : (h : Heap) (d : Deed) → (done_in h d).heap.natives_made ≡ natives_to_make d + h.natives_made
+done_in-made : (h : Heap) (d : Deed) → (done_in h d).heap.natives_made ≡ made_after h d
 unfolding done_in
 done_in-made h nothing_done = refl
-done_in-made h (native_made d n) = make h d n
-  where
-    make : (h : Heap) (d n : ℕ) → (make_native h d n).heap.natives_made ≡ 1 + h.natives_made
-    unfolding make_native
-    make h d n = let e = put-made (with_native h n) d (Some (native (h.natives_made + 1))) in omega (arith, e)
+done_in-made h (native_made d n) = make-made h d n
 done_in-made h (plain_made d n) = refl
 done_in-made h (map_made d) = refl
 done_in-made h (proxy_made d x) = proxy-made h d x
@@ -132,8 +133,12 @@ done_in-made h (entry_written m k v) = entry-made h m k v
 done_in-made h (object_exposed x) = exposed-made h x
 done_in-made h (weak_written w x) = refl
 
+-- no fewer than before
+made-more : (h : Heap) (d : Deed) → h.natives_made ≤ made_after h d
+made-more h d = grind arith
+
 -- what a deed makes has the next number
-made-number : (h : Heap) (d : Deed) (j : ℕ) → h.natives_made < j → j ≤ natives_to_make d + h.natives_made → Among (native j) (natives_made_by h d)
+made-number : (h : Heap) (d : Deed) (j : ℕ) → h.natives_made < j → j ≤ made_after h d → Among (native j) (natives_made_by h d)
 made-number h (native_made d n) j l m = inl (ap native (omega (arith, l, m)))
 made-number h nothing_done j l m = absurd (omega (arith, l, m))
 made-number h (plain_made d n) j l m = absurd (omega (arith, l, m))
@@ -152,7 +157,7 @@ made-number h (object_exposed x) j l m = absurd (omega (arith, l, m))
 made-number h (weak_written w x) j l m = absurd (omega (arith, l, m))
 
 -- what is made has no greater number
-made-few : (h : Heap) (d : Deed) (j : ℕ) → Among (native j) (natives_made_by h d) → j ≤ natives_to_make d + h.natives_made
+made-few : (h : Heap) (d : Deed) (j : ℕ) → Among (native j) (natives_made_by h d) → j ≤ made_after h d
 made-few h (native_made d n) j m = ⊎_elim (λ e. few (ap number e)) (λ b. absurd b) m
   where
     number : Name → ℕ
@@ -160,7 +165,7 @@ made-few h (native_made d n) j m = ⊎_elim (λ e. few (ap number e)) (λ b. abs
     number (name.Script k) = 0
     number (name.Reflector k) = 0
 
-    few : h.natives_made + 1 ≡ j → j ≤ 1 + h.natives_made
+    few : h.natives_made + 1 ≡ j → j ≤ h.natives_made + 1
     few e = omega (arith, e)
 made-few h nothing_done j m = absurd m
 made-few h (plain_made d n) j m = absurd m
@@ -198,9 +203,9 @@ ends-names h o ks made scripts w v names keep more makes few = ends-freed h o.he
     (names.natives_left ∙ (ap (λ es. after_events native_list es) (sym names.told) ∙ after_events-left o.events native_list)) makes
     (ap unlinked_numbers names.told ∙ freed-unlinks_none ks)
     (λ j m. ⊎_elim
-        (λ old. omega (arith, native_names-made h 0 w j old, more))
-        (λ new. few j new)
-        (Among-append (native j) (native_names h) made (were (numbers j m))))
+    (λ old. omega (arith, native_names-made h 0 w j old, more))
+    (λ new. few j new)
+    (Among-append (native j) (native_names h) made (were j (numbers j m))))
   where
     native_list : List Name
     native_list = native_names h ++ made
@@ -208,8 +213,8 @@ ends-names h o ks made scripts w v names keep more makes few = ends-freed h o.he
     numbers : (j : ℕ) → Among (native j) (freed_names o.events) → Among (native j) (map native ks)
     numbers j m = subst (Among (native j)) (ap freed_names names.told ∙ freed-names ks) m
 
-    were : {j : ℕ} → Among (native j) (map native ks) → Among (native j) native_list
-    were {j} m = in_list ks (λ k i. names.were_there k i) m
+    were : (j : ℕ) → Among (native j) (map native ks) → Among (native j) native_list
+    were j m = in_list ks (λ k i. names.were_there k i) m
       where
         in_list : (ls : List ℕ) → ((k : ℕ) → Among k ls → Among (native k) native_list) → Among (native j) (map native ls) → Among (native j) native_list
         in_list [] all b = absurd b
@@ -224,6 +229,6 @@ effects-end h c s k r t =
     let names = effects-names h c s r t in
     let made = done_in-made h d in
     ends-names h (effects h c) names.0 (made_natives h c) (made_scripts h c) s.well_formed k.well_formed names.1 (λ p i. done_in-unlinked h d p i)
-    (omega (arith, made))
-    (λ j l m. made-number h d j l (omega (arith, made, m)))
-    (λ j m. let few = made-few h d j m in omega (arith, made, few))
+    (subst (λ n. h.natives_made ≤ n) (sym made) (made-more h d))
+    (λ j l m. made-number h d j l (subst (λ n. j ≤ n) made m))
+    (λ j m. subst (λ n. j ≤ n) (sym made) (made-few h d j m))

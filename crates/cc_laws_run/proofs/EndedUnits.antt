@@ -1,6 +1,6 @@
 -- WHICH NATIVES HAVE ENDED after units of a collection, and after a script collection: they end those that they tell unlinked or freed, and no
 -- others.
-use Rattle.std.proofs.Common.{◌≡◌, ℕ, ◌+◌, ◌≤◌, ◌<◌, Bool, true, false, not, ◌||◌, List, [], ◌∷◌, ◌++◌, map, Option, Some, None, refl, sym, ◌∙◌, ap, subst, inl, inr, ⊎_elim, ◌==◌, arith}
+use Rattle.std.proofs.Common.{◌≡◌, ℕ, ◌+◌, ◌≤◌, ◌<◌, Bool, true, false, not, ◌||◌, List, [], ◌∷◌, ◌++◌, map, Option, Some, None, refl, sym, ◌∙◌, ap, subst, inl, inr, ◌⊎◌, ⊎_elim, ◌==◌, arith}
 use Rattle.std.specs.List.{filter}
 use Rattle.std.proofs.lemmas.Bool.{false≢true, true≢false, cases_Bool}
 use Rattle.std.proofs.lemmas.List.{append-nil}
@@ -81,11 +81,11 @@ module _ (h : Heap) (ks : List ℕ) (s : IsSound [] h) (are : AreThere ks h) (v 
   abbrev told : List Event
   told = (take_away ks h).events
 
-  t : TakesAway h ks (take_away-takes h ks s are.there).0 (take_away ks h)
-  t = (take_away-takes h ks s are.there).1
-
-  freed : List ℕ
+  abbrev freed : List ℕ
   freed = (take_away-takes h ks s are.there).0
+
+  t : TakesAway h ks freed (take_away ks h)
+  t = (take_away-takes h ks s are.there).1
 
   -- who is told freed is among these numbers
   freed-numbered : (j : ℕ) → Among (native j) (freed_names told) → Among j freed
@@ -113,7 +113,7 @@ module _ (h : Heap) (ks : List ℕ) (s : IsSound [] h) (are : AreThere ks h) (v 
       let n = named-member h j m in
       let was : Among j (left_of h) = subst (λ i. Among i (left_of h)) n.2 (Among-map (λ (n : HeapNative). n.number) n.0 h.natives n.1) in
       let is : Among j (left_of k) = subst (Among j) (sym t.natives) (Among-filter (λ i. not (has ◌==◌ freed i)) j (left_of h) was
-          (⊎_elim (λ e. absurd (d (has-among ◌==◌ number-exact freed j e))) (λ e. ap not e) (cases_Bool (has ◌==◌ freed j)))) in
+      (⊎_elim (λ e. absurd (d (has-among ◌==◌ number-exact freed j e))) (λ e. ap not e) (cases_Bool (has ◌==◌ freed j)))) in
       let f = Among-map_cases (λ (n : HeapNative). n.number) k.natives j is in
       (f.0, ap (native_at k) (sym f.2) ∙ native_at-member k (IsWellFormed-distinct k v) f.0 f.1)
 
@@ -152,9 +152,9 @@ module _ (h : Heap) (ks : List ℕ) (s : IsSound [] h) (are : AreThere ks h) (v 
       gone j is (Some n) e = ⊎_elim
           (λ f. absurd (found-not_freed j n e (freed-numbered j f)))
           (λ u. ⊎_elim
-              (λ l. found-usable k j n true e l.1)
-              (λ o. absurd (o.0 (subst (Among j) unlinked-is u)))
-              (found-cases j n e))
+          (λ l. found-usable k j n true e l.1)
+          (λ o. absurd (o.0 (subst (Among j) unlinked-is u)))
+          (found-cases j n e))
           is
 
       stays : (j : ℕ) → is_usable h (native j) ≡ false → (o : Option HeapNative) → native_at k j ≡ o → is_usable k (native j) ≡ false
@@ -175,11 +175,11 @@ module _ (h : Heap) (ks : List ℕ) (s : IsSound [] h) (are : AreThere ks h) (v 
       told_of j u e = ⊎_elim
           (λ f. inl (numbered-freed j f))
           (λ d.
-            let n = left-found j (there j u) d in
-            ⊎_elim
-            (λ l. inr (subst (Among j) (sym unlinked-is) l.0))
-            (λ o. absurd (true≢false (sym u ∙ (o.1 ∙ (sym (found-usable k j n.0 n.0.unlinked n.1 refl) ∙ e)))))
-            (found-cases j n.0 n.1))
+          let n = left-found j (there j u) d in
+          ⊎_elim
+          (λ l. inr (subst (Among j) (sym unlinked-is) l.0))
+          (λ o. absurd (true≢false (sym u ∙ (o.1 ∙ (sym (found-usable k j n.0 n.0.unlinked n.1 refl) ∙ e)))))
+          (found-cases j n.0 n.1))
           (Among_or_not ◌==◌ number-exact freed j)
 
 -- Units

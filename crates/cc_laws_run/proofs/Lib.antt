@@ -6,6 +6,7 @@ pub mod Spoken
 pub mod CommandCases
 pub mod Answered
 pub mod RunsOn
+pub mod ReadingWeak
 pub mod Forgetting
 pub mod Unabandoned
 pub mod UnitsUse

@@ -9,7 +9,7 @@ use Rattle.cc_model.specs.Slots.{Slots}
 use Rattle.cc_model.specs.Ranges.{in_range}
 use Rattle.cc_model.specs.Mutating.{so_many, Class, reads_weak, collects_scripts, class_of}
 use Rattle.cc_model.specs.Checks.{Objects}
-use Rattle.cc_model.specs.Deeds.{deed_of}
+use Rattle.cc_model.specs.Deeds.{Deed}
 use Rattle.cc_model.specs.Marking.{NewMarks, marking_after}
 use Rattle.cc_model.specs.Collecting.{Machine}
 use Rattle.cc_model.specs.Run.{weak_after, beside_deed}
