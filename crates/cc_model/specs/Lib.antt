@@ -22,6 +22,7 @@ pub mod Listed
 pub mod Lawful
 pub mod Quiet
 pub mod Heap
+pub mod Given
 pub mod Places
 pub mod View
 pub mod WellFormed

@@ -1,9 +1,8 @@
 -- THE PLAIN RUN: the asks done on the heaps and the snapshot.
 use Rattle.std.specs.Prelude.{ℕ, Bool, true, false, not, ◌&&◌, List, [], ◌∷◌, ◌++◌, map, length, Option, Some, None, option_map, option_and_then, slice_index_or, slice_set, if◌then◌else◌}
-use Rattle.std.specs.List.{list_any}
 use Rattle.cc_names.specs.Allowance.{Allowance}
 use Rattle.cc_names.specs.declared.name.Name.{Name}
-use Rattle.cc_names.specs.Names.{native, natives_in}
+use Rattle.cc_names.specs.Names.{native}
 use Rattle.cc_model.specs.declared.command.Command.{Command}
 use Rattle.cc_model.specs.declared.item.Refusal.{Refusal}
 use Rattle.cc_model.specs.declared.item.Refusal.TheVariants.{NoMemory, Long, Line}
@@ -16,7 +15,8 @@ use Rattle.cc_model.specs.Asks.{Ask, long, bad, taken, asks_of}
 use Rattle.cc_model.specs.Checks.{refusal_of, reply_if_taken, named_or_nothing}
 use Rattle.cc_model.specs.Slots.{Slots}
 use Rattle.cc_model.specs.Deeds.{Deed, weak_written, deed_of}
-use Rattle.cc_model.specs.Heap.{Heap, HeapNative, Outcome, native_at, objects_of}
+use Rattle.cc_model.specs.Heap.{Heap, Outcome, objects_of}
+use Rattle.cc_model.specs.Given.{is_usable}
 use Rattle.cc_model.specs.Derivations.{leads_in, why_of}
 use Rattle.cc_model.specs.Effects.{effects, hold_native, takes_memory}
 use Rattle.cc_model.specs.Marking.{marking_after}
@@ -68,14 +68,6 @@ unfoldable pub mutate : Machine → Command → Turn
 mutate m c = unless_refused m c (refusal_of (objects_of m.heap) c)
 
 -- The other commands
-
--- whether a native is in the heaps and was not unlinked
-abbrev pub is_usable_native : Option HeapNative → Bool
-is_usable_native None = false
-is_usable_native (Some n) = not n.unlinked
-
-abbrev pub is_usable : Heap → Name → Bool
-is_usable h x = list_any (λ k. is_usable_native (native_at h k)) (natives_in x)
 
 -- what weak register w notes, where its native is in the heaps and was not unlinked
 abbrev pub noted : Machine → ℕ → Option Name
