@@ -44,6 +44,10 @@ pub mod TouchedSteps
 pub mod TouchedCascade
 pub mod TouchedCommands
 pub mod MissesLost
+pub mod GraphStays
+pub mod GivenNames
+pub mod GivenHeaps
+pub mod DoomedLess
 pub mod SpentViews
 pub mod SpentGone
 pub mod SpentUnits

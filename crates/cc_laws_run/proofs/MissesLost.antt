@@ -39,7 +39,7 @@ use Rattle.cc_laws_run.proofs.TouchedViews.{edge-cases}
 use Rattle.cc_laws_snapshot.proofs.Edges.{native_edges-has}
 
 -- what has a delegate in the graph is a proxy of it
-delegate_in-proxy : (g : Graph) (x d : Name) → delegate_in g x ≡ Some d → (k : ℕ) × (script_in g k ≡ Some (proxy d))
+pub delegate_in-proxy : (g : Graph) (x d : Name) → delegate_in g x ≡ Some d → (k : ℕ) × (script_in g k ≡ Some (proxy d))
 delegate_in-proxy g (name.Native k) d e = absurd (cc)
 delegate_in-proxy g (name.Reflector k) d e = absurd (cc)
 delegate_in-proxy g (name.Script k) d e = (k.0, of (script_in g k.0) e)
@@ -84,10 +84,6 @@ module _ (h : Heap) where
       native-lost k (Among-filter (is_unreached (view h)) (native k) (names_there h)
       (Among-left (native k) (native_names h) (script_names h) place)
       (and_parts (is_unreached (view h) (native k)) true passes).0)
-
--- a member of a mapping is what the entry names
-if_gray-own : (h : Heap) (x y : Name) → if_gray h x ≡ Some y → x ≡ y
-if_gray-own h x y e = grind arith
 
 -- Reflectors of reached natives
 
@@ -229,10 +225,6 @@ module _ (h : Heap) (g : Graph) (sound : IsSound [] h) (well : IsWellMade g) (st
       map-of e _ its_value = refl
       map-of e _ (its_key d is) = refl
 
-  -- so is one that a mapping names
-  mapping-lost : (m : Mapping) → Among m (mappings_of h) → (p : Name) → IsMember p m → Among p (garbage h) → Among p (lost h)
-  mapping-lost m i p a b = grind (arith, Among-map_cases, Among-filtered, member-lost, if_gray-own)
-
   -- WHERE A SNAPSHOT BEGUN DOOMS GARBAGE, IT DOOMS WHAT IS LOST.
   pub lost-doomed : IsDoomed (view (with_empty_buffer h)) (begun h) (garbage h) → IsDoomed (view (with_empty_buffer h)) (begun h) (lost h)
   lost-doomed d = record {
@@ -248,7 +240,11 @@ module _ (h : Heap) (g : Graph) (sound : IsSound [] h) (well : IsWellMade g) (st
         (λ l. inl (member-lost e m e.the_map (inl refl) l))
         (λ r. inr (member-lost e m e.key (inr refl) r))
         (d.joint e m (lost-garbage h e.value b));
-    noter = λ x y m b. absurd m;
-    mapper = λ m i b. let p = d.mapper m i (lost-garbage h m.value b) in (p.0, p.1, mapping-lost m i p.0 p.1 p.2);
+    noted_held = λ x y m b. absurd m;
+    mapping_held = λ m i b. let e = d.mapping_held m i (lost-garbage h m.value b) in (e.0, e.1, record {
+      value = e.2.value;
+      the_map = λ l. e.2.the_map (lost-garbage h e.0.the_map l);
+      key = λ l. e.2.key (lost-garbage h e.0.key l);
+    });
     covered = λ x b. d.covered x (lost-garbage h x b);
   }

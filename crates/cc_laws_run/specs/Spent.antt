@@ -1,10 +1,10 @@
 -- WHAT A COLLECTION HAS UNLINKED, until a script collection takes it away.
-use Rattle.std.specs.Prelude.{ℕ, ◌≤◌, ◌⊎◌, List}
+use Rattle.std.specs.Prelude.{◌≡◌, ℕ, ◌≤◌, true, ◌⊎◌, List}
 use Rattle.cc_lists.specs.Members.{Among}
 use Rattle.cc_names.specs.declared.name.Name.{Name}
 use Rattle.cc_names.specs.Names.{native, object}
 use Rattle.cc_model.specs.Entries.{Joint, joints}
-use Rattle.cc_model.specs.Heap.{Heap}
+use Rattle.cc_model.specs.Heap.{Heap, HeapNative}
 use Rattle.cc_model.specs.View.{view}
 
 -- names that only such names hold and that no register has, whose natives hold nothing; they may be gone by now
@@ -18,3 +18,5 @@ pub record IsSpent (h : Heap) (ds : List Name) : Type 0 where
   pub joint : (e : Joint) → Among e (joints h.entries) → Among e.value ds → Among e.the_map ds ⊎ Among e.key ds
   -- a native of them has no slot that holds something, and preserves nothing
   pub empty : (i : ℕ) (y : Name) → Among (native i) ds → ¬ (Among (native i, y) (view h).edges)
+  -- one that is there was unlinked, so that no weak register gives it
+  pub unlinked : (n : HeapNative) → Among n h.natives → Among (native n.number) ds → n.unlinked ≡ true
