@@ -234,12 +234,15 @@ module _ (h : Heap) (sound : IsSound [] h) (c : HasColours h) (none : unmarked h
       let there : Among e (joints h.entries) = Among-filtered (λ (d : Joint). is_gray_in h d.value) e (joints h.entries) f.1 in
       let members = members-there e there in
       let the_map : if_gray h e.the_map ≡ m.the_map = ap (λ (n : Mapping). n.the_map) f.2 in
-      let key : if_gray h e.key ≡ m.key = ap (λ (n : Mapping). n.key) f.2 in
-      (e, there, record {
-        value = ap (λ (n : Mapping). n.value) f.2;
-        the_map = λ l. sym the_map ∙ if_gray-some e.the_map (garbage-gray e.the_map members.the_map l);
-        key = λ r. sym key ∙ if_gray-some e.key (garbage-gray e.key members.key r);
-      })
+      let key : if_gray h e.key ≡ m.key = ap (λ (n : Mapping). n.key) f.2 in (
+        e,
+        there,
+        record {
+          value = ap (λ (n : Mapping). n.value) f.2;
+          the_map = λ l. sym the_map ∙ if_gray-some e.the_map (garbage-gray e.the_map members.the_map l);
+          key = λ r. sym key ∙ if_gray-some e.key (garbage-gray e.key members.key r);
+        },
+      )
 
   -- ALL GARBAGE IS DOOMED by the snapshot begun.
   pub begun-doomed : IsDoomed (view (with_empty_buffer h)) (begun h) (garbage h)

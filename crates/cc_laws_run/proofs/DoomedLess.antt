@@ -32,11 +32,15 @@ doomed-some v s ds es d within holder joint = record {
   holder = holder;
   joint = joint;
   noted_held = λ x y m i. d.noted_held x y m (within y i);
-  mapping_held = λ m i b. let e = d.mapping_held m i (within m.value b) in (e.0, e.1, record {
-    value = e.2.value;
-    the_map = λ l. e.2.the_map (within e.0.the_map l);
-    key = λ l. e.2.key (within e.0.key l);
-  });
+  mapping_held = λ m i b. let e = d.mapping_held m i (within m.value b) in (
+    e.0,
+    e.1,
+    record {
+      value = e.2.value;
+      the_map = λ l. e.2.the_map (within e.0.the_map l);
+      key = λ l. e.2.key (within e.0.key l);
+    },
+  );
   covered = λ x m. d.covered x (within x m);
 }
 

@@ -40,7 +40,7 @@ use Rattle.cc_laws_run.proofs.DoomedBegin.{collected-doomed}
 use Rattle.cc_laws_run.proofs.CollectionsLawful.{running-on}
 use Rattle.cc_laws_run.proofs.PlainLawful.{any-runs}
 use Rattle.cc_laws_run.proofs.QuietUnits.{gc-collects, running-going}
-use Rattle.cc_laws_run.proofs.MissesLost.{lost-doomed}
+use Rattle.cc_laws_run.proofs.MissesLost.{lost-doomed, lost-keeps}
 use Rattle.cc_laws_run.proofs.Unabandoned.{TellsNone, none-abandoned}
 use Rattle.cc_laws_run.proofs.SpentGone.{collected-gone}
 use Rattle.cc_laws_run.proofs.HoldingUnits.{HoldsOn, units_done-holds, unless_stopped-cases}
@@ -229,38 +229,31 @@ followed-gone m s asks ds r f unrefused x i = grind (arith, first_collection-app
 -- Right after `gc`
 
 -- a machine that runs does so after `gc`
-pub after_gc-runs : (m : Machine) (s : State) → IsRunning m s → (t : State) × IsRunning (gc m).machine t
+pub after_gc-runs : (m : Machine) (s : State) → IsRunning m s → IsRunning (gc m).machine (next s (taken Gc) (do_ask m (taken Gc)).answer)
 unfolding do_ask
-after_gc-runs m s r = (next s (taken Gc) (do_ask m (taken Gc)).answer, any-runs m s (taken Gc) r refl)
+after_gc-runs m s r = any-runs m s (taken Gc) r refl
 
-module _ (m : Machine) (s : State) (r : IsRunning m s) (suspected : IsSuspectedNow m) where
-  -- what was lost
-  abbrev lost_then : List Name
-  lost_then = lost (gc m).machine.heap
+-- a collection that begins now dooms what is garbage
+abbrev pub Dooms : Machine → Type 0
+Dooms m = (m.snapshot ≡ None) × IsDoomed (view (with_empty_buffer m.heap)) (begun m.heap) (garbage m.heap)
 
-  -- the snapshot that begins then dooms it
-  after_gc-doomed : let h = (gc m).machine.heap in ((gc m).machine.snapshot ≡ None) × IsDoomed (view (with_empty_buffer h)) (begun h) lost_then
-  after_gc-doomed =
-      let a : Machine = (gc m).machine in
-      let f = gc-collects m (running-going m s r suspected) in
-      let all : IsDoomed (view (with_empty_buffer a.heap)) (begun a.heap) (garbage a.heap) =
-      subst (λ (h : Heap). IsDoomed (view (with_empty_buffer h)) (begun h) (garbage h)) (sym f.3) (collected-doomed f.0 f.1 f.2) in
-      let t = after_gc-runs m s r in
-      (f.4, lost-doomed a.heap t.0.graph t.1.sound t.1.well_made t.1.stands all)
+-- so it does right after `gc`
+pub after_gc-dooms : (m : Machine) (s : State) → IsRunning m s → IsSuspectedNow m → Dooms (gc m).machine
+after_gc-dooms m s r suspected =
+    let f = gc-collects m (running-going m s r suspected) in
+    (f.4, subst (λ (h : Heap). IsDoomed (view (with_empty_buffer h)) (begun h) (garbage h)) (sym f.3) (collected-doomed f.0 f.1 f.2))
 
-  -- THE ASK THAT BEGINS A COLLECTION RIGHT AFTER `gc` makes one that can't miss what was lost,
-  pub after_gc-begins : (ask : Ask) → begins_one ask ≡ true →
-      let d = first_units (gc m).machine ask in IsFollowed lost_then d.events d.progress (do_ask (gc m).machine ask).machine
-  after_gc-begins ask e = let t = after_gc-runs m s r in begin-follows (gc m).machine t.0 lost_then t.1 after_gc-doomed.0 after_gc-doomed.1 ask e
+module _ (m : Machine) (s : State) (r : IsRunning m s) (dooms : Dooms m) where
+  -- THE ASK THAT BEGINS A COLLECTION then makes one that can't miss what was lost,
+  pub begun-follows : (ask : Ask) → begins_one ask ≡ true → IsFollowed (lost m.heap) (first_units m ask).events (first_units m ask).progress (do_ask m ask).machine
+  begun-follows ask e = begin-follows m s (lost m.heap) r dooms.0 (lost-doomed m.heap s.graph r.sound r.well_made r.stands dooms.1) ask e
 
   -- AND IT CAN'T MISS IT under later asks that bring nothing back.
-  pub after_gc-follows : (ask : Ask) (asks : List Ask) → begins_one ask ≡ true → IsTrue (list_all ask_in_range asks) →
-      IsTrue (list_all brings_none_back asks) → KeepsReflectors lost_then →
-      let c = first_collection (gc m).machine (ask ∷ asks) in IsFollowed lost_then c.events c.progress (machine_after (gc m).machine (ask ∷ asks))
-  after_gc-follows ask asks e range none keeps =
-      let a : Machine = (gc m).machine in
-      let t = after_gc-runs m s r in
-      let u : State = next t.0 ask (do_ask a ask).answer in
-      let still : IsRunning (do_ask a ask).machine u = begin-runs a t.0 ask t.1 e in
-      ask-then a u ask asks lost_then still range keeps (after_gc-begins ask e)
-      (asks-follow (do_ask a ask).machine u asks lost_then still range none keeps)
+  pub all-follow : (ask : Ask) (asks : List Ask) → begins_one ask ≡ true → IsTrue (list_all ask_in_range asks) → IsTrue (list_all brings_none_back asks) →
+      let c = first_collection m (ask ∷ asks) in IsFollowed (lost m.heap) c.events c.progress (machine_after m (ask ∷ asks))
+  all-follow ask asks e range none =
+      let u : State = next s ask (do_ask m ask).answer in
+      let still : IsRunning (do_ask m ask).machine u = begin-runs m s ask r e in
+      let keeps : KeepsReflectors (lost m.heap) = lost-keeps m.heap r.sound in
+      ask-then m u ask asks (lost m.heap) still range keeps (begun-follows ask e)
+      (asks-follow (do_ask m ask).machine u asks (lost m.heap) still range none keeps)

@@ -42,7 +42,7 @@ pub record KeepsBut (P : Name → Type 0) (g e : Graph) : Type 0 where
 
 module _ (P : Name → Type 0) where
   -- a graph has its own
-  KeepsBut-refl : (g : Graph) → KeepsBut P g g
+  pub KeepsBut-refl : (g : Graph) → KeepsBut P g g
   KeepsBut-refl g = record { edges = λ x y m. inl m; entries = λ d m. inl m }
 
   -- one change after another

@@ -54,6 +54,7 @@ pub mod SpentUnits
 pub mod SpentAsks
 pub mod FirstCollection
 pub mod FollowedAsks
+pub mod FollowedBack
 pub mod WholeRuns
 pub mod Witnesses
 pub mod Face

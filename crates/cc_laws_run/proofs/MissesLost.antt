@@ -1,11 +1,11 @@
 -- WHAT IS LOST: garbage but for the reflectors of reached natives. A collection that dooms garbage dooms it.
-use Rattle.std.proofs.Common.{arith, ◌≡◌, ℕ, Bool, true, false, ◌&&◌, [], ◌∷◌, map, Option, Some, None, option_map, refl, sym, ◌∙◌, ap, subst, inl, inr, ◌⊎◌, ⊎_elim, is_some}
+use Rattle.std.proofs.Common.{arith, ◌≡◌, ℕ, Bool, true, false, ◌&&◌, List, [], ◌∷◌, map, Option, Some, None, option_map, refl, sym, ◌∙◌, ap, subst, inl, inr, ◌⊎◌, ⊎_elim, is_some}
 use Rattle.std.specs.Prelude.{option_and_then}
 use Rattle.std.specs.List.{list_all}
 use Rattle.std.proofs.lemmas.Bool.{true≢false, and_parts, and_from}
 use Rattle.cc_model.proofs.Places.{behind_edges, script_edges-split, script_place-cases}
 use Rattle.cc_lists.specs.Members.{Among}
-use Rattle.cc_lists.proofs.Members.{Among-map_cases, Among-left, Among-append, Among-filter, Among-filtered, Among-passes}
+use Rattle.cc_lists.proofs.Members.{Among-map_cases, Among-left, Among-right, Among-append, Among-filter, Among-filtered, Among-passes}
 use Rattle.cc_lists.proofs.Least.{derive-along}
 use Rattle.cc_names.specs.declared.name.Name.{Name}
 use Rattle.cc_names.specs.declared.name.Name.TheVariants as name
@@ -29,12 +29,15 @@ use Rattle.cc_laws_heap.specs.Sound.{IsSound}
 use Rattle.cc_laws_heap.proofs.Natives.{IsWellFormed-distinct, native_at-member, named-member}
 use Rattle.cc_laws_heap.proofs.ReachedAlike.{ArePart-among, in-reached}
 use Rattle.cc_laws_heap.proofs.ViewEdges.{native_edges-are}
-use Rattle.cc_laws_run.specs.Doomed.{IsMember, IsDoomed, KeepsReflectors, garbage}
+use Rattle.cc_laws_run.specs.Doomed.{IsDoomed, KeepsReflectors, garbage}
+use Rattle.cc_model.specs.Reached.{Reached}
+use Rattle.cc_model.specs.Given.{given}
+use Rattle.cc_laws_run.specs.Returning.{MayBeBack, AreBeside}
 use Rattle.cc_laws_run.specs.Missing.{lost}
 use Rattle.cc_laws_snapshot.proofs.KindsLoyal.{reached_cases}
 use Rattle.cc_laws_snapshot.proofs.ReachedStays.{native-edge}
-use Rattle.cc_laws_snapshot.proofs.SoundView.{script-place}
-use Rattle.cc_laws_run.proofs.DoomedBegin.{out-unreached, garbage-is_there, garbage-out}
+use Rattle.cc_laws_snapshot.proofs.SoundView.{script-place, joint-there}
+use Rattle.cc_laws_run.proofs.DoomedBegin.{out-unreached, garbage-there, garbage-is_there, garbage-out}
 use Rattle.cc_laws_run.proofs.TouchedViews.{edge-cases}
 use Rattle.cc_laws_snapshot.proofs.Edges.{native_edges-has}
 
@@ -241,10 +244,30 @@ module _ (h : Heap) (g : Graph) (sound : IsSound [] h) (well : IsWellMade g) (st
         (λ r. inr (member-lost e m e.key (inr refl) r))
         (d.joint e m (lost-garbage h e.value b));
     noted_held = λ x y m b. absurd m;
-    mapping_held = λ m i b. let e = d.mapping_held m i (lost-garbage h m.value b) in (e.0, e.1, record {
-      value = e.2.value;
-      the_map = λ l. e.2.the_map (lost-garbage h e.0.the_map l);
-      key = λ l. e.2.key (lost-garbage h e.0.key l);
-    });
+    mapping_held = λ m i b. let e = d.mapping_held m i (lost-garbage h m.value b) in (
+      e.0,
+      e.1,
+      record {
+        value = e.2.value;
+        the_map = λ l. e.2.the_map (lost-garbage h e.0.the_map l);
+        key = λ l. e.2.key (lost-garbage h e.0.key l);
+      },
+    );
     covered = λ x b. d.covered x (lost-garbage h x b);
   }
+
+  -- what together gives what is lost is lost, or reached
+  lost-or_reached : (x : Name) → Among x (names_there h) → (Among x (garbage h) → Among x (lost h)) → Among x (lost h) ⊎ ReachedIn (view h) x
+  lost-or_reached x there lost_then = ⊎_elim (λ r. inr r) (λ out. inl (lost_then (garbage-there h x there out))) (reached_cases (view h) x)
+
+  -- WHAT IS BESIDE WHAT IS LOST is reached, so it is met.
+  pub lost-beside : (met : List Name) → ((x : Name) → Reached g x → Among x met) → AreBeside g met (view h) (lost h)
+  lost-beside met reached = record {
+    the_map = λ e m i. back (lost-or_reached e.the_map
+        (Among-right e.the_map (native_names h) (script_names h) (joint-there h sound.well_formed e m).the_map) (member-lost e m e.the_map (inl refl)));
+    key = λ e m i. back (lost-or_reached e.key
+        (Among-right e.key (native_names h) (script_names h) (joint-there h sound.well_formed e m).key) (member-lost e m e.key (inr refl)));
+  }
+    where
+      back : {x : Name} → Among x (lost h) ⊎ ReachedIn (view h) x → Among x (lost h) ⊎ MayBeBack g met x
+      back {x} c = ⊎_elim (λ l. inl l) (λ r. inr (inl (given x (reached x (in-reached h g sound.well_formed well stands x r))))) c

@@ -91,14 +91,14 @@ units-spend m s u ds r d =
 noted-unspent : (m : Machine) (w : ℕ) (ds : List Name) → IsSpent m.heap ds → IsUntouched ds (noted m w)
 noted-unspent m w ds d = of (slice_index_or m.weak w None)
   where
+    unused : (b : Bool) → (not b || false) ≡ true → b ≡ false
+    unused true t = absurd (false≢true t)
+    unused false t = refl
+
     usable : (n : Option HeapNative) (k : ℕ) → native_at m.heap k ≡ n → (is_usable_native n || false) ≡ true → ¬ (Among (native k) ds)
     usable None k e t i = false≢true t
     usable (Some n) k e t i = true≢false (sym (d.unlinked n (native_at-there m.heap k n e)
         (subst (λ j. Among (native j) ds) (sym (native_at-number m.heap k n e)) i)) ∙ unused n.unlinked t)
-
-    unused : (b : Bool) → (not b || false) ≡ true → b ≡ false
-    unused true t = absurd (false≢true t)
-    unused false t = refl
 
     given : (x : Name) (b : Bool) → is_usable m.heap x ≡ b → IsUntouched ds (if b then Some x else None)
     given x false e y i j = i
@@ -108,7 +108,7 @@ noted-unspent m w ds d = of (slice_index_or m.weak w None)
 
     of : (o : Option Name) → IsUntouched ds (option_and_then (λ x. if is_usable m.heap x then Some x else None) o)
     of None y i j = i
-    of (Some x) = given x (is_usable m.heap x) refl
+    of (Some x) y i j = given x (is_usable m.heap x) refl y i j
 
 -- a weak register read leaves them spent
 read_weak-spends : (m : Machine) (s : State) (c : Command) (n w : ℕ) (ds : List Name) → IsRunning m s → IsTrue (in_range c) → IsSpent m.heap ds →
