@@ -23,7 +23,20 @@ HasColourInvariant-buffer h bs c = record { black_to_black = c.black_to_black; h
 
 -- The graph has no buffer.
 pub StandsFor-buffer : (h : Heap) (bs : List Buffered) (g : Graph) → StandsFor h g → StandsFor (with_buffer h bs) g
-StandsFor-buffer h bs g s = grind arith
+StandsFor-buffer h bs g s = record {
+  native_registers = s.native_registers;
+  script_registers = s.script_registers;
+  limits = s.limits;
+  natives_made = s.natives_made;
+  scripts_made = s.scripts_made;
+  natives = s.natives;
+  scripts = s.scripts;
+  given = λ x d. let k = s.given x d in record { shape = k.shape; made = k.made; there = k.there };
+  values = s.values;
+  spent = s.spent;
+  entries = s.entries;
+  blank = s.blank;
+}
 
 -- a buffer whose natives keep their places, whatever their marks become, is one of natives that are there, each once
 pub IsBuffer-marks : (h : Heap) (f : Buffered → Buffered) → ((b : Buffered) → (f b).number ≡ b.number) → IsWellFormed h → IsBuffer h (map f h.buffer)

@@ -24,10 +24,10 @@ Change = Name → Shape → Shape
 abbrev pub unchanged : Change
 unchanged x s = s
 
--- objects of the changed heaps are those of the heaps, changed; some may be left out
+-- objects of the changed heaps are those of the heaps, changed, and unlinked where they were; some may be left out
 pub record HeapChanges (f : Change) (h k : Heap) : Type 0 where
   pub natives : (n : HeapNative) → Among n k.natives →
-      (m : HeapNative) × Among m h.natives × (m.number ≡ n.number) × (shape_of_held_native n ≡ f (native m.number) (shape_of_held_native m))
+      (m : HeapNative) × Among m h.natives × (m.number ≡ n.number) × (shape_of_held_native n ≡ f (native m.number) (shape_of_held_native m)) × (m.unlinked ≡ n.unlinked)
   pub scripts : (o : HeapScript) → Among o k.scripts →
       (p : HeapScript) × Among p h.scripts × (p.name ≡ o.name) × (shape_of_held_script o ≡ f p.name (shape_of_held_script p))
 
@@ -44,6 +44,8 @@ pub AreObjects-changed : (P : Name → Type 0) (f : Change) (h k : Heap) (g e : 
     ((x : Name) → ((s : Shape) → f x s ≡ s) ⊎ P x) → AreObjects P h g → AreObjects P k e
 AreObjects-changed P f h k g e heap graph moved a = record {
   natives = natives;
+  living = λ n i u. let m = heap.natives n i in subst (λ j. P (native j)) m.2 (a.living m.0 m.1 (m.4 ∙ u));
+  spent = λ n i u p. let m = heap.natives n i in a.spent m.0 m.1 (m.4 ∙ u) (subst (λ j. P (native j)) (sym m.2) p);
   alike = alike;
   scripts = scripts;
   named = λ o i. let p = heap.scripts o i in subst (λ x. IsTrue (is_script x)) p.2 (a.named p.0 p.1);
@@ -64,7 +66,7 @@ AreObjects-changed P f h k g e heap graph moved a = record {
           ap (λ j. shape_in e (native j)) (sym m.2) ∙ (graph (native m.0.number) ∙ ap (option_map (f (native m.0.number))) t.1),
           ⊎_elim (λ s. inl (m.3 ∙ ap (f (native m.0.number)) s))
               (λ emptied. ⊎_elim
-              (λ stays. inr (still n m.0 (m.3 ∙ stays (shape_of_held_native m.0)) emptied))
+              (λ stays. inr (still n m.0 (m.3 ∙ stays (shape_of_held_native m.0)) m.4 emptied))
               (λ p. let s : shape_of_held_native m.0 ≡ t.0 = some (sym (a.alike m.0 m.1 p) ∙ t.1) in inl (m.3 ∙ ap (f (native m.0.number)) s))
               (moved (native m.0.number))) t.2,
         )
@@ -72,10 +74,11 @@ AreObjects-changed P f h k g e heap graph moved a = record {
         some : {a b : Shape} → Some a ≡ Some b → a ≡ b
         some e = cc
 
-        still : (n m : HeapNative) → shape_of_held_native n ≡ shape_of_held_native m → IsEmptied m → IsEmptied n
-        still n m s t =
+        still : (n m : HeapNative) → shape_of_held_native n ≡ shape_of_held_native m → m.unlinked ≡ n.unlinked → IsEmptied m → IsEmptied n
+        still n m s u t =
             let slots : n.slots ≡ m.slots = ap (λ (s : Shape). slots_or_none s.slots) s in
             record {
+              unlinked = sym u ∙ t.unlinked;
               slots = subst (λ (l : Slots). l ≡ empty_slots (length l)) (sym slots) t.slots;
               preserved = ap (λ (s : Shape). s.preserved) s ∙ t.preserved;
             }
@@ -182,7 +185,7 @@ Leaves-uncounted h k natives b = record {
   objects = record {
     natives = λ n i.
         let m = Among-map_cases uncounted h.natives (uncounted n) (natives (uncounted n) (Among-map uncounted n k.natives i)) in
-        (m.0, m.1, ap (λ (u : HeapNative). u.number) m.2, ap shape_of_held_native (sym m.2));
+        (m.0, m.1, ap (λ (u : HeapNative). u.number) m.2, ap shape_of_held_native (sym m.2), ap (λ (u : HeapNative). u.unlinked) m.2);
     scripts = λ o i. (o, subst (Among o) b.scripts i, refl, refl);
   };
 }

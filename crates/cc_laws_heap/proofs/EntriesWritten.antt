@@ -122,7 +122,7 @@ Follows-entries P h g es fs a new t = record {
     scripts_made = t.beside.scripts_made;
   };
   objects = AreObjects-changed P unchanged h (record h { entries = es }) g (with_entries g fs)
-      (record { natives = λ n i. (n, i, refl, refl); scripts = λ o i. (o, i, refl, refl) })
+      (record { natives = λ n i. (n, i, refl, refl, refl); scripts = λ o i. (o, i, refl, refl) })
       (λ x. same x ∙ option_map-same (shape_in g x)) (λ x. inl (λ s. refl)) t.objects;
   entries = a;
   blank = λ j s r x p y.

@@ -1,4 +1,6 @@
 -- WHAT CRATES WITH CODE CITE of these laws' proofs: they name this module and no other.
+pub use Rattle.cc_laws_heap.proofs.Apart.{unlink-stands}
+pub use Rattle.cc_laws_heap.proofs.BroughtBack.{IsGivenNative, come_back-given, come_back-there, hold-invariant, hold-sound, hold-stands, hold-unreached, hold-well, usable-given, usable-native}
 pub use Rattle.cc_laws_heap.proofs.Buffer.{places-with_mark_other, places-with_mark_same}
 pub use Rattle.cc_laws_heap.proofs.BufferStands.{HasColourInvariant-buffer, IsSound-buffer, StandsFor-buffer}
 pub use Rattle.cc_laws_heap.proofs.CascadeTakesOut.{TakesOut-cascade, TakesOut-let_go, let_go-gone}
@@ -17,12 +19,13 @@ pub use Rattle.cc_laws_heap.proofs.Emptying.{let_go-frees}
 pub use Rattle.cc_laws_heap.proofs.EndsStand.{take_away-stands}
 pub use Rattle.cc_laws_heap.proofs.EntriesKept.{with_entry-sound, without_entry-sound}
 pub use Rattle.cc_laws_heap.proofs.EntryLists.{entries_of-set, is_entry_of-parts, with_entry-cases}
-pub use Rattle.cc_laws_heap.proofs.Following.{Follows, shape_in-reflector, stands-follows}
+pub use Rattle.cc_laws_heap.proofs.Following.{Follows, given-within, shape_in-reflector, stands-follows}
 pub use Rattle.cc_laws_heap.proofs.FreeFront.{IsBalanced-free_front, IsBalanced-removed, without_native-give_up_each}
 pub use Rattle.cc_laws_heap.proofs.Freed.{TakesOut}
 pub use Rattle.cc_laws_heap.proofs.FreedNames.{FreesNames-left}
+pub use Rattle.cc_laws_heap.proofs.Given.{Reached-given, living-given, living-named, named-living}
 pub use Rattle.cc_laws_heap.proofs.GiveUp.{IsBalanced-give_up_each, living-one, lower_native}
-pub use Rattle.cc_laws_heap.proofs.GraphCommands.{KeepsReflector-slot, proxy-well, step-well}
+pub use Rattle.cc_laws_heap.proofs.GraphCommands.{KeepsReflector-slot, proxy-well, step-well, step_with-well}
 pub use Rattle.cc_laws_heap.proofs.GraphLeads.{graph-within}
 pub use Rattle.cc_laws_heap.proofs.GraphParts.{Grows, IsMadeEntry-grows, IsWellMade-entries, is_some-found, with_natives}
 pub use Rattle.cc_laws_heap.proofs.GraphReads.{Made, MadeNative, MadeScript, native_register-made}
@@ -52,7 +55,7 @@ pub use Rattle.cc_laws_heap.proofs.Natives.{HasDistinctNumbers-change, IsRising-
 pub use Rattle.cc_laws_heap.proofs.NativesKeepScripts.{SameScripts, SameScripts-coloured, SameScripts-take_up, let_go-scripts}
 pub use Rattle.cc_laws_heap.proofs.Numbered.{change_numbered, numbered-change, numbered-change_other, numbered-next, numbered-push, numbered-push_old}
 pub use Rattle.cc_laws_heap.proofs.Owning.{IsCounted-add_ref, IsIn, add_ref-sound, let_go-sound, take_up-sound, times-numbers_of}
-pub use Rattle.cc_laws_heap.proofs.ReachedAlike.{in-reached, reached-in, reached-there}
+pub use Rattle.cc_laws_heap.proofs.ReachedAlike.{given-in, given-there, in-given, in-reached, reached-in, reached-there}
 pub use Rattle.cc_laws_heap.proofs.ReachedReads.{native_of-reached, script-behind}
 pub use Rattle.cc_laws_heap.proofs.References.{native-there, refs_to-removed, refs_to-slot, refs_to-there, times-among, times-append, times-cons, times-cons_other, times-cons_same, times-natives_in, times-some}
 pub use Rattle.cc_laws_heap.proofs.RepliesAlike.{delegate-stands, objects-stand, refusal_of-alike, reply_if_taken-alike}
@@ -64,14 +67,15 @@ pub use Rattle.cc_laws_heap.proofs.ScriptNames.{delegate_at-found, entry-named, 
 pub use Rattle.cc_laws_heap.proofs.ScriptsKept.{exposed-sound, hold_script-sound, is_one_of, native-no_script, script_names-exposed, script_slot-sound}
 pub use Rattle.cc_laws_heap.proofs.Shapes.{IsOfNone, delegate_in-shape, further_of, slots_in-graph, slots_in-heap, slots_of_shape}
 pub use Rattle.cc_laws_heap.proofs.SlotsWritten.{Follows-preserved, Follows-slot, IsPreserved}
-pub use Rattle.cc_laws_heap.proofs.Standing.{follows-stands}
-pub use Rattle.cc_laws_heap.proofs.StandingOn.{add_ref-stands, cascade-stands, unlink-stands}
+pub use Rattle.cc_laws_heap.proofs.Standing.{follows-stands, stands-blank, stands-reached, stands-values}
+pub use Rattle.cc_laws_heap.proofs.StandingOn.{add_ref-stands, cascade-stands, stands-on}
 pub use Rattle.cc_laws_heap.proofs.StepsAlike.{Follows-hold, Follows-hold_script, Follows-set_entry}
 pub use Rattle.cc_laws_heap.proofs.SweepColours.{sweep-colours, sweep-invariant}
 pub use Rattle.cc_laws_heap.proofs.Swept.{scripts-sweep, sweep-sound}
 pub use Rattle.cc_laws_heap.proofs.Taken.{IsTaken, IsTaken-from}
 pub use Rattle.cc_laws_heap.proofs.TakingAway.{IsSound-permuted, IsTaking, others-kept, take_away-leaves, take_away-sound, take_away-takes, taken-emptied, unroot_each-taking}
 pub use Rattle.cc_laws_heap.proofs.Unlinking.{Unlinks, unlink-keeps}
+pub use Rattle.cc_laws_heap.proofs.UnlinkedKept.{KeepUnlinked, KeepUnlinked-refl, KeepUnlinked-then, WasThere, WasThereOrMade, collect_scripts-unlinked, done_in-unlinked, empty_buffer-unlinked, give_back-unlinked, hold-unlinked, sweep-unlinked, take_away-unlinked, unlinked-kept, usable-kept}
 pub use Rattle.cc_laws_heap.proofs.Unseen.{Leaves-exposed, Leaves-let_go, Leaves-take_up, Leaves-touched}
 pub use Rattle.cc_laws_heap.proofs.WeakRegisters.{Follows-weak_register, reached-weak, weak-stands}
 pub use Rattle.cc_laws_heap.proofs.Wrapping.{Follows-wrapped}

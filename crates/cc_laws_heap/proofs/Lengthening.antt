@@ -11,7 +11,7 @@ use Rattle.cc_model.specs.Banks.{Bank, of_natives, of_scripts, of_weak, IsBankLe
 use Rattle.cc_model.specs.Slots.{Slots, contents, empty_slots, lengthened}
 use Rattle.cc_model.specs.Graph as graph
 use Rattle.cc_model.specs.Graph.{Graph}
-use Rattle.cc_model.specs.Reached.{Reached}
+use Rattle.cc_model.specs.Given.{Given}
 use Rattle.cc_model.specs.WellMade.{IsWellMade}
 use Rattle.cc_model.specs.Heap as heap
 use Rattle.cc_model.specs.Heap.{Heap}
@@ -120,5 +120,5 @@ Follows-lengthen P h g of_weak n t = t
 -- HEAPS THAT STAND FOR A GRAPH STAND FOR IT where both banks are lengthened.
 pub lengthen-stands : (h : Heap) (g : Graph) (b : Bank) (n : ℕ) → n ≤ most_roots → IsWellFormed h → IsWellMade g → StandsFor h g →
     StandsFor (heap.lengthen h b n) (graph.lengthen g b n)
-lengthen-stands h g b n few w m s = follows-stands (Reached g) (heap.lengthen h b n) (graph.lengthen g b n) (lengthen-formed h b n few w) (lengthen-well g b n few m)
-    (Follows-lengthen (Reached g) h g b n (stands-follows h g w s))
+lengthen-stands h g b n few w m s = follows-stands (Given h g) (heap.lengthen h b n) (graph.lengthen g b n) (lengthen-formed h b n few w) (lengthen-well g b n few m)
+    (Follows-lengthen (Given h g) h g b n (stands-follows h g w s))

@@ -49,10 +49,12 @@ pub mod Shapes
 pub mod Holds
 pub mod EntryLists
 pub mod HeapShapes
+pub mod Given
 pub mod ReachedAlike
 pub mod Following
 pub mod Standing
 pub mod StandingOn
+pub mod Apart
 pub mod EndsStand
 pub mod GraphParts
 pub mod Changing
@@ -92,6 +94,8 @@ pub mod Wrapping
 pub mod StepsAlike
 pub mod WeakRegisters
 pub mod CommandsStand
+pub mod UnlinkedKept
+pub mod BroughtBack
 pub mod Lengthening
 pub mod GraphLeads
 pub mod WalksAlike

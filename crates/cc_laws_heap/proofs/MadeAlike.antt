@@ -18,7 +18,7 @@ use Rattle.cc_laws_heap.proofs.Following.{AgreesBeside, AreObjects, AreEntries, 
 
 -- object x is made, of shape s, or may have been in the graph, but for the heaps
 pub record IsMade (P : Name → Type 0) (h k : Heap) (g e : Graph) (x : Name) (s : Shape) : Type 0 where
-  pub natives : (n : HeapNative) → Among n k.natives → Among n h.natives ⊎ ((native n.number ≡ x) × (shape_of_held_native n ≡ s))
+  pub natives : (n : HeapNative) → Among n k.natives → Among n h.natives ⊎ ((native n.number ≡ x) × (shape_of_held_native n ≡ s) × (n.unlinked ≡ false))
   pub scripts : (o : HeapScript) → Among o k.scripts → Among o h.scripts ⊎ ((o.name ≡ x) × (shape_of_held_script o ≡ s) × IsTrue (is_script x))
   pub others : (z : Name) → z ≢ x → shape_in e z ≡ shape_in g z
   pub made : shape_in e x ≡ Some s
@@ -62,12 +62,15 @@ module _ (P : Name → Type 0) (h k : Heap) (g e : Graph) (x : Name) (s : Shape)
         (λ l. let b = t.objects.natives n l in (b.0, stays (native n.number) b.0 b.1, b.2))
         (λ r. (s, ap (shape_in e) r.0 ∙ c.made, inl r.1))
         (c.natives n i);
+    living = λ n i u. ⊎_elim (λ l. inl (t.objects.living n l u)) (λ r. inr (sym r.0)) (c.natives n i);
+    spent = λ n i u p. ⊎_elim
+        (λ l. ⊎_elim (t.objects.spent n l u) (made-none n l) p)
+        (λ r. true≢false (sym u ∙ r.2))
+        (c.natives n i);
     alike = λ n i p. ⊎_elim
         (λ l. ⊎_elim
         (λ q. stays (native n.number) (shape_of_held_native n) (t.objects.alike n l q))
-        (λ q.
-        let b = t.objects.natives n l in
-        absurd (no_native n.number (subst (λ z. IsTrue (is_script z)) q (c.before b.0 (ap (shape_in g) q ∙ b.1)).1))) p)
+        (λ q. absurd (made-none n l q)) p)
         (λ r. ap (shape_in e) r.0 ∙ (c.made ∙ ap (λ (v : Shape). Some v) (sym r.1)))
         (c.natives n i);
     scripts = λ o i. ⊎_elim
@@ -77,8 +80,9 @@ module _ (P : Name → Type 0) (h k : Heap) (g e : Graph) (x : Name) (s : Shape)
     named = λ o i. ⊎_elim (λ l. t.objects.named o l) (λ r. subst (λ z. IsTrue (is_script z)) (sym r.0) r.2) (c.scripts o i);
   }
     where
-      no_native : (j : ℕ) → IsTrue (is_script (native j)) → ⊥
-      no_native j q = false≢true q
+      -- what is made is no native that was there
+      made-none : (n : HeapNative) → Among n h.natives → ¬ (x ≡ native n.number)
+      made-none n l q = let b = t.objects.natives n l in false≢true (subst (λ z. IsTrue (is_script z)) q (c.before b.0 (ap (shape_in g) q ∙ b.1)).1)
 
   -- a map or a key that was made has no value
   entries-made : AreEntries (λ z. P z ⊎ (x ≡ z)) k.entries e.entries

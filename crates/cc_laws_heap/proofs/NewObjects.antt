@@ -68,7 +68,9 @@ next_native g = native (length g.natives + 1)
 IsMade-native : (P : Name → Type 0) (h : Heap) (g : Graph) (n : ℕ) → IsWellMade g → AgreesBeside h g →
     IsMade P h (effects.with_native h n) g (graph.with_native g n) (next_native g) (native_shape (empty_slots n) false)
 IsMade-native P h g n w b = record {
-  natives = λ m i. ⊎_elim (λ l. inl l) (λ e. inr (ap (λ (o : HeapNative). native o.number) (sym e) ∙ number, ap shape_of_held_native (sym e))) (last-cases h.natives _ m i);
+  natives = λ m i. ⊎_elim (λ l. inl l)
+      (λ e. inr (ap (λ (o : HeapNative). native o.number) (sym e) ∙ number, ap shape_of_held_native (sym e), ap (λ (o : HeapNative). o.unlinked) (sym e)))
+      (last-cases h.natives _ m i);
   scripts = λ o i. inl i;
   others = others;
   made = ap (option_map shape_of_native) (numbered-push g.natives (new_graph_native n));

@@ -1,5 +1,5 @@
--- WHAT THE REGISTERS REACH STAYS in a sweep, where the marks are closed.
-use Rattle.std.proofs.Common.{◌≡◌, ℕ, true, sym, subst, ⊎_elim}
+-- WHAT THE REGISTERS AND NATIVES LEAD TO STAYS in a sweep, where the marks are closed.
+use Rattle.std.proofs.Common.{◌≡◌, ℕ, true, ◌++◌, sym, subst, ⊎_elim}
 use Rattle.std.specs.List.{flat_map}
 use Rattle.std.proofs.lemmas.Bool.{false≢true}
 use Rattle.cc_lists.specs.Members.{Among}
@@ -9,10 +9,10 @@ use Rattle.cc_names.specs.Names.{native, is_script}
 use Rattle.cc_model.specs.Slots.{contents}
 use Rattle.cc_model.specs.Entries.{joints}
 use Rattle.cc_model.specs.Graph.{Graph}
-use Rattle.cc_model.specs.Reached.{Reached}
+use Rattle.cc_model.specs.Given.{Given, living_names}
 use Rattle.cc_model.specs.WellMade.{IsWellMade}
 use Rattle.cc_model.specs.Heap.{Heap, HeapNative, HeapScript}
-use Rattle.cc_model.specs.View.{view, native_edges, script_edges, ReachedIn}
+use Rattle.cc_model.specs.View.{view, native_edges, script_edges, LedFrom}
 use Rattle.cc_model.specs.Sweep.{unmarked}
 use Rattle.cc_model.specs.WellFormed.{IsWellFormed}
 use Rattle.cc_model.specs.StandsFor.{StandsFor}
@@ -20,7 +20,8 @@ use Rattle.cc_model.proofs.Joints.{derived-by_joints}
 use Rattle.cc_laws_heap.specs.Marks.{Stays, AreMarksClosed}
 use Rattle.cc_laws_heap.proofs.ViewEdges.{native_edges-are, script_edges-are}
 use Rattle.cc_laws_heap.proofs.ScriptNames.{script-named}
-use Rattle.cc_laws_heap.proofs.ReachedAlike.{reached-in}
+use Rattle.cc_laws_heap.proofs.ReachedAlike.{given-in}
+use Rattle.cc_laws_heap.proofs.Given.{named-living}
 use Rattle.cc_laws_heap.proofs.Led.{unmarked-white}
 use Rattle.cc_laws_heap.proofs.MarksClosed.{stays-place, stays-held}
 
@@ -63,10 +64,15 @@ module _ (h : Heap) (c : AreMarksClosed h) (w : IsWellFormed h) where
       (λ r. let f = Among-flat_map_cases script_edges h.scripts (x, y) r in script_edge-stays f.0 x y f.1 f.2 d)
       (Among-append (x, y) (flat_map native_edges h.natives) (flat_map script_edges h.scripts) m)
 
-  -- What the registers reach stays.
-  pub reached-stays : (x : Name) → ReachedIn (view h) x → Stays h x
-  reached-stays = derived-by_joints (view h).registers (view h).edges (joints h.entries) (Stays h) register-stays edge-stays c.joints
+  -- What the registers and natives lead to stays.
+  given-stays : (x : Name) → LedFrom (view h) ((view h).registers ++ living_names h) x → Stays h x
+  given-stays = derived-by_joints ((view h).registers ++ living_names h) (view h).edges (joints h.entries) (Stays h) start-stays edge-stays c.joints
+    where
+      start-stays : (x : Name) → Among x ((view h).registers ++ living_names h) → Stays h x
+      start-stays x m = ⊎_elim (register-stays x)
+          (λ l. let n = named-living h x l in subst (Stays h) n.3 (native-stays h w n.0.number))
+          (Among-append x (view h).registers (living_names h) m)
 
--- WHAT THE GRAPH REACHES STAYS, where the heaps stand for it.
-pub reached-not_unmarked : (h : Heap) (g : Graph) → AreMarksClosed h → IsWellFormed h → IsWellMade g → StandsFor h g → (x : Name) → Reached g x → Stays h x
-reached-not_unmarked h g c w m s x d = reached-stays h c w x (reached-in h g w m s x d)
+-- WHAT IS GIVEN STAYS, where the heaps stand for the graph.
+pub given-not_unmarked : (h : Heap) (g : Graph) → AreMarksClosed h → IsWellFormed h → IsWellMade g → StandsFor h g → (x : Name) → Given h g x → Stays h x
+given-not_unmarked h g c w m s x d = given-stays h c w x (given-in h g w m s x d)

@@ -18,6 +18,7 @@ use Rattle.cc_model.specs.Reached.{Reached, held}
 use Rattle.cc_model.specs.Heap as heap
 use Rattle.cc_model.specs.Heap.{Heap}
 use Rattle.cc_model.specs.StandsFor.{StandsFor}
+use Rattle.cc_laws_heap.proofs.Standing.{stands-reached, stands-values}
 use Rattle.cc_laws_heap.proofs.Shapes.{slots_of_shape, slots_in-graph, slots_in-heap, delegate_of_shape, delegate_in-shape, delegate_at-shape}
 
 -- what the checks and the replies look at is the same
@@ -88,11 +89,11 @@ module _ (h : Heap) (g : Graph) (s : StandsFor h g) where
 
   -- a reached object has the same slots
   slots_in-stands : (x : Name) → Reached g x → heap.slots_in h x ≡ graph.slots_in g x
-  slots_in-stands x d = let k = s.reached x d in slots_in-heap h x ∙ (ap slots_of_shape (k.there ∙ sym k.made) ∙ sym (slots_in-graph g x))
+  slots_in-stands x d = let k = stands-reached h g s x d in slots_in-heap h x ∙ (ap slots_of_shape (k.there ∙ sym k.made) ∙ sym (slots_in-graph g x))
 
   -- a reached script object has the same delegate
   pub delegate-stands : (x : Name) → IsTrue (is_script x) → Reached g x → heap.delegate_at h x ≡ graph.delegate_in g x
-  delegate-stands x i d = let k = s.reached x d in delegate_at-shape h x i ∙ (ap delegate_of_shape (k.there ∙ sym k.made) ∙ sym (delegate_in-shape g x))
+  delegate-stands x i d = let k = stands-reached h g s x d in delegate_at-shape h x i ∙ (ap delegate_of_shape (k.there ∙ sym k.made) ∙ sym (delegate_in-shape g x))
 
   -- What the checks and the replies look at is the same for the heaps and for the graph.
   pub objects-stand : AreAlike (heap.objects_of h) (graph.objects_of g)
@@ -116,5 +117,5 @@ module _ (h : Heap) (g : Graph) (s : StandsFor h g) where
 
       value : (a b : Reg) → (o : Option Name) → graph.register g a ≡ o → (p : Option Name) → graph.register g b ≡ p →
           value_at (heap.objects_of h) o p ≡ value_at (graph.objects_of g) o p
-      value a b (Some x) e (Some y) f = s.values x y (held a x e) (held b y f)
+      value a b (Some x) e (Some y) f = stands-values h g s x y (held a x e) (held b y f)
       value a b _ e _ f = refl

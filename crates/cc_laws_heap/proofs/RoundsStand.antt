@@ -1,4 +1,4 @@
--- A SWEEP KEEPS STANDING FOR THE GRAPH, where the marks are closed, AND A SCRIPT COLLECTION DOES: what the graph reaches stays,
+-- A SWEEP KEEPS STANDING FOR THE GRAPH, where the marks are closed, AND A SCRIPT COLLECTION DOES: what is given stays,
 -- where it is a script object, and what well formed heaps mention is there.
 use Rattle.std.proofs.Common.{◌≡◌, ℕ, true, List, refl, sym, ◌∙◌, ap, subst, inl, arith}
 use Rattle.cc_lists.specs.Members.{Among}
@@ -8,6 +8,7 @@ use Rattle.cc_model.specs.declared.item.Event.TheVariants.{Freed}
 use Rattle.cc_model.specs.Entries.{Entry, is_entry_of}
 use Rattle.cc_model.specs.Graph.{Graph}
 use Rattle.cc_model.specs.Reached.{Reached}
+use Rattle.cc_model.specs.Given.{Given}
 use Rattle.cc_model.specs.WellMade.{IsWellMade}
 use Rattle.cc_model.specs.Heap.{Heap, HeapNative, HeapScript, Outcome}
 use Rattle.cc_model.specs.Colours.{black_names, marked_names, coloured_by, marked}
@@ -28,7 +29,7 @@ use Rattle.cc_laws_heap.proofs.MarkedWellFormed.{is_spared_entry}
 use Rattle.cc_laws_heap.proofs.Swept.{taken-sweep, sweep-frees, entries-sweep, sweep-sound}
 use Rattle.cc_laws_heap.proofs.MarkingKeeps.{AreMarksClosed-marked, IsSound-coloured, IsSound-marked, as_coloured}
 use Rattle.cc_laws_heap.proofs.RoundParts.{value_in-filter, ArePart-filter, sweep-natives, sweep-scripts}
-use Rattle.cc_laws_heap.proofs.ReachedMarked.{reached-not_unmarked}
+use Rattle.cc_laws_heap.proofs.ReachedMarked.{given-not_unmarked}
 use Rattle.cc_laws_heap.proofs.CollectedColours.{collecting-keeps, collect_scripts-frees}
 
 -- the objects that a sweep leaves have the shapes that they had
@@ -36,7 +37,7 @@ sweep-leaves : {owned : List ℕ} (h : Heap) → IsSound owned h → HeapChanges
 sweep-leaves h s = record {
   natives = λ n i.
       let f = sweep-natives h s n i in
-      (f.0, f.1, ap (λ (u : HeapNative). u.number) f.2, ap shape_of_held_native (sym f.2));
+      (f.0, f.1, ap (λ (u : HeapNative). u.number) f.2, ap shape_of_held_native (sym f.2), ap (λ (u : HeapNative). u.unlinked) f.2);
   scripts = λ o i. (o, sweep-scripts h o i, refl, refl);
 }
 
@@ -52,32 +53,32 @@ freed-left h o xs f x i there =
     (FreesNames-left h xs o f x there).1 (subst (λ y. Among y xs) same k.1)
 
 module _ {owned : List ℕ} (h : Heap) (g : Graph) (c : AreMarksClosed h) (s : IsSound owned h) (m : IsWellMade g) (t : StandsFor h g) where
-  -- heaps that stand for the graph follow it, over what is reached
-  follows : Follows (Reached g) h g
+  -- heaps that stand for the graph follow it, over what is given
+  follows : Follows (Given h g) h g
   follows = stands-follows h g s.well_formed t
 
   -- the objects that a sweep leaves follow the graph
-  sweep-objects : AreObjects (Reached g) (sweep h).heap g
-  sweep-objects = AreObjects-changed (Reached g) unchanged h (sweep h).heap g g (sweep-leaves h s)
+  sweep-objects : AreObjects (Given h g) (sweep h).heap g
+  sweep-objects = AreObjects-changed (Given h g) unchanged h (sweep h).heap g g (sweep-leaves h s)
       (λ x. option_map-same (shape_in g x)) (λ x. inl (λ t. refl)) follows.objects
 
-  -- an entry whose map and key are reached is left
-  entry-left : (x k : Name) → Reached g x → Reached g k → (e : Entry) → Among e h.entries → is_entry_of x k e ≡ true →
+  -- an entry whose map and key are given is left
+  entry-left : (x k : Name) → Given h g x → Given h g k → (e : Entry) → Among e h.entries → is_entry_of x k e ≡ true →
       is_spared_entry (unmarked h) e ≡ true
   entry-left x k a b e i is_it =
       let p = is_entry_of-parts x k e is_it in
-      let stays : (y : Name) → Reached g y → Stays h y = reached-not_unmarked h g c s.well_formed m t in
+      let stays : (y : Name) → Given h g y → Stays h y = given-not_unmarked h g c s.well_formed m t in
       spared-from (unmarked h) e (subst (Stays h) (sym p.0) (stays x a)) (subst (Stays h) (sym p.1) (stays k b))
 
   -- the entries that a sweep leaves follow the graph
-  sweep-entries_follow : AreEntries (Reached g) (sweep h).heap.entries g.entries
-  sweep-entries_follow = subst (λ es. AreEntries (Reached g) es g.entries) (sym (entries-sweep h s)) (record {
+  sweep-entries_follow : AreEntries (Given h g) (sweep h).heap.entries g.entries
+  sweep-entries_follow = subst (λ es. AreEntries (Given h g) es g.entries) (sym (entries-sweep h s)) (record {
     values = λ x k a b. value_in-filter (is_spared_entry (unmarked h)) h.entries x k (entry-left x k a b) ∙ follows.entries.values x k a b;
     part = ArePart-filter (is_spared_entry (unmarked h)) h.entries g.entries follows.entries.part;
   })
 
   -- the heaps after a sweep follow the graph
-  sweep-follows : Follows (Reached g) (sweep h).heap g
+  sweep-follows : Follows (Given h g) (sweep h).heap g
   sweep-follows =
       let f = sweep-frees h s in
       record {
@@ -96,7 +97,7 @@ module _ {owned : List ℕ} (h : Heap) (g : Graph) (c : AreMarksClosed h) (s : I
 
   -- A SWEEP KEEPS STANDING FOR THE GRAPH.
   pub sweep-stands : StandsFor (sweep h).heap g
-  sweep-stands = follows-stands (Reached g) (sweep h).heap g (sweep-sound h c s).well_formed m sweep-follows
+  sweep-stands = follows-stands (Given h g) (sweep h).heap g (sweep-sound h c s).well_formed m sweep-follows
 
   -- A sweep frees nothing that the graph reaches.
   pub sweep-unreached : (x : Name) → Among (Freed x) (sweep h).events → ¬ (Reached g x)
@@ -109,7 +110,7 @@ Leaves-coloured : (blacks marks : List Name) (h : Heap) → Leaves h (coloured_b
 Leaves-coloured blacks marks h = record {
   beside = record { native_registers = refl; script_registers = refl; entries = refl; natives_made = refl; scripts_made = refl; limits = refl };
   objects = record {
-    natives = λ n i. (n, i, refl, refl);
+    natives = λ n i. (n, i, refl, refl, refl);
     scripts = λ o i.
         let p = Among-map_cases (as_coloured blacks marks) h.scripts o i in
         (p.0, p.1, ap (λ (q : HeapScript). q.name) p.2, sym (ap shape_of_held_script p.2));
@@ -121,8 +122,8 @@ pub coloured-stands : {owned : List ℕ} (blacks marks : List Name) (h : Heap) (
     StandsFor (coloured_by blacks marks h) g
 coloured-stands blacks marks h g s m t =
     let k : Heap = coloured_by blacks marks h in
-    follows-stands (Reached g) k g (IsSound-coloured blacks marks h s).well_formed m
-    (Follows-left (Reached g) h k g (Leaves-coloured blacks marks h) (stands-follows h g s.well_formed t))
+    follows-stands (Given h g) k g (IsSound-coloured blacks marks h s).well_formed m
+    (Follows-left (Given h g) h k g (Leaves-coloured blacks marks h) (stands-follows h g s.well_formed t))
 
 -- Rounds
 

@@ -95,7 +95,7 @@ pub Follows-slot : (P : Name → Type 0) (h : Heap) (g : Graph) (x : Option Name
     Follows P h g → Follows P (heap.set_slot h x i v) (graph.set_slot g x i v)
 Follows-slot P h g None i v p new kept t = t
 Follows-slot P h g (Some (name.Native k)) i v p new kept t = Follows-changed P (changed_at (native k.0) (with_slot_written i v)) h _ g _
-    (HeapChanges-native h k.0 (heap.with_native_slot i v) (with_slot_written i v) (λ n. refl) (λ n. refl) t.objects.named)
+    (HeapChanges-native h k.0 (heap.with_native_slot i v) (with_slot_written i v) (λ n. refl) (λ n. refl) (λ n. refl) t.objects.named)
     (GraphChanges-native g k.0 (graph.with_slot i v) (with_slot_written i v) (λ n. refl) (λ n. refl))
     (record { native_registers = refl; script_registers = refl; entries = refl; natives_made = refl; scripts_made = refl; limits = refl })
     (SameGraphBeside-native g k.0 (graph.with_slot i v))
@@ -126,7 +126,7 @@ Follows-slot P h g (Some (name.Reflector k)) i v p new kept t = Follows-changed 
 pub Follows-preserved : (P : Name → Type 0) (h : Heap) (g : Graph) (k : ℕ) → P (native k) → P (reflector k) → Follows P h g →
     Follows P (heap.preserve h (Some (reflector k))) (graph.preserve g (Some (reflector k)))
 Follows-preserved P h g k p q t = Follows-changed P (changed_at (native k) with_preserved) h _ g _
-    (HeapChanges-native h k (λ n. record n { preserved = true }) with_preserved (λ n. refl) (λ n. refl) t.objects.named)
+    (HeapChanges-native h k (λ n. record n { preserved = true }) with_preserved (λ n. refl) (λ n. refl) (λ n. refl) t.objects.named)
     (GraphChanges-native g k graph.as_preserved with_preserved (λ n. refl) (λ n. refl))
     (record { native_registers = refl; script_registers = refl; entries = refl; natives_made = refl; scripts_made = refl; limits = refl })
     (SameGraphBeside-native g k graph.as_preserved)

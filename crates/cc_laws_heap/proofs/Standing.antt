@@ -1,28 +1,29 @@
--- WELL FORMED HEAPS THAT FOLLOW A GRAPH STAND FOR IT: what is reached is there, since what well formed heaps mention is there.
-use Rattle.std.proofs.Common.{arith, ◌≡◌, ℕ, Bool, true, false, [], ◌∷◌, Option, Some, None, is_some, option_map, refl, sym, ◌∙◌, ap, subst, ⊎_elim}
+-- WELL FORMED HEAPS THAT FOLLOW A GRAPH STAND FOR IT: what is given is there, since what well formed heaps mention is there.
+use Rattle.std.proofs.Common.{arith, ◌≡◌, ℕ, Bool, true, false, [], ◌∷◌, ◌++◌, Option, Some, None, is_some, option_map, refl, sym, ◌∙◌, ap, subst, ⊎_elim}
 use Rattle.std.specs.Option.{option_and_then, option_to_list}
 use Rattle.cc_lists.specs.Members.{Among}
 use Rattle.cc_lists.proofs.Members.{Among-left, Among-right, Among-append, Among-map}
 use Rattle.cc_names.specs.declared.name.Name.{Name}
 use Rattle.cc_names.specs.declared.name.Name.TheVariants as name
-use Rattle.cc_names.specs.declared.register.Reg.TheVariants.{N, S, W}
 use Rattle.cc_names.specs.declared.kind.Kind.{Kind}
 use Rattle.cc_names.specs.declared.kind.Kind.TheVariants.{Map}
 use Rattle.cc_names.specs.Names.{native, reflector}
 use Rattle.cc_model.specs.Slots.{Slots, contents, empty_slots, reflector_slots}
+use Rattle.cc_model.specs.Entries.{value_in}
 use Rattle.cc_model.specs.Checks.{slots_or_none}
 use Rattle.cc_model.specs.Graph.{Graph}
-use Rattle.cc_model.specs.Reached.{Reached, held, edge, value, key}
+use Rattle.cc_model.specs.Reached.{Reached, roots_of}
+use Rattle.cc_model.specs.Given.{given, given_edge, given_value, given_key, Given, living_names}
 use Rattle.cc_model.specs.WellMade.{IsWellMade}
 use Rattle.cc_model.specs.Heap.{Heap, HeapNative, HeapScript, slots_of_kind}
 use Rattle.cc_model.specs.WellFormed.{IsWellFormed, FitsName, is_proxy_kind, native_names, script_names, names_there}
 use Rattle.cc_model.specs.StandsFor.{Shape, shape_in, shape_at, shape_of_native, shape_of_held_native, shape_of_held_script, script_shape, shape_of_reflector, NativeStands, ScriptStands, IsKept, StandsFor}
-use Rattle.cc_laws_heap.proofs.Holds.{contents-get}
+use Rattle.cc_laws_heap.proofs.Given.{Reached-given, named-living}
 use Rattle.cc_laws_heap.proofs.EntryLists.{found-among, found-only}
-use Rattle.cc_laws_heap.proofs.Shapes.{edges_of_shape, edges_of_some, edges_of-shape, further_of, kind_of_shape, kind_in-shape, no_delegate-from}
+use Rattle.cc_laws_heap.proofs.Shapes.{edges_of_shape, further_of, kind_of_shape, kind_in-shape, no_delegate-from}
 use Rattle.cc_laws_heap.proofs.HeapShapes.{shape_at-found, there-shape_at}
 use Rattle.cc_laws_heap.proofs.ReachedAlike.{edges_of-made}
-use Rattle.cc_laws_heap.proofs.Following.{NativeFollows, Follows, shape_in-native}
+use Rattle.cc_laws_heap.proofs.Following.{NativeFollows, Follows, shape_in-native, given-within, stands-follows}
 
 -- what an object of the heaps refers to is there
 edges-there : (h : Heap) → IsWellFormed h → (x y : Name) (s : Shape) → shape_at h x ≡ Some s → Among y (edges_of_shape x s) → Among y (names_there h)
@@ -73,44 +74,40 @@ kind-fits : (x : Name) (kind : Kind) (slots : Slots) (d : Option Name) → FitsN
 kind-fits x kind slots d f e = grind arith
 
 module _ (P : Name → Type 0) (h : Heap) (g : Graph) (w : IsWellFormed h) (m : IsWellMade g) (f : Follows P h g) where
-  -- `P` holds of what is reached
-  reached-within : (x : Name) → Reached g x → P x
-  reached-within _ (held (N r) x e) = f.closed.native_registers x (contents-get g.native_registers r x e)
-  reached-within _ (held (S r) x e) = f.closed.script_registers x (contents-get g.script_registers r x e)
-  reached-within _ (held (W r) x e) = absurd (contents-get [] r x e)
-  reached-within _ (edge x y d i) = go (reached-within x d) (shape_in g x) refl (subst (Among y) (edges_of-shape g x) i)
-    where
-      go : P x → (o : Option Shape) → shape_in g x ≡ o → Among y (edges_of_some x o) → P y
-      go p None e j = absurd j
-      go p (Some s) e j = f.closed.edges x y s p e j
-  reached-within _ (value e i a b) = f.closed.entries e i (reached-within e.the_map a) (reached-within e.key b)
-  reached-within _ (key e d i q a b) = f.closed.keys e d i q (reached-within e.the_map a) (reached-within d b)
+  -- `P` holds of what is given
+  within : (x : Name) → Given h g x → P x
+  within = given-within P h g f
 
   -- what is there is as it is in the graph, where `P` holds of it
   kept-there : (x : Name) → P x → Among x (names_there h) → IsKept h g x
   kept-there x p i = grind (arith, there-shape_at, shape_at-found)
 
-  -- what is reached is there
-  reached-kept : (x : Name) → Reached g x → IsKept h g x
-  reached-kept _ (held (N r) x e) = kept-there x (reached-within x (held (N r) x e))
-      (Among-left x (native_names h) (script_names h)
-      (w.native_registers x (subst (λ (b : Slots). Among x (contents b)) (sym f.beside.native_registers) (contents-get g.native_registers r x e))))
-  reached-kept _ (held (S r) x e) = kept-there x (reached-within x (held (S r) x e))
-      (Among-right x (native_names h) (script_names h)
-      (w.script_registers x (subst (λ (b : Slots). Among x (contents b)) (sym f.beside.script_registers) (contents-get g.script_registers r x e))))
-  reached-kept _ (held (W r) x e) = absurd (contents-get [] r x e)
-  reached-kept _ (edge x y d i) =
-      let k = reached-kept x d in
-      kept-there y (reached-within y (edge x y d i)) (edges-there h w x y k.shape k.there (subst (Among y) (edges_of-made g x k.shape k.made) i))
-  reached-kept _ (value e i a b) =
-      let p = reached-within e.the_map a in
-      let q = reached-within e.key b in
+  -- what the registers have, and what was not unlinked, is there
+  start-there : (x : Name) → Among x (roots_of g ++ living_names h) → Among x (names_there h)
+  start-there x m = ⊎_elim
+      (λ r. ⊎_elim
+      (λ l. Among-left x (native_names h) (script_names h) (w.native_registers x (subst (λ (b : Slots). Among x (contents b)) (sym f.beside.native_registers) l)))
+      (λ l. Among-right x (native_names h) (script_names h) (w.script_registers x (subst (λ (b : Slots). Among x (contents b)) (sym f.beside.script_registers) l)))
+      (Among-append x (contents g.native_registers) (contents g.script_registers) r))
+      (λ l. let n = named-living h x l in
+      Among-left x (native_names h) (script_names h) (subst (λ y. Among y (native_names h)) n.3 (Among-map (λ (n : HeapNative). native n.number) n.0 h.natives n.1)))
+      (Among-append x (roots_of g) (living_names h) m)
+
+  -- what is given is there
+  given-kept : (x : Name) → Given h g x → IsKept h g x
+  given-kept _ (given x m) = kept-there x (within x (given x m)) (start-there x m)
+  given-kept _ (given_edge x y d i) =
+      let k = given-kept x d in
+      kept-there y (within y (given_edge x y d i)) (edges-there h w x y k.shape k.there (subst (Among y) (edges_of-made g x k.shape k.made) i))
+  given-kept _ (given_value e i a b) =
+      let p = within e.the_map a in
+      let q = within e.key b in
       let c = found-among h.entries e.the_map e.key e.value (f.entries.values e.the_map e.key p q ∙ found-only g.entries e (m.one_entry e.the_map e.key) i) in
-      kept-there e.value (reached-within e.value (value e i a b))
+      kept-there e.value (within e.value (given_value e i a b))
       (Among-right e.value (native_names h) (script_names h) (subst (λ y. Among y (script_names h)) c.4 (w.entries c.0 c.1).value))
-  reached-kept _ (key e d i r a b) =
-      let p = reached-within e.the_map a in
-      let q = reached-within e.key (key e d i r a b) in
+  given-kept _ (given_key e d i r a b) =
+      let p = within e.the_map a in
+      let q = within e.key (given_key e d i r a b) in
       let c = found-among h.entries e.the_map e.key e.value (f.entries.values e.the_map e.key p q ∙ found-only g.entries e (m.one_entry e.the_map e.key) i) in
       kept-there e.key q (Among-right e.key (native_names h) (script_names h) (subst (λ y. Among y (script_names h)) c.3 (w.entries c.0 c.1).key))
 
@@ -126,17 +123,6 @@ module _ (P : Name → Type 0) (h : Heap) (g : Graph) (w : IsWellFormed h) (m : 
     shape = sym (f.objects.scripts o i);
   }
 
-  -- a reflector of a reached native that does not preserve it is blank
-  blank-there : (n : HeapNative) (o : HeapScript) → Among n h.natives → n.preserved ≡ false → Reached g (native n.number) →
-      Among o h.scripts → o.name ≡ reflector n.number → o.slots ≡ empty_slots reflector_slots
-  blank-there n o i e d j named =
-      slots o.kind (f.blank n.number (shape_of_held_native n) (shape_of_held_script o)
-      (f.objects.alike n i (reached-within (native n.number) d)) e (ap (shape_in g) (sym named) ∙ f.objects.scripts o j)).0
-    where
-      slots : (kind : Kind) → slots_of_kind kind o.slots ≡ Some (empty_slots reflector_slots) → o.slots ≡ empty_slots reflector_slots
-      slots Map s = absurd (cc)
-      slots _ s = cc
-
   -- THEY STAND FOR IT.
   pub follows-stands : StandsFor h g
   follows-stands = record {
@@ -147,8 +133,9 @@ module _ (P : Name → Type 0) (h : Heap) (g : Graph) (w : IsWellFormed h) (m : 
     scripts_made = f.beside.scripts_made;
     natives = λ n i. native-stands n (f.objects.natives n i);
     scripts = script-stands;
-    reached = reached-kept;
-    values = λ x k a b. f.entries.values x k (reached-within x a) (reached-within k b);
+    given = given-kept;
+    values = λ x k a b. f.entries.values x k (within x a) (within k b);
+    spent = λ n i u d. f.objects.spent n i u (within (native n.number) d);
     entries = f.entries.part;
     blank = λ k n slots e p r.
         let made : shape_in g (native k) ≡ Some (shape_of_native n) = ap (option_map shape_of_native) e in
@@ -156,8 +143,30 @@ module _ (P : Name → Type 0) (h : Heap) (g : Graph) (w : IsWellFormed h) (m : 
         let b = f.blank k (shape_of_native n) (script_shape (Some slots) None) made p kept in
         let same : slots ≡ empty_slots reflector_slots = some b.0 in
         (same, b.1, no_delegate-from g (reflector k) b.2);
-    blank_there = blank-there;
   }
     where
       some : {a b : Slots} → Some a ≡ Some b → a ≡ b
       some e = cc
+
+-- What stands for a graph
+
+module _ (h : Heap) (g : Graph) (s : StandsFor h g) where
+  -- WHAT IS REACHED IS THERE, as it is in the graph.
+  pub stands-reached : (x : Name) → Reached g x → IsKept h g x
+  stands-reached x d = s.given x (Reached-given h g x d)
+
+  -- A REACHED MAP AND A REACHED KEY have the same entry in both, or none.
+  pub stands-values : (x k : Name) → Reached g x → Reached g k → value_in h.entries x k ≡ value_in g.entries x k
+  stands-values x k a b = s.values x k (Reached-given h g x a) (Reached-given h g k b)
+
+-- A REFLECTOR OF A GIVEN NATIVE that does not preserve it is blank, where it is there.
+pub stands-blank : (h : Heap) (g : Graph) → IsWellFormed h → StandsFor h g → (n : HeapNative) (o : HeapScript) → Among n h.natives → n.preserved ≡ false →
+    Given h g (native n.number) → Among o h.scripts → o.name ≡ reflector n.number → o.slots ≡ empty_slots reflector_slots
+stands-blank h g w s n o i e d j named =
+    let f = stands-follows h g w s in
+    slots o.kind (f.blank n.number (shape_of_held_native n) (shape_of_held_script o)
+    (f.objects.alike n i d) e (ap (shape_in g) (sym named) ∙ f.objects.scripts o j)).0
+  where
+    slots : (kind : Kind) → slots_of_kind kind o.slots ≡ Some (empty_slots reflector_slots) → o.slots ≡ empty_slots reflector_slots
+    slots Map s = absurd (cc)
+    slots _ s = cc

@@ -1,5 +1,5 @@
--- NATIVES THAT ARE LEFT ARE AS THEY WERE, but for counts and where they were unlinked; and what was unlinked stays so.
-use Rattle.std.proofs.Common.{arith, ◌≡◌, ℕ, suc, not, List, ◌∷◌, set, None, refl, sym, ◌∙◌, ap, subst}
+-- NATIVES THAT ARE LEFT ARE AS THEY WERE, but for counts and where they were unlinked; and what was emptied stays so.
+use Rattle.std.proofs.Common.{arith, ◌≡◌, ℕ, suc, not, List, ◌∷◌, set, None, refl, ◌∙◌, ap, subst}
 use Rattle.std.proofs.lemmas.Bool.{eqb-true}
 use Rattle.std.proofs.lemmas.List.{length-set}
 use Rattle.cc_lists.specs.Members.{Among}
@@ -11,7 +11,6 @@ use Rattle.cc_model.specs.Cascade.{add_ref, lower}
 use Rattle.cc_model.specs.StandsFor.{IsEmptied}
 use Rattle.cc_laws_heap.specs.Balance.{has_number}
 use Rattle.cc_laws_heap.specs.Freeing.{uncounted}
-use Rattle.cc_laws_heap.specs.Ending.{IsUnlinked}
 use Rattle.cc_laws_heap.specs.Stages.{Stage, Done, Ending}
 use Rattle.cc_laws_heap.specs.Stages.Ending.{reordered, raised, told, emptied, unlinked}
 use Rattle.cc_laws_heap.proofs.Natives.{KeepsNumber, uncounted-change}
@@ -20,13 +19,9 @@ use Rattle.cc_laws_heap.proofs.HoldsTheSame.{HoldsTheSame-add_ref}
 use Rattle.cc_laws_heap.proofs.Folding.{done-keeps}
 use Rattle.cc_laws_heap.proofs.Leaving.{IsOf, IsOf-alike}
 
--- what is emptied as it was is emptied
+-- a native that is as one that was emptied is, but for its count, is emptied
 pub uncounted-emptied : (m n : HeapNative) → uncounted m ≡ uncounted n → IsEmptied m → IsEmptied n
 uncounted-emptied m n e t = grind arith
-
--- what is unlinked as it was is unlinked
-uncounted-unlinked : (m n : HeapNative) → uncounted m ≡ uncounted n → IsUnlinked m → IsUnlinked n
-uncounted-unlinked m n e t = record { emptied = uncounted-emptied m n e t.emptied; for_good = sym (ap (λ (u : HeapNative). u.unlinked) e) ∙ t.for_good }
 
 -- empty slots stay so where one of them is emptied
 empty_slots-set : (l i : ℕ) → set (empty_slots l) i None ≡ empty_slots l
@@ -37,26 +32,22 @@ empty_slots-set _ _ = refl
 IsEmptied-slot : (i : ℕ) (n : HeapNative) → IsEmptied n → IsEmptied (with_native_slot i None n)
 IsEmptied-slot i n t = grind (arith, empty_slots-set, length-set)
 
--- what is unlinked stays so where a slot of it is emptied
-IsUnlinked-slot : (i : ℕ) (n : HeapNative) → IsUnlinked n → IsUnlinked (with_native_slot i None n)
-IsUnlinked-slot i n t = record { emptied = IsEmptied-slot i n t.emptied; for_good = t.for_good }
+-- what is emptied and unlinked again stays so
+IsEmptied-again : (n : HeapNative) → IsEmptied n → IsEmptied (as_unlinked n)
+IsEmptied-again n t = record { unlinked = refl; slots = t.slots; preserved = refl }
 
--- what is unlinked again stays so
-IsUnlinked-again : (n : HeapNative) → IsUnlinked n → IsUnlinked (as_unlinked n)
-IsUnlinked-again n t = record { emptied = record { slots = t.emptied.slots; preserved = refl }; for_good = refl }
-
--- a native is as one of the heaps was, but for its count, unless it is one of these; and it is unlinked where that was
+-- a native is as one of the heaps was, but for its count, unless it is one of these; and it is emptied where that was
 pub record ComesFrom (ks : List ℕ) (h : Heap) (n : HeapNative) : Type 0 where
   pub was : HeapNative
   pub there : Among was h.natives
   pub number : was.number ≡ n.number
   pub same : ¬ (Among n.number ks) → uncounted was ≡ uncounted n
-  pub still : IsUnlinked was → IsUnlinked n
+  pub still : IsEmptied was → IsEmptied n
 
 module _ (ks : List ℕ) where
   -- what is as it was
   from-of : (h : Heap) (n : HeapNative) → IsOf h n → ComesFrom ks h n
-  from-of h n i = record { was = i.0; there = i.1; number = ap (λ (u : HeapNative). u.number) i.2; same = λ d. i.2; still = uncounted-unlinked i.0 n i.2 }
+  from-of h n i = record { was = i.0; there = i.1; number = ap (λ (u : HeapNative). u.number) i.2; same = λ d. i.2; still = uncounted-emptied i.0 n i.2 }
 
   -- what comes from heaps that come from others
   from-then : (h g : Heap) (n : HeapNative) → ((m : HeapNative) → Among m g.natives → ComesFrom ks h m) → ComesFrom ks g n → ComesFrom ks h n
@@ -71,7 +62,7 @@ module _ (ks : List ℕ) where
       }
 
   -- what one of these natives was changed to
-  from-changed : (h : Heap) (k : ℕ) (f : HeapNative → HeapNative) → KeepsNumber f → ((n : HeapNative) → IsUnlinked n → IsUnlinked (f n)) → Among k ks →
+  from-changed : (h : Heap) (k : ℕ) (f : HeapNative → HeapNative) → KeepsNumber f → ((n : HeapNative) → IsEmptied n → IsEmptied (f n)) → Among k ks →
       (n : HeapNative) → Among n (change_native h k f).natives → ComesFrom ks h n
   from-changed h k f number keeps own n m = grind (arith, Among-map_cases, eqb-true, from-of)
 
@@ -84,8 +75,8 @@ module _ (ks : List ℕ) where
   ending-stays _ _ _ (reordered early late h same) = λ n m. from-of h n (n, m, refl)
   ending-stays _ _ _ (raised hand h k own) = λ n m. from-of h n (IsOf-alike h (add_ref h k) (HoldsTheSame-add_ref h k).natives n m)
   ending-stays _ _ _ (told hand h k own) = λ n m. from-of h n (n, m, refl)
-  ending-stays _ _ _ (emptied hand h k i n x own d e room content) = from-changed h k (with_native_slot i None) (λ o. refl) (IsUnlinked-slot i) own
-  ending-stays _ _ _ (unlinked hand h k own) = from-changed h k as_unlinked (λ n. refl) IsUnlinked-again own
+  ending-stays _ _ _ (emptied hand h k i n x own d e room content) = from-changed h k (with_native_slot i None) (λ o. refl) (IsEmptied-slot i) own
+  ending-stays _ _ _ (unlinked hand h k own) = from-changed h k as_unlinked (λ n. refl) IsEmptied-again own
 
   -- NATIVES STAY AS THEY WERE, unless they are unlinked: in cascades, and in ends of collections.
   pub done-stays : (s : Stage) (es : List Event) (t : Stage) → Done (Ending ks) s es t → (n : HeapNative) → Among n t.heap.natives → ComesFrom ks s.heap n

@@ -15,7 +15,7 @@ use Rattle.cc_model.specs.WellFormed.{native_names}
 use Rattle.cc_model.specs.Counts.{refs_to, times}
 use Rattle.cc_model.specs.StandsFor.{IsEmptied}
 use Rattle.cc_laws_heap.specs.Sound.{IsSound}
-use Rattle.cc_laws_heap.specs.Ending.{freed_numbers, IsLeft, IsUnlinked, TakesAway}
+use Rattle.cc_laws_heap.specs.Ending.{freed_numbers, IsLeft, TakesAway}
 use Rattle.cc_laws_heap.specs.Stages.{Stage, stage, Done, Ending}
 use Rattle.cc_laws_heap.specs.Stages.Done.{nothing, followed, besides}
 use Rattle.cc_laws_heap.specs.Stages.Ending.{reordered, raised}
@@ -75,12 +75,12 @@ pub record IsTaking (all : List ℕ) (start : Stage) (hand unlinked : List ℕ) 
   pub sound : IsSound hand o.heap
   pub done : Done (Ending all) start o.events (stage hand [] o.heap)
   pub told : unlinked_numbers o.events ≡ unlinked
-  pub taken : (n : HeapNative) → Among n o.heap.natives → Among n.number unlinked → IsUnlinked n
+  pub taken : (n : HeapNative) → Among n o.heap.natives → Among n.number unlinked → IsEmptied n
 
 -- something more is done
 IsTaking-then : (all : List ℕ) (start : Stage) (early late unlinked more : List ℕ) (o p : Outcome) → IsTaking all start early unlinked o → IsSound late p.heap →
     Done (Ending all) (stage early [] o.heap) p.events (stage late [] p.heap) → unlinked_numbers p.events ≡ more →
-    ((n : HeapNative) → Among n p.heap.natives → Among n.number more → IsUnlinked n) → IsTaking all start late (unlinked ++ more) (after o.events p)
+    ((n : HeapNative) → Among n p.heap.natives → Among n.number more → IsEmptied n) → IsTaking all start late (unlinked ++ more) (after o.events p)
 IsTaking-then all start early late unlinked more o p t sound done told new = record {
   sound = sound;
   done = followed start (stage early [] o.heap) (stage late [] p.heap) o.events p.events t.done done;
@@ -161,7 +161,7 @@ module _ (h : Heap) (ks : List ℕ) (s : IsSound [] h) (there : (k : ℕ) → Am
 
   -- in which those that were taken away are empty where they are left,
   pub taken-emptied : (n : HeapNative) → Among n (take_away ks h).heap.natives → Among n.number ks → IsEmptied n
-  taken-emptied n m i = (taking-end.taken n m i).emptied
+  taken-emptied n m i = taking-end.taken n m i
 
   -- and unlinked for good, and the others are as they were,
   pub taken-left : (n : HeapNative) → Among n (take_away ks h).heap.natives → IsLeft h ks n

@@ -1,6 +1,6 @@
 -- A NATIVE UNLINKED: while it is owned it stays, with empty slots and no preservation, unlinked for good; all others are
 -- as they were, or were freed.
-use Rattle.std.proofs.Common.{arith, ◌≡◌, ℕ, ◌+◌, ◌≤◌, Bool, false, List, [], ◌∷◌, ◌++◌, Option, Some, refl, sym, ◌∙◌, ap, subst, ◌==◌, inl, ⊎_elim}
+use Rattle.std.proofs.Common.{arith, ◌≡◌, ℕ, ◌+◌, ◌≤◌, Bool, List, [], ◌∷◌, ◌++◌, Option, Some, refl, sym, ◌∙◌, ap, subst, ◌==◌, inl, ⊎_elim}
 use Rattle.std.proofs.lemmas.Bool.{false≢true}
 use Rattle.std.proofs.lemmas.List.{append-nil, length-replicate}
 use Rattle.cc_lists.specs.Members.{Among}
@@ -14,7 +14,7 @@ use Rattle.cc_model.specs.WellFormed.{IsWellFormed, native_names}
 use Rattle.cc_model.specs.Counts.{refs_to, slots_of_natives, times}
 use Rattle.cc_model.specs.StandsFor.{IsEmptied}
 use Rattle.cc_laws_heap.specs.Sound.{IsSound}
-use Rattle.cc_laws_heap.specs.Ending.{freed_numbers, IsLeft, IsUnlinked}
+use Rattle.cc_laws_heap.specs.Ending.{freed_numbers, IsLeft}
 use Rattle.cc_laws_heap.specs.Stages.{Stage, stage, Done, Ending}
 use Rattle.cc_laws_heap.specs.Stages.Done.{followed, besides}
 use Rattle.cc_laws_heap.specs.Stages.Ending.{told, unlinked}
@@ -66,20 +66,16 @@ set_unlinked-sound owned h k s = record {
     counted : (n : HeapNative) → Among n h.natives → n.count ≡ refs_to (set_unlinked h k) n.number + times n.number owned
     counted n m = s.counts n m ∙ ap (λ r. r + times n.number owned) (sym (refs n.number))
 
--- empty slots and no preservation are those of a native that was unlinked
-IsEmptied-from : (n : HeapNative) (j : ℕ) → n.slots ≡ empty_slots j → n.preserved ≡ false → IsEmptied n
-IsEmptied-from n j e p = grind (arith, length-replicate)
-
--- what was unlinked with its slots empty
-IsUnlinked-from : (n : HeapNative) (j : ℕ) → n.slots ≡ empty_slots j → IsUnlinked (as_unlinked n)
-IsUnlinked-from n j e = record { emptied = IsEmptied-from (as_unlinked n) j e refl; for_good = refl }
+-- what is unlinked with its slots empty is emptied
+IsEmptied-from : (n : HeapNative) (j : ℕ) → n.slots ≡ empty_slots j → IsEmptied (as_unlinked n)
+IsEmptied-from n j e = grind (arith, length-replicate)
 
 -- native k was told unlinked and is so where it is there; those freed have left; the others are as they were
 pub record Unlinks (h : Heap) (k : ℕ) (freed : List ℕ) (o : Outcome) : Type 0 where
   pub unlinked_told : unlinked_numbers o.events ≡ k ∷ []
   pub leaves : Leave h freed o.heap
   pub others : OthersStay h k o.heap
-  pub taken : (n : HeapNative) → Among n o.heap.natives → n.number ≡ k → IsUnlinked n
+  pub taken : (n : HeapNative) → Among n o.heap.natives → n.number ≡ k → IsEmptied n
 
 module _ (owned : List ℕ) (h : Heap) (k : ℕ) (s : IsSound owned h) (own : Among k owned) where
   -- the slots of what was found emptied
@@ -124,7 +120,7 @@ module _ (owned : List ℕ) (h : Heap) (k : ℕ) (s : IsSound owned h) (own : Am
           let there : native_at end k ≡ Some (as_unlinked e.held) = native_at-change_same before k as_unlinked (λ o. refl) ∙ rw e.found refl in
           let both : Some (as_unlinked e.held) ≡ Some n = sym there ∙ here in
           let same : as_unlinked e.held ≡ n = cc in
-          subst IsUnlinked same (IsUnlinked-from e.held f.0 (e.slots ∙ append-nil (empty_slots f.0)));
+          subst IsEmptied same (IsEmptied-from e.held f.0 (e.slots ∙ append-nil (empty_slots f.0)));
     },
   )
     where

@@ -41,7 +41,7 @@ Leaves-exposed h None = Leaves-refl h
 Leaves-exposed h (Some x) = record {
   beside = record { native_registers = refl; script_registers = refl; entries = refl; natives_made = refl; scripts_made = refl; limits = refl };
   objects = record {
-    natives = λ n i. (n, i, refl, refl);
+    natives = λ n i. (n, i, refl, refl, refl);
     scripts = λ o i.
         let p = Among-map_cases (λ (o : HeapScript). if has same_name (exposed_names h x) o.name then as_black o else o) h.scripts o i in (
           p.0,

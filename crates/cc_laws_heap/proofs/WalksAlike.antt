@@ -25,6 +25,8 @@ use Rattle.cc_model.proofs.Derivations.{Follows, first-found, with_joints-keeps,
 use Rattle.cc_model.proofs.PathsFollow.{AllReached, all_reached-grows}
 use Rattle.cc_model.proofs.Leading.{derivation-ends, heap-within}
 use Rattle.cc_laws_heap.proofs.EntryLists.{is_entry_of-own}
+use Rattle.cc_laws_heap.proofs.Given.{Reached-given}
+use Rattle.cc_laws_heap.proofs.Standing.{stands-reached}
 use Rattle.cc_laws_heap.proofs.ReachedAlike.{ArePart-among, ArePart-none, edges_of-made, here, same_delegate}
 use Rattle.cc_laws_heap.proofs.HeapShapes.{places_in-shape}
 use Rattle.cc_laws_heap.proofs.GraphLeads.{graph-within}
@@ -53,7 +55,7 @@ module _ (h : Heap) (g : Graph) (w : IsWellFormed h) (m : IsWellMade g) (s : Sta
 
   -- what is reached has the same places in both
   places-alike : (x : Name) → Reached g x → contents ((leads_made g).places x) ≡ contents ((leads_in h).places x)
-  places-alike x d = let k = s.reached x d in edges_of-made g x k.shape k.made ∙ sym (places_in-shape h w x k.shape k.there)
+  places-alike x d = let k = stands-reached h g s x d in edges_of-made g x k.shape k.made ∙ sym (places_in-shape h w x k.shape k.there)
 
   -- a joint of which not both members are found gives nothing
   idle-joint : (v : Walk) (j : Joint) → ((is_found v j.the_map ≡ true) → (is_found v j.key ≡ true) → ⊥) → with_joint v j ≡ v
@@ -148,7 +150,7 @@ module _ (h : Heap) (g : Graph) (w : IsWellFormed h) (m : IsWellMade g) (s : Sta
   -- an entry whose members are reached is there as it is in the graph
   entry-there : (e : Entry) → Among e g.entries → Reached g e.the_map → Reached g e.key → Among e h.entries
   entry-there e i a b =
-      let f = here h g w m s e i a b in
+      let f = here h g w m s e i (Reached-given h g e.the_map a) (Reached-given h g e.key b) in
       let d = same_delegate h g w m s e i f.0 f.1 f.3 in
       let same : f.0 ≡ e = λ j. record { the_map = f.2 j; key = f.3 j; delegate = d j; value = f.4 j } in
       subst (λ c. Among c h.entries) same f.1

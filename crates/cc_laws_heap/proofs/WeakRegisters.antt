@@ -8,6 +8,7 @@ use Rattle.cc_names.specs.declared.register.Reg.TheVariants.{N, S, W}
 use Rattle.cc_model.specs.Slots.{Slots}
 use Rattle.cc_model.specs.Graph.{Graph, register, set_weak}
 use Rattle.cc_model.specs.Reached.{Reached, held, edge, value, key, edges_of}
+use Rattle.cc_model.specs.Given.{Given}
 use Rattle.cc_model.specs.WellMade.{IsWellMade}
 use Rattle.cc_model.specs.Heap.{Heap}
 use Rattle.cc_model.specs.WellFormed.{IsWellFormed}
@@ -56,7 +57,7 @@ module _ (g : Graph) (ws : Slots) where
   -- heaps that follow a graph follow it
   Follows-weak : (P : Name → Type 0) (h : Heap) → Follows P h g → Follows P h (with_weak g ws)
   Follows-weak P h t = Follows-changed P unchanged h h g (with_weak g ws)
-      (record { natives = λ n i. (n, i, refl, refl); scripts = λ o i. (o, i, refl, refl) })
+      (record { natives = λ n i. (n, i, refl, refl, refl); scripts = λ o i. (o, i, refl, refl) })
       shape_in-same
       (record { native_registers = refl; script_registers = refl; entries = refl; natives_made = refl; scripts_made = refl; limits = refl })
       (record { native_registers = refl; script_registers = refl; entries = refl; natives_made = refl; scripts_made = refl; limits = refl })
@@ -73,5 +74,5 @@ Follows-weak_register P h g d x t = Follows-weak g (set g.weak_registers d x) P 
 -- HEAPS THAT STAND FOR A GRAPH stand for it where a weak register is written with a native that was made.
 pub weak-stands : (h : Heap) (g : Graph) (d : ℕ) (x : Option Name) → IsWellFormed h → IsWellMade g → StandsFor h g →
     OfSome (MadeNative g) x → StandsFor h (set_weak g d x)
-weak-stands h g d x w m s made = follows-stands (Reached g) h (set_weak g d x) w (IsWellMade-weak_register g d x m made)
-    (Follows-weak_register (Reached g) h g d x (stands-follows h g w s))
+weak-stands h g d x w m s made = follows-stands (Given h g) h (set_weak g d x) w (IsWellMade-weak_register g d x m made)
+    (Follows-weak_register (Given h g) h g d x (stands-follows h g w s))

@@ -14,6 +14,7 @@ use Rattle.cc_model.specs.Entries.{Entry}
 use Rattle.cc_model.specs.Graph as graph
 use Rattle.cc_model.specs.Graph.{Graph, GraphNative, native_in, script_in, set_native, as_wrapped, slots_or_blank}
 use Rattle.cc_model.specs.Reached.{Reached}
+use Rattle.cc_model.specs.Given.{Given}
 use Rattle.cc_model.specs.WellMade.{IsWellMade, IsMadeEntry, was_made}
 use Rattle.cc_model.specs.Heap.{Heap, HeapScript, has_reflector}
 use Rattle.cc_model.specs.Exposure.{exposed}
@@ -23,6 +24,7 @@ use Rattle.cc_model.specs.StandsFor.{Shape, shape_in, shape_at, shape_of_native,
 use Rattle.cc_laws_heap.proofs.Numbered.{numbered-change, numbered-change_other}
 use Rattle.cc_laws_heap.proofs.Shapes.{further_of, delegate_of_shape, delegate_in-shape, IsOfNone, no_delegate-of_none}
 use Rattle.cc_laws_heap.proofs.GraphWrites.{set_native-is}
+use Rattle.cc_laws_heap.proofs.Given.{Reached-given}
 use Rattle.cc_laws_heap.proofs.Following.{AgreesBeside, Follows, shape_in-native, shape_in-reflector, stands-follows}
 use Rattle.cc_laws_heap.proofs.Changing.{unchanged, Follows-changed, Follows-left, GraphChanges, IsChange-unchanged, option_map-same}
 use Rattle.cc_laws_heap.proofs.Writing.{numbered-changed, SameGraphBeside-native}
@@ -59,20 +61,20 @@ entry-delegate g e m x none q = go (shape_in g e.key) refl (sym (delegate_in-sha
 abbrev blank_shape : Shape
 blank_shape = script_shape (Some (empty_slots reflector_slots)) None
 
-module _ (h : Heap) (g : Graph) (k : ℕ) (w : IsWellFormed h) (m : IsWellMade g) (s : StandsFor h g) (d : Reached g (native k)) (n : GraphNative) (i : native_in g k ≡ Some n) where
+module _ (h : Heap) (g : Graph) (k : ℕ) (w : IsWellFormed h) (m : IsWellMade g) (s : StandsFor h g) (d : Given h g (native k)) (n : GraphNative) (i : native_in g k ≡ Some n) where
   -- the heaps follow the graph
-  follows : Follows (Reached g) h g
+  follows : Follows (Given h g) h g
   follows = stands-follows h g w s
 
   -- the native has its shape
   made : shape_in g (native k) ≡ Some (shape_of_native n)
   made = ap (option_map shape_of_native) i
 
-  -- Where the reflector is preserved it is reached, so it is there, and nothing changes
+  -- Where the reflector is preserved it is given, so it is there, and nothing changes
 
-  -- a preserved reflector is reached
-  preserved-reached : n.preserved ≡ true → Reached g (reflector k)
-  preserved-reached p = follows.closed.edges (native k) (reflector k) (shape_of_native n) d made
+  -- a preserved reflector is given
+  preserved-given : n.preserved ≡ true → Given h g (reflector k)
+  preserved-given p = follows.closed.edges (native k) (reflector k) (shape_of_native n) d made
       (Among-right (reflector k) (contents n.slots) (further_of (native k) (shape_of_native n)) (subst (λ b. Among (reflector k) (elim b [ true ↦ reflector k ∷ [] | false ↦ [] ])) (sym p) (inl refl)))
 
   -- what it has for slots
@@ -84,19 +86,19 @@ module _ (h : Heap) (g : Graph) (k : ℕ) (w : IsWellFormed h) (m : IsWellMade g
   unchanged-graph t e z = grind (arith, same_name-true, wrapped-made, same-shape, option_map-same, wrapped-others, same_name-refl)
 
   -- the heaps follow the graph with the native wrapped
-  follows-preserved : n.preserved ≡ true → Follows (Reached g) (effects.wrapped h (Some (native k))) (with_wrapped g k)
+  follows-preserved : n.preserved ≡ true → Follows (Given h g) (effects.wrapped h (Some (native k))) (with_wrapped g k)
   follows-preserved p = go (has_reflector h k) (reflector-there h k kept.shape kept.there)
     where
       kept : IsKept h g (reflector k)
-      kept = s.reached (reflector k) (preserved-reached p)
+      kept = s.given (reflector k) (preserved-given p)
 
-      go : (b : Bool) → b ≡ true → Follows (Reached g) (elim b [ true ↦ exposed h (Some (reflector k)) | false ↦ effects.with_reflector h k ]) (with_wrapped g k)
+      go : (b : Bool) → b ≡ true → Follows (Given h g) (elim b [ true ↦ exposed h (Some (reflector k)) | false ↦ effects.with_reflector h k ]) (with_wrapped g k)
       go true e =
-          let f : Follows (Reached g) (exposed h (Some (reflector k))) g = Follows-left (Reached g) h (exposed h (Some (reflector k))) g (Leaves-exposed h (Some (reflector k))) follows in
+          let f : Follows (Given h g) (exposed h (Some (reflector k))) g = Follows-left (Given h g) h (exposed h (Some (reflector k))) g (Leaves-exposed h (Some (reflector k))) follows in
           let same = Leaves-refl (exposed h (Some (reflector k))) in
-          Follows-changed (Reached g) unchanged (exposed h (Some (reflector k))) (exposed h (Some (reflector k))) g (with_wrapped g k)
+          Follows-changed (Given h g) unchanged (exposed h (Some (reflector k))) (exposed h (Some (reflector k))) g (with_wrapped g k)
           same.objects (unchanged-graph kept.shape kept.made) same.beside (SameGraphBeside-native g k as_wrapped)
-          (IsChange-unchanged (Reached g) (exposed h (Some (reflector k))) g f) f
+          (IsChange-unchanged (Given h g) (exposed h (Some (reflector k))) g f) f
       go false e = absurd (false≢true e)
 
   -- Where it is not preserved, it is blank
@@ -139,14 +141,14 @@ module _ (h : Heap) (g : Graph) (k : ℕ) (w : IsWellFormed h) (m : IsWellMade g
   -- the heaps with the reflector, or without
   is-made : n.preserved ≡ false → (j : Heap) (os : List HeapScript) → AgreesBeside j g →
       ((o : HeapScript) → Among o os → Among o j.scripts ⊎ ((o.name ≡ reflector k) × (shape_of_held_script o ≡ blank_shape))) →
-      IsMade (Reached g) j (record j { scripts = os }) g (with_wrapped g k) (reflector k) blank_shape
+      IsMade (Given h g) j (record j { scripts = os }) g (with_wrapped g k) (reflector k) blank_shape
   is-made p j os b scripts = record {
     natives = λ n l. inl l;
     scripts = λ o l. ⊎_elim (λ a. inl a) (λ q. inr (q.0, q.1, refl)) (scripts o l);
     others = wrapped-others g k;
     made = wrapped-made g k n i ∙ ap (λ (l : Slots). Some (script_shape (Some l) None)) (blank-made p);
     before = λ t e. (sym (same-shape t e) ∙ ap (λ (l : Slots). script_shape (Some l) None) (blank-made p), refl);
-    targets = λ y l. ⊎_elim (λ a. absurd (contents-empty_none reflector_slots y a)) (λ r. ⊎_elim (λ q. subst (Reached g) q d) (λ q. absurd q) r)
+    targets = λ y l. ⊎_elim (λ a. absurd (contents-empty_none reflector_slots y a)) (λ r. ⊎_elim (λ q. subst (Given h g) q d) (λ q. absurd q) r)
         (Among-append y (contents (empty_slots reflector_slots)) (native k ∷ []) l);
     no_entry = no-entry p;
     no_delegate = no-delegate p;
@@ -165,19 +167,19 @@ module _ (h : Heap) (g : Graph) (k : ℕ) (w : IsWellFormed h) (m : IsWellMade g
     script_registers = (SameGraphBeside-native g k as_wrapped).script_registers;
   }
 
-  -- the heaps follow the graph with the native wrapped, over what is reached and the reflector
-  follows-blank : n.preserved ≡ false → Follows (λ z. Reached g z ⊎ (reflector k ≡ z)) (effects.wrapped h (Some (native k))) (with_wrapped g k)
+  -- the heaps follow the graph with the native wrapped, over what is given and the reflector
+  follows-blank : n.preserved ≡ false → Follows (λ z. Given h g z ⊎ (reflector k ≡ z)) (effects.wrapped h (Some (native k))) (with_wrapped g k)
   follows-blank p = go (has_reflector h k)
     where
-      go : (b : Bool) → Follows (λ z. Reached g z ⊎ (reflector k ≡ z)) (elim b [ true ↦ exposed h (Some (reflector k)) | false ↦ effects.with_reflector h k ]) (with_wrapped g k)
+      go : (b : Bool) → Follows (λ z. Given h g z ⊎ (reflector k ≡ z)) (elim b [ true ↦ exposed h (Some (reflector k)) | false ↦ effects.with_reflector h k ]) (with_wrapped g k)
       go true =
-          let f : Follows (Reached g) (exposed h (Some (reflector k))) g = Follows-left (Reached g) h (exposed h (Some (reflector k))) g (Leaves-exposed h (Some (reflector k))) follows in
-          Follows-made (Reached g) (exposed h (Some (reflector k))) (exposed h (Some (reflector k))) g (with_wrapped g k) (reflector k) blank_shape
+          let f : Follows (Given h g) (exposed h (Some (reflector k))) g = Follows-left (Given h g) h (exposed h (Some (reflector k))) g (Leaves-exposed h (Some (reflector k))) follows in
+          Follows-made (Given h g) (exposed h (Some (reflector k))) (exposed h (Some (reflector k))) g (with_wrapped g k) (reflector k) blank_shape
           (is-made p (exposed h (Some (reflector k))) (exposed h (Some (reflector k))).scripts f.beside (λ o l. inl l)) f
       go false =
           let j : Heap = effects.with_script h (reflector k) Reflector reflector_slots None in
-          Follows-left (λ z. Reached g z ⊎ (reflector k ≡ z)) j (effects.with_reflector h k) (with_wrapped g k) (Leaves-add_ref j k)
-          (Follows-made (Reached g) h j g (with_wrapped g k) (reflector k) blank_shape
+          Follows-left (λ z. Given h g z ⊎ (reflector k ≡ z)) j (effects.with_reflector h k) (with_wrapped g k) (Leaves-add_ref j k)
+          (Follows-made (Given h g) h j g (with_wrapped g k) (reflector k) blank_shape
           (is-made p h j.scripts follows.beside
           (λ o l. ⊎_elim (λ a. inl a) (λ q. inr (sym (ap (λ (o : HeapScript). o.name) q), sym (ap shape_of_held_script q))) (last-cases h.scripts _ o l))) follows)
 
@@ -185,9 +187,10 @@ module _ (h : Heap) (g : Graph) (k : ℕ) (w : IsWellFormed h) (m : IsWellMade g
 pub Follows-wrapped : (h : Heap) (g : Graph) (k : ℕ) → IsWellFormed h → IsWellMade g → StandsFor h g → Reached g (native k) → (Q : Type 0) →
     ((P : Name → Type 0) → P (reflector k) → Follows P (effects.wrapped h (Some (native k))) (graph.wrapped g (Some (native k))) → Q) → Q
 Follows-wrapped h g k w m s d Q f =
-    let kept = s.reached (native k) d in
+    let there = Reached-given h g (native k) d in
+    let kept = s.given (native k) there in
     let n = shape_in-native g k kept.shape kept.made in
     ⊎_elim
-    (λ p. f (Reached g) (preserved-reached h g k w m s d n.0 n.1 p) (follows-preserved h g k w m s d n.0 n.1 p))
-    (λ p. f (λ z. Reached g z ⊎ (reflector k ≡ z)) (inr refl) (follows-blank h g k w m s d n.0 n.1 p))
+    (λ p. f (Given h g) (preserved-given h g k w m s there n.0 n.1 p) (follows-preserved h g k w m s there n.0 n.1 p))
+    (λ p. f (λ z. Given h g z ⊎ (reflector k ≡ z)) (inr refl) (follows-blank h g k w m s there n.0 n.1 p))
     (cases_Bool n.0.preserved)

@@ -105,15 +105,24 @@ SameGraphBeside-script g k a = grind (arith, set_script-is, length-change)
 
 -- a native changed
 pub HeapChanges-native : (h : Heap) (k : ℕ) (a : HeapNative → HeapNative) (f : Shape → Shape) → ((n : HeapNative) → (a n).number ≡ n.number) →
-    ((n : HeapNative) → shape_of_held_native (a n) ≡ f (shape_of_held_native n)) → ((o : HeapScript) → Among o h.scripts → IsTrue (is_script o.name)) →
+    ((n : HeapNative) → (a n).unlinked ≡ n.unlinked) → ((n : HeapNative) → shape_of_held_native (a n) ≡ f (shape_of_held_native n)) → ((o : HeapScript) → Among o h.scripts → IsTrue (is_script o.name)) →
     HeapChanges (changed_at (native k) f) h (change_native h k a)
-HeapChanges-native h k a f number changes named = record {
+HeapChanges-native h k a f number flag changes named = record {
   natives = λ n i.
-      let m = Among-map_cases (λ (n : HeapNative). if n.number == k then a n else n) h.natives n i in
-      (m.0, m.1, sym (changed_at-number k a number m.0) ∙ ap (λ (n : HeapNative). n.number) m.2, ap shape_of_held_native (sym m.2) ∙ changed-read shape_of_held_native a f changes (m.0.number == k) m.0);
+      let m = Among-map_cases (λ (n : HeapNative). if n.number == k then a n else n) h.natives n i in (
+        m.0,
+        m.1,
+        sym (changed_at-number k a number m.0) ∙ ap (λ (n : HeapNative). n.number) m.2,
+        ap shape_of_held_native (sym m.2) ∙ changed-read shape_of_held_native a f changes (m.0.number == k) m.0,
+        sym (kept m.0 (m.0.number == k)) ∙ ap (λ (n : HeapNative). n.unlinked) m.2,
+      );
   scripts = λ o i. (o, i, refl, same o o.name (named o i));
 }
   where
+    kept : (n : HeapNative) (b : Bool) → (if b then a n else n).unlinked ≡ n.unlinked
+    kept n true = flag n
+    kept n false = refl
+
     same : (o : HeapScript) (x : Name) → IsTrue (is_script x) → shape_of_held_script o ≡ changed_at (native k) f x (shape_of_held_script o)
     same o (name.Native j) s = absurd (false≢true s)
     same o _ s = refl
@@ -122,7 +131,7 @@ HeapChanges-native h k a f number changes named = record {
 pub HeapChanges-script : (h : Heap) (x : Name) (a : HeapScript → HeapScript) (f : Shape → Shape) → IsTrue (is_script x) → ((o : HeapScript) → (a o).name ≡ o.name) →
     ((o : HeapScript) → shape_of_held_script (a o) ≡ f (shape_of_held_script o)) → HeapChanges (changed_at x f) h (change_script h x a)
 HeapChanges-script h x a f script names changes = record {
-  natives = λ n i. (n, i, refl, same n x script);
+  natives = λ n i. (n, i, refl, same n x script, refl);
   scripts = λ o i.
       let p = Among-map_cases (λ (o : HeapScript). if same_name o.name x then a o else o) h.scripts o i in
       (p.0, p.1, sym (changed_where-either (λ q. q.name ≡ p.0.name) (λ q. same_name q.name x) a p.0 (λ e. names p.0) refl) ∙ ap (λ (o : HeapScript). o.name) p.2, ap shape_of_held_script (sym p.2) ∙ changed-read shape_of_held_script a f changes (same_name p.0.name x) p.0);

@@ -1,5 +1,5 @@
 -- What the end of a collection tells and takes out.
-use Rattle.std.specs.Prelude.{◌≡◌, ℕ, ◌≤◌, ◌==◌, true, not, List, [], ◌++◌, map, filter, flat_map}
+use Rattle.std.specs.Prelude.{◌≡◌, ℕ, ◌≤◌, ◌==◌, not, List, [], ◌++◌, map, filter, flat_map}
 use Rattle.cc_lists.specs.Members.{Among, has}
 use Rattle.cc_names.specs.Names.{native, natives_in}
 use Rattle.cc_model.specs.declared.item.Event.{Event}
@@ -31,17 +31,12 @@ NamesNative (Freed x) = (k : ℕ) × (x ≡ native k)
 NamesNative (Unlinked x) = (k : ℕ) × (x ≡ native k)
 NamesNative Abandoned = ⊥
 
--- a native that was unlinked: it is empty, and is known as unlinked for good
-pub record IsUnlinked (n : HeapNative) : Type 0 where
-  pub emptied : IsEmptied n
-  pub for_good : n.unlinked ≡ true
-
 -- a native that was in these heaps: if it is one of ks, it was unlinked since; else it changed in its count alone
 pub record IsLeft (h : Heap) (ks : List ℕ) (n : HeapNative) : Type 0 where
   pub was : HeapNative
   pub there : Among was h.natives
   pub number : was.number ≡ n.number
-  pub taken : Among n.number ks → IsUnlinked n
+  pub taken : Among n.number ks → IsEmptied n
   pub other : ¬ (Among n.number ks) → uncounted was ≡ uncounted n
 
 -- the natives ks are told unlinked in this order, `freed` are told freed in this order and taken out; none of ks is

@@ -28,6 +28,8 @@ use Rattle.cc_model.specs.Places.{script_places_of}
 use Rattle.cc_laws_heap.specs.Sound.{IsSound}
 use Rattle.cc_laws_heap.proofs.Natives.{IsWellFormed-distinct, native_at-member, named-member}
 use Rattle.cc_laws_heap.proofs.ReachedAlike.{ArePart-among, in-reached}
+use Rattle.cc_laws_heap.proofs.Given.{Reached-given}
+use Rattle.cc_laws_heap.proofs.Standing.{stands-reached, stands-blank}
 use Rattle.cc_laws_heap.proofs.ViewEdges.{native_edges-are}
 use Rattle.cc_laws_run.specs.Doomed.{IsDoomed, KeepsReflectors, garbage}
 use Rattle.cc_model.specs.Reached.{Reached}
@@ -150,7 +152,8 @@ module _ (h : Heap) (g : Graph) (sound : IsSound [] h) (well : IsWellMade g) (st
           let c = Among-map_cases (from_to o.name) (contents (script_places_of o)) (x, y) m in
           let named : o.name ≡ x = ap (λ (p : Name × Name). p.0) c.2 in
           let blank : o.slots ≡ empty_slots reflector_slots =
-          stands.blank_there s.own o s.there s.blank (in-reached h g sound.well_formed well stands (native s.own.number) s.reached) there (named ∙ s.named) in
+          stands-blank h g sound.well_formed stands s.own o s.there s.blank
+          (Reached-given h g (native s.own.number) (in-reached h g sound.well_formed well stands (native s.own.number) s.reached)) there (named ∙ s.named) in
           ⊎_elim
           (λ l. subst (λ (t : Slots). Among c.0 (contents t)) blank l)
           (λ d. none_stood_for o there (named ∙ s.named) c.0 d)
@@ -179,7 +182,7 @@ module _ (h : Heap) (g : Graph) (sound : IsSound [] h) (well : IsWellMade g) (st
       m = made.0
 
       kept : IsKept h g (native n.number)
-      kept = stands.reached (native n.number) (in-reached h g sound.well_formed well stands (native n.number) s.reached)
+      kept = stands-reached h g stands (native n.number) (in-reached h g sound.well_formed well stands (native n.number) s.reached)
 
       same : shape_of_native m ≡ shape_of_held_native n
       same =

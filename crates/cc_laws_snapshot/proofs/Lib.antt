@@ -50,4 +50,5 @@ pub mod EndLoses
 pub mod EndSuspected
 pub mod KindsHeld
 pub mod KindsWaiting
+pub mod BroughtBack
 pub mod Face

@@ -1,5 +1,6 @@
--- WHITE IS UNREACHED: what the registers reach, and is a native and a node, is black in the snapshot.
-use Rattle.std.proofs.Common.{◌≡◌, ℕ, ◌<◌, ◌≤◌, true, List, map, Option, Some, refl, sym, ap, subst, inl, inr, ◌⊎◌, ⊎_elim, arith, count_by}
+-- WHITE IS UNREACHED: what the registers lead to, and is a native and a node, is black in the snapshot; and so is what other natives of
+-- the heaps lead to, as long as they are not white.
+use Rattle.std.proofs.Common.{◌≡◌, ℕ, ◌<◌, ◌≤◌, Bool, true, false, List, map, Option, Some, refl, sym, ap, subst, inl, inr, ◌⊎◌, ⊎_elim, arith, count_by}
 use Rattle.std.specs.List.{filter}
 use Rattle.std.specs.Option.{option_to_list}
 use Rattle.std.proofs.lemmas.Bool.{not-true, or_left, or_right, lt-ltb, cases_lt}
@@ -14,8 +15,8 @@ use Rattle.cc_names.specs.Names.{native, same_name, is_script}
 use Rattle.cc_names.proofs.NameTests.{same_name-refl, same_name-exact}
 use Rattle.cc_model.proofs.Joints.{derived-by_joints}
 use Rattle.cc_model.specs.Entries.{Joint}
-use Rattle.cc_model.specs.View.{View, ReachedIn, to, between}
-use Rattle.cc_model.specs.Snapshot.{NodeState, gone, traversed, Node, Snapshot, mapping_joint, noted_to, is_above, is_seed, seeds, BlackIn, IsWhite}
+use Rattle.cc_model.specs.View.{View, LedFrom, ReachedIn, to, between, scripts_there, is_there}
+use Rattle.cc_model.specs.Snapshot.{NodeState, gone, traversed, Node, Snapshot, mapping_joint, noted_to, is_above, is_seed, seeds, black_in_rules, BlackIn, black_in, is_white, node_names, IsWhite}
 use Rattle.cc_model.specs.Fresh.{node, IsNode, IsTraversedNode, IsOutside, IsLiving, MemberOf, MemberIsNode, IsFresh, IsTraversed}
 use Rattle.cc_laws_snapshot.proofs.NamePairs.{between-true, between-refl}
 use Rattle.cc_laws_snapshot.proofs.SoundView.{IsSoundView, black-or_gray}
@@ -176,10 +177,34 @@ module _ (made : ℕ) (v : View) (s : Snapshot) (sound : IsSoundView made v) (fr
       (Among-append p (option_to_list m.0.the_map) (option_to_list m.0.key) j)))))
       (black-or_gray v fresh.colours e.value there))
 
-  -- what is reached is kept
-  reached-kept : (x : Name) → ReachedIn v x → Kept x
-  reached-kept = derived-by_joints v.registers v.edges v.joints Kept root-kept along-kept valued-kept
+  -- a native of the heaps that is not white is kept: it is black, where it is a node
+  living-kept : (i : ℕ) → IsLiving v (native i) → ¬ (IsWhite v s (native i)) → Kept (native i)
+  living-kept i l out n = by (has same_name (black_in v s) (native i)) refl
+    where
+      there : is_there v (native i) ≡ true
+      there = or_left (has same_name (map (λ (m : Name × ℕ). m.0) v.natives) (native i)) (has same_name (scripts_there v) (native i))
+          (has-there same_name same_name-exact (map (λ (m : Name × ℕ). m.0) v.natives) (native i)
+          (Among-map (λ (m : Name × ℕ). m.0) (native i, l.0) v.natives l.1))
 
-  -- A native that is white is unreached.
+      by : (b : Bool) → has same_name (black_in v s) (native i) ≡ b → BlackIn v s (native i)
+      by true e = (closure-decides same_name same_name-exact (black_in_rules v s) (native i)).0 e
+      by false e = absurd (out (Among-filter (is_white v (black_in v s)) (native i) (node_names s) n (grind (arith, there))))
+
+  -- it is held by a register, or is a native of the heaps that is not white
+  abbrev IsBesideWhite : Name → Type 0
+  IsBesideWhite x = Among x v.registers ⊎ ((i : ℕ) × (x ≡ native i) × IsLiving v (native i) × (¬ (IsWhite v s (native i))))
+
+  -- then it is kept
+  beside-kept : (x : Name) → IsBesideWhite x → Kept x
+  beside-kept x b = ⊎_elim (root-kept x) (λ o. subst Kept (sym o.1) (living-kept o.0 o.2 o.3)) b
+
+  -- A native that is white is led to by no register, and by no native of the heaps that is not white.
+  pub white-apart : (xs : List Name) → ((x : Name) → Among x xs → IsBesideWhite x) → (i : ℕ) → IsWhite v s (native i) → ¬ (LedFrom v xs (native i))
+  white-apart xs beside i w led = grind (arith, Among-filtered, Among-passes, not-true, closure-decides, same_name-exact, led-kept)
+    where
+      led-kept : (x : Name) → LedFrom v xs x → Kept x
+      led-kept = derived-by_joints xs v.edges v.joints Kept (λ x m. beside-kept x (beside x m)) along-kept valued-kept
+
+  -- So it is unreached.
   pub white-unreached : (i : ℕ) → IsWhite v s (native i) → ¬ (ReachedIn v (native i))
-  white-unreached i w reached = grind (arith, Among-filtered, Among-passes, not-true, closure-decides, same_name-exact, reached-kept)
+  white-unreached i w reached = white-apart v.registers (λ x m. inl m) i w reached

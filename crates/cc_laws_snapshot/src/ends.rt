@@ -1,12 +1,14 @@
 //! Laws of the end of a collection that takes the white natives away.
-ghost use Rattle.std.specs.Prelude.{◌≡◌, ◌⊎◌, ℕ, List, []};
+ghost use Rattle.std.specs.Prelude.{◌≡◌, ◌⊎◌, ℕ, true, List, []};
 ghost use Rattle.cc_lists.specs.Members.{Among};
 ghost use Rattle.cc_names.specs.declared.name.Name.{Name};
+ghost use Rattle.cc_names.specs.Names.{native};
 ghost use Rattle.cc_model.specs.declared.item.Event.TheVariants.{Freed, Unlinked};
 ghost use Rattle.cc_model.specs.Graph.{Graph};
 ghost use Rattle.cc_model.specs.WellMade.{IsWellMade};
 ghost use Rattle.cc_model.specs.Reached.{Reached};
-ghost use Rattle.cc_model.specs.Heap.{Heap};
+ghost use Rattle.cc_model.specs.Given.{Given};
+ghost use Rattle.cc_model.specs.Heap.{Heap, HeapNative};
 ghost use Rattle.cc_model.specs.View.{view};
 ghost use Rattle.cc_model.specs.WellFormed.{names_there};
 ghost use Rattle.cc_model.specs.Colours.{HasColourInvariant};
@@ -28,7 +30,9 @@ pub fn ends_take_white()
         (freed : List ℕ) × TakesAway h (white_natives h s) freed (take_away (white_natives h s) h) }
 {}
 
-/// What a register reaches stays in the heaps, with its slots and its flag; only what none reaches is told.
+/// What a register reaches stays in the heaps, with its slots and its flag; only what none reaches is told. What is told is given no
+/// more: neither the registers nor a native that was not unlinked leads to it, so no weak reference brings it back. The same holds of
+/// each native that was unlinked before and is still in the heaps.
 pub fn ends_keep_reached()
     ensures stands { (h : Heap) (g : Graph) (s : Snapshot) → IsSound [] h → IsWellMade g → StandsFor h g →
         IsFresh h.natives_made (view h) s → IsTraversed s → StandsFor (take_away (white_natives h s) h).heap g }
@@ -39,4 +43,11 @@ pub fn ends_keep_reached()
         IsFresh h.natives_made (view h) s → IsTraversed s →
         Among (Freed x) (take_away (white_natives h s) h).events ⊎ Among (Unlinked x) (take_away (white_natives h s) h).events →
         ¬ (Reached g x) }
+    ensures ended { (h : Heap) (g : Graph) (s : Snapshot) (x : Name) → IsSound [] h → IsWellMade g → StandsFor h g →
+        IsFresh h.natives_made (view h) s → IsTraversed s →
+        Among (Freed x) (take_away (white_natives h s) h).events ⊎ Among (Unlinked x) (take_away (white_natives h s) h).events →
+        ¬ (Given (take_away (white_natives h s) h).heap g x) }
+    ensures spent { (h : Heap) (g : Graph) (s : Snapshot) (n : HeapNative) → IsSound [] h → IsWellMade g → StandsFor h g →
+        IsFresh h.natives_made (view h) s → IsTraversed s →
+        Among n (take_away (white_natives h s) h).heap.natives → n.unlinked ≡ true → ¬ (Given (take_away (white_natives h s) h).heap g (native n.number)) }
 {}

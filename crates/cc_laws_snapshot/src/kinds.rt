@@ -10,7 +10,7 @@ ghost use Rattle.cc_model.specs.Banks.{Bank};
 ghost use Rattle.cc_model.specs.Slots.{contents, empty_slots};
 ghost use Rattle.cc_model.specs.Heap.{Heap, HeapNative, native_at, has_reflector, set_register, change_native, change_script, with_native_slot, with_script_slot, set_preserved, register, lengthen, touch};
 ghost use Rattle.cc_model.specs.Cascade.{Draining, add_ref, give_up, natives_of_slots, without_native};
-ghost use Rattle.cc_model.specs.Effects.{make_native, make_object, with_reflector, wrapped, set_entry};
+ghost use Rattle.cc_model.specs.Effects.{make_native, hold_native, make_object, with_reflector, wrapped, set_entry};
 ghost use Rattle.cc_model.specs.Exposure.{exposed};
 ghost use Rattle.cc_model.specs.Skipping.{unmarked};
 ghost use Rattle.cc_model.specs.View.{view, ReachedIn};
@@ -28,6 +28,10 @@ ghost use Rattle.cc_laws_snapshot.specs.KindsSuspected.{IsSuspectedIn, IsSuspect
 /// that is named then, or is the delegate of the one that is made, is gray, and a native that is put into a slot stands in
 /// the buffer; registers come, empty; something is exposed; a reference is given up; the front of the queue leaves.
 /// A slot may be written while others wait, as where what one slot held goes into another.
+///
+/// One more kind is a native that is brought back, whether something reaches it or not, as a weak reference does it: it gets a
+/// reference that a register holds from then on, in one change, and what the register held is given up. A weak register that is
+/// written changes nothing here, since the heaps have none.
 pub fn kinds_of_change_keep_fresh()
     ensures native_made { (owned : List ℕ) (h : Heap) (s : Snapshot) (d n : ℕ) → IsSound owned h → d < length h.native_registers → n ≤ most_slots →
         h.natives_made < h.limits.natives → IsFreshIn h s → IsFreshIn (make_native h d n).heap s }
@@ -68,6 +72,8 @@ pub fn kinds_of_change_keep_fresh()
     ensures full_front_leaves { (d : Draining) (s : Snapshot) (k : ℕ) → IsRising (map (λ n. n.number) d.heap.natives) →
         IsFreshCounting (k ∷ d.queue) d.heap s →
         IsFreshCounting (natives_of_slots (native_at d.heap k) ++ d.queue) (without_native d k).heap s }
+    ensures brought_back { (owned : List ℕ) (h : Heap) (s : Snapshot) (d : ℕ) (x : Option Name) → IsSound owned h → d < length h.native_registers →
+        IsNativeThere h x → IsFreshIn h s → IsFreshIn (hold_native h d x).heap s }
 {}
 
 /// What waits asks less of a snapshot, and who stands in the buffer need not wait; where nothing waits, it is fresh as it
@@ -88,6 +94,9 @@ pub fn waiting_asks_less()
 /// reflector, or is touched, or loses its mark; a register, a slot, a flag or an entry is written, whatever it then holds;
 /// registers come, empty; something is exposed; a reference is given up; the front of the queue leaves. A slot may be
 /// written while others wait, as where what one slot held goes into another.
+///
+/// One more kind is a native that is brought back, whether something reaches it or not: it gets a reference that a register holds
+/// from then on, in one change, and what the register held is given up. A weak register that is written changes nothing here.
 pub fn kinds_of_change_keep_suspected()
     ensures native_made { (owned : List ℕ) (h : Heap) (candidates : List ℕ) (d n : ℕ) → IsSound owned h → d < length h.native_registers → n ≤ most_slots →
         h.natives_made < h.limits.natives → IsSuspectedIn h candidates → IsSuspectedIn (make_native h d n).heap candidates }
@@ -128,6 +137,8 @@ pub fn kinds_of_change_keep_suspected()
     ensures full_front_leaves { (d : Draining) (candidates : List ℕ) (k : ℕ) → IsWellFormed d.heap →
         IsSuspectedCounting (k ∷ d.queue) d.heap candidates →
         IsSuspectedCounting (natives_of_slots (native_at d.heap k) ++ d.queue) (without_native d k).heap candidates }
+    ensures brought_back { (owned : List ℕ) (h : Heap) (candidates : List ℕ) (d : ℕ) (x : Option Name) → IsSound owned h → d < length h.native_registers →
+        IsNativeThere h x → IsSuspectedIn h candidates → IsSuspectedIn (hold_native h d x).heap candidates }
 {}
 
 /// What waits counts as purple, and who is reached need not wait; where nothing waits, natives are suspected as they were.

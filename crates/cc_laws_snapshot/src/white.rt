@@ -13,15 +13,18 @@ ghost use Rattle.cc_model.specs.StandsFor.{StandsFor};
 ghost use Rattle.cc_model.specs.Snapshot.{Snapshot, BlackIn, black_in, IsWhite, white_natives};
 ghost use Rattle.cc_model.specs.Fresh.{IsNode, IsFresh, IsTraversed};
 ghost use Rattle.cc_laws_heap.specs.Sound.{IsSound};
+ghost use Rattle.cc_laws_heap.specs.Apart.{AreApart};
 ghost use Rattle.cc_laws_snapshot.specs.Black.{IsBlackByRules};
 
 /// White is unreached: where a snapshot is fresh and no node is left to traverse, no native that is white in it
-/// is reached from a register, over the heaps as they are now; nor in the graph that the heaps stand for.
+/// is reached from a register, over the heaps as they are now; nor in the graph that the heaps stand for. White is apart, too:
+/// the other natives of the heaps do not lead there either, whether something reaches them or not.
 pub fn white_is_unreached()
     ensures white { (h : Heap) (s : Snapshot) (k : ℕ) → IsSound [] h → IsFresh h.natives_made (view h) s → IsTraversed s →
         IsWhite (view h) s (native k) → ¬ (ReachedIn (view h) (native k)) }
     ensures taken_away { (h : Heap) (s : Snapshot) (k : ℕ) → IsSound [] h → IsFresh h.natives_made (view h) s → IsTraversed s →
         Among k (white_natives h s) → ¬ (ReachedIn (view h) (native k)) }
+    ensures apart { (h : Heap) (s : Snapshot) → IsSound [] h → IsFresh h.natives_made (view h) s → IsTraversed s → AreApart h (white_natives h s) }
     ensures in_graph { (h : Heap) (g : Graph) (s : Snapshot) (k : ℕ) → IsSound [] h → IsWellMade g → StandsFor h g →
         IsFresh h.natives_made (view h) s → IsTraversed s → Among k (white_natives h s) → ¬ (Reached g (native k)) }
 {}

@@ -1,6 +1,6 @@
 -- WHAT IS STILL GIVEN: what the registers, and the natives of the heaps that were not unlinked, lead to. A weak reference can bring such a
 -- native back, with all that it leads to; what was unlinked is never given again.
-use Rattle.std.specs.Prelude.{◌≡◌, Bool, false, not, List, ◌++◌, map, filter, Option, None, Some}
+use Rattle.std.specs.Prelude.{◌≡◌, Bool, false, not, IsTrue, List, ◌++◌, map, filter, Option, None, Some, IfSome}
 use Rattle.std.specs.List.{list_any}
 use Rattle.cc_lists.specs.Members.{Among}
 use Rattle.cc_names.specs.declared.name.Name.{Name}
@@ -39,3 +39,7 @@ is_usable_native (Some n) = is_living n
 
 abbrev pub is_usable : Heap → Name → Bool
 is_usable h x = list_any (λ k. is_usable_native (native_at h k)) (natives_in x)
+
+-- what a weak register may bring back: such a native, or nothing
+abbrev pub MayComeBack : Heap → Option Name → Type 0
+MayComeBack h x = IfSome x (λ y. IsTrue (is_usable h y))

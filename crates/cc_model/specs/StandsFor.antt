@@ -1,5 +1,5 @@
 -- WHEN THE HEAPS STAND FOR THE GRAPH.
-use Rattle.std.specs.Prelude.{◌≡◌, ℕ, Bool, false, ◌⊎◌, List, [], ◌∷◌, length, Option, Some, None, option_map, option_and_then}
+use Rattle.std.specs.Prelude.{◌≡◌, ℕ, Bool, true, false, ◌⊎◌, List, [], ◌∷◌, length, Option, Some, None, option_map, option_and_then}
 use Rattle.cc_lists.specs.Members.{Among}
 use Rattle.cc_names.specs.declared.name.Name.{Name}
 use Rattle.cc_names.specs.declared.name.Name.TheVariants as name
@@ -10,8 +10,8 @@ use Rattle.cc_model.specs.Slots.{Slots, empty_slots, reflector_slots}
 use Rattle.cc_model.specs.Entries.{Entry, value_in}
 use Rattle.cc_model.specs.Graph as graph
 use Rattle.cc_model.specs.Graph.{Graph, GraphNative, GraphScript, plain_object, weak_map, proxy, native_in, script_in, delegate_of_script}
-use Rattle.cc_model.specs.Reached.{Reached}
 use Rattle.cc_model.specs.Heap.{Heap, HeapNative, HeapScript, native_at, script_at, slots_of_script}
+use Rattle.cc_model.specs.Given.{Given}
 
 -- the kind of a script object of the graph
 abbrev pub kind_of : GraphScript → Kind
@@ -77,6 +77,7 @@ ArePart (x ∷ xs) (y ∷ ys) = ((x ≡ y) × ArePart xs ys) ⊎ ArePart (x ∷ 
 
 -- a native that was unlinked: empty slots and no preservation
 pub record IsEmptied (n : HeapNative) : Type 0 where
+  pub unlinked : n.unlinked ≡ true
   pub slots : n.slots ≡ empty_slots (length n.slots)
   pub preserved : n.preserved ≡ false
 
@@ -114,14 +115,14 @@ pub record StandsFor (h : Heap) (g : Graph) : Type 0 where
   -- each object of the heaps is in the graph, and but for unlinked natives as it is there
   pub natives : (n : HeapNative) → Among n h.natives → NativeStands g n
   pub scripts : (o : HeapScript) → Among o h.scripts → ScriptStands g o
-  -- each reached name is in the heaps, as it is in the graph
-  pub reached : (x : Name) → Reached g x → IsKept h g x
-  -- for a reached map and a reached key both have the same entry or none
-  pub values : (m k : Name) → Reached g m → Reached g k → value_in h.entries m k ≡ value_in g.entries m k
+  -- each name that registers and natives that were not unlinked lead to is in the heaps, as it is in the graph
+  pub given : (x : Name) → Given h g x → IsKept h g x
+  -- for such a map and such a key both have the same entry or none
+  pub values : (m k : Name) → Given h g m → Given h g k → value_in h.entries m k ≡ value_in g.entries m k
+  -- what was unlinked is never given again
+  pub spent : (n : HeapNative) → Among n h.natives → n.unlinked ≡ true → ¬ (Given h g (native n.number))
   -- the entries of the heaps are some of the graph's, in the same order
   pub entries : ArePart h.entries g.entries
-  -- a reflector that is not preserved is blank: in the graph, and in the heaps that of a reached native
+  -- a reflector that is not preserved is blank in the graph, and so it is in the heaps, where it is there
   pub blank : (k : ℕ) (n : GraphNative) (slots : Slots) → native_in g k ≡ Some n → n.preserved ≡ false →
       n.reflector ≡ Some slots → (slots ≡ empty_slots reflector_slots) × IsNoKey g (reflector k) × IsNoDelegate g (reflector k)
-  pub blank_there : (n : HeapNative) (o : HeapScript) → Among n h.natives → n.preserved ≡ false → Reached g (native n.number) →
-      Among o h.scripts → o.name ≡ reflector n.number → o.slots ≡ empty_slots reflector_slots

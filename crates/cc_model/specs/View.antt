@@ -73,6 +73,10 @@ view_rules v = system v.registers v.edges (rules_of v.joints)
 abbrev pub ReachedIn : View → Name → Type 0
 ReachedIn v = Least (view_rules v)
 
+-- what some names lead to there, as if registers held them
+abbrev pub LedFrom : View → List Name → Name → Type 0
+LedFrom v xs = Least (system xs v.edges (rules_of v.joints))
+
 abbrev pub reached_in : View → List Name
 reached_in v = closure same_name (view_rules v)
 

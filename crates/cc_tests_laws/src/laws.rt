@@ -1,10 +1,10 @@
 //! A call of each law.
 use cc_laws_headline::lawful_transcripts_tell_of_a_graph;
 use cc_laws_heap::{
-    banks_may_be_longer, cascade_keeps_counts, commands_keep_colours, commands_keep_counts,
-    commands_stand, ends_keep_counts, ends_stand, graphs_are_well_made, marking_is_least,
-    paths_agree, paths_are_right, reached_alike, replies_agree, rounds_keep_counts, rounds_stand,
-    sweeps_stand, unlinking_keeps_counts,
+    banks_may_be_longer, brought_back_stands, cascade_keeps_counts, commands_keep_colours,
+    commands_keep_counts, commands_stand, ends_keep_counts, ends_stand, graphs_are_well_made,
+    marking_is_least, paths_agree, paths_are_right, reached_alike, replies_agree,
+    rounds_keep_counts, rounds_stand, sweeps_stand, unlinking_keeps_counts,
 };
 use cc_laws_run::{
     asks_keep_suspected, collections_after_gc_miss_nothing, collections_are_lawful,
@@ -76,6 +76,7 @@ fn laws_of_the_heap_can_be_called() {
     graphs_are_well_made();
     reached_alike();
     commands_stand();
+    brought_back_stands();
     paths_are_right();
     paths_agree();
     raised_is_least();

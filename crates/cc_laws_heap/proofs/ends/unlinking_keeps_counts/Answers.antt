@@ -1,5 +1,5 @@
 use Rattle.cc_laws_heap.proofs.Unlinking.{unlink-keeps, unlink-left}
-use Rattle.cc_laws_heap.proofs.StandingOn.{unlink-stands}
+use Rattle.cc_laws_heap.proofs.Apart.{unlink-stands}
 use Rattle.cc_laws_heap.proofs.ends.unlinking_keeps_counts.Goals as goal
 
 pub returns-clause-sound : goal.returns-clause-sound

@@ -1,3 +1,4 @@
+use Rattle.cc_laws_snapshot.proofs.BroughtBack.{brought_back-fresh}
 use Rattle.cc_laws_snapshot.proofs.Lengthened.{lengthen-fresh}
 use Rattle.cc_laws_snapshot.proofs.KindsMade.{native_made-fresh, object_made-fresh, reflector_made-fresh, exposed-fresh, wrapped-fresh}
 use Rattle.cc_laws_snapshot.proofs.KindsWritten.{reference_added-fresh, touched-fresh, register_written-fresh, slot_written-fresh, slot_written_waiting-fresh, script_slot_written-fresh, flag_written-fresh, entry_written-fresh}
@@ -58,3 +59,6 @@ returns-clause-mark_taken c = unmarked-fresh
 
 pub returns-clause-slot_written_waiting : goal.returns-clause-slot_written_waiting
 returns-clause-slot_written_waiting c = slot_written_waiting-fresh
+
+pub returns-clause-brought_back : goal.returns-clause-brought_back
+returns-clause-brought_back c = brought_back-fresh

@@ -1,3 +1,4 @@
+use Rattle.cc_laws_snapshot.proofs.BroughtBack.{brought_back-suspected}
 use Rattle.cc_laws_snapshot.proofs.Lengthened.{lengthen-suspected}
 use Rattle.cc_laws_snapshot.proofs.KindsHeld.{native_made-suspected, object_made-suspected, reflector_made-suspected, wrapped-suspected, reference_added-suspected, touched-suspected, script_slot_written-suspected, flag_written-suspected, entry_written-suspected, exposed-suspected}
 use Rattle.cc_laws_snapshot.proofs.KindsWaiting.{register_written-suspected, slot_written-suspected, slot_written_waiting-suspected, given_up-suspected, front_leaves-suspected, full_front_leaves-suspected}
@@ -57,3 +58,6 @@ returns-clause-mark_taken c = λ h candidates k w. unmarked-suspected h k candid
 
 pub returns-clause-slot_written_waiting : goal.returns-clause-slot_written_waiting
 returns-clause-slot_written_waiting c = slot_written_waiting-suspected
+
+pub returns-clause-brought_back : goal.returns-clause-brought_back
+returns-clause-brought_back c = brought_back-suspected
