@@ -1,5 +1,5 @@
 -- FEWER NAMES ARE DOOMED where some of them may be back: the others are still only held by such names.
-use Rattle.std.proofs.Common.{◌≡◌, ℕ, Bool, true, false, not, List, filter, Some, refl, sym, ◌∙◌, ap, subst, inl, inr, ◌⊎◌, ⊎_elim}
+use Rattle.std.proofs.Common.{◌≡◌, ℕ, not, List, filter, refl, sym, ◌∙◌, ap, inl, inr, ◌⊎◌, ⊎_elim}
 use Rattle.std.proofs.lemmas.Bool.{cases_Bool, false≢true}
 use Rattle.cc_lists.specs.Members.{Among}
 use Rattle.cc_lists.proofs.Members.{Among-filter, Among-filtered, Among-passes}
@@ -14,7 +14,7 @@ use Rattle.cc_model.specs.Heap.{Heap}
 use Rattle.cc_model.specs.View.{View, view}
 use Rattle.cc_model.specs.WellFormed.{IsWellFormed}
 use Rattle.cc_model.specs.Snapshot.{Snapshot}
-use Rattle.cc_laws_run.specs.Doomed.{IsDoomed, IsMappingOf, KeepsReflectors}
+use Rattle.cc_laws_run.specs.Doomed.{IsDoomed, KeepsReflectors}
 use Rattle.cc_laws_run.specs.Returning.{MayBeBack, AreBeside}
 use Rattle.cc_laws_run.proofs.GivenNames.{may_be_back, test-back, back-test}
 use Rattle.cc_laws_run.proofs.GivenHeaps.{edge-back, joint-back}

@@ -14,17 +14,16 @@ use Rattle.cc_names.specs.Sizes.{bank_length}
 use Rattle.cc_model.specs.declared.command.Command.{Command}
 use Rattle.cc_model.specs.declared.command.Command.TheVariants.{Deref, Gc}
 use Rattle.cc_model.specs.declared.item.Event.{Event}
-use Rattle.cc_model.specs.declared.item.Event.TheVariants.{Unlinked}
 use Rattle.cc_model.specs.Mutating.{Class, so_many, whole, says, does, forgets, reads_weak, runs, collects_scripts, class_of}
 use Rattle.cc_model.specs.Answers.{Answer}
 use Rattle.cc_model.specs.Asks.{Ask, taken}
 use Rattle.cc_model.specs.Ranges.{in_range, is_register, is_weak_register}
 use Rattle.cc_model.specs.Slots.{Slots, contents}
-use Rattle.cc_model.specs.Entries.{Entry, Joint, joints}
+use Rattle.cc_model.specs.Entries.{Joint, joints}
 use Rattle.cc_model.specs.Graph.{Graph}
 use Rattle.cc_model.specs.Reached.{Reached, reached_names}
 use Rattle.cc_model.proofs.Reaching.{reached-decided, root-reached}
-use Rattle.cc_model.specs.Given.{GivenFrom, given}
+use Rattle.cc_model.specs.Given.{given}
 use Rattle.cc_model.specs.Heap.{Heap, register, set_register}
 use Rattle.cc_model.specs.Cascade.{take_up, let_go}
 use Rattle.cc_model.specs.Effects.{hold_native}
@@ -35,7 +34,7 @@ use Rattle.cc_model.specs.Snapshot.{Snapshot}
 use Rattle.cc_model.specs.Units.{first_untraversed}
 use Rattle.cc_model.specs.End.{Progress, went_on, at_end, refused, granted, node_or_end, unit}
 use Rattle.cc_model.specs.Lawful.{State, next}
-use Rattle.cc_model.specs.Collecting.{Machine, UnitsDone, no_units, next_answer, units_done, to_the_end, finish_running, slice, gc}
+use Rattle.cc_model.specs.Collecting.{Machine, UnitsDone, no_units, next_answer, units_done, slice, gc}
 use Rattle.cc_model.specs.Run.{Turn, mutate, do_ask, turns, machine_after, do_class, noted, read_weak}
 use Rattle.cc_model.proofs.UnitsEnd.{to_the_end-stops}
 use Rattle.cc_names.proofs.NameTests.{same_name-exact}
@@ -46,7 +45,7 @@ use Rattle.cc_laws_heap.proofs.HoldsTheSame.{HoldsTheSame-take_up}
 use Rattle.cc_laws_heap.proofs.CascadeTakesOut.{TakesOut-let_go}
 use Rattle.cc_laws_run.specs.Running.{IsRunning, ask_in_range, state_after}
 use Rattle.cc_laws_run.specs.Doomed.{IsDoomed, IsDoomedNow, KeepsReflectors}
-use Rattle.cc_laws_run.specs.Returning.{MayBeBack, AreBeside, met_over, brings_back, brings_none_back}
+use Rattle.cc_laws_run.specs.Returning.{MayBeBack, AreBeside, met_over, brings_back}
 use Rattle.cc_laws_run.specs.Followed.{first_units, then_later, first_collection, first_units_of}
 use Rattle.cc_laws_run.specs.Missing.{CannotMissNow, AreLeftOf, MissesNone, graph_then, met_then, begins_one, has_units, lost}
 use Rattle.cc_laws_run.specs.Spent.{IsSpent}

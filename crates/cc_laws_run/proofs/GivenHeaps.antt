@@ -1,27 +1,25 @@
 -- WHAT MAY BE BACK LEADS IN THE HEAPS TO WHAT MAY BE BACK: what an object of the heaps holds it holds in the graph, and entries of the heaps are
 -- entries of the graph.
 use Rattle.std.specs.Prelude.{IsTrue}
-use Rattle.std.proofs.Common.{arith, length, ◌≡◌, ℕ, Bool, true, false, List, [], ◌∷◌, Option, Some, None, option_map, refl, sym, ◌∙◌, ap, subst, inl, inr, ◌⊎◌, ⊎_elim}
+use Rattle.std.proofs.Common.{length, ◌≡◌, ℕ, Bool, true, false, List, [], ◌∷◌, Some, None, option_map, refl, sym, ◌∙◌, ap, subst, inl, inr, ◌⊎◌, ⊎_elim}
 use Rattle.cc_lists.specs.Members.{Among}
-use Rattle.cc_lists.proofs.Members.{Among-append, Among-left, Among-right}
+use Rattle.cc_lists.proofs.Members.{Among-append, Among-right}
 use Rattle.cc_names.specs.declared.name.Name.{Name}
-use Rattle.cc_names.specs.declared.name.Name.TheVariants as name
 use Rattle.cc_names.specs.Names.{native, reflector, object}
 use Rattle.cc_model.specs.Slots.{Slots, contents, reflector_slots}
 use Rattle.cc_model.specs.Entries.{Entry, Joint, joints}
 use Rattle.cc_model.proofs.Joints.{Gives, its_value, its_key, joint-cases}
-use Rattle.cc_model.specs.Checks.{slots_or_none}
 use Rattle.cc_model.specs.Graph.{Graph, GraphNative, native_in}
 use Rattle.cc_model.specs.Reached.{edges_of}
 use Rattle.cc_model.specs.Given.{GivenFrom, given_edge}
 use Rattle.cc_model.specs.WellMade.{IsWellMade, is_made_script}
 use Rattle.cc_model.specs.WellFormed.{IsWellFormed}
-use Rattle.cc_model.specs.Heap.{Heap, HeapNative, HeapScript}
-use Rattle.cc_model.specs.View.{view, native_edges, script_edges}
-use Rattle.cc_model.specs.StandsFor.{Shape, shape_in, shape_at, shape_of_native, shape_of_held_native, shape_of_held_script, script_shape, IsEmptied, IsNoKey, IsNoDelegate, StandsFor}
+use Rattle.cc_model.specs.Heap.{Heap, HeapNative}
+use Rattle.cc_model.specs.View.{view}
+use Rattle.cc_model.specs.StandsFor.{Shape, shape_in, shape_at, shape_of_native, shape_of_held_native, script_shape, IsEmptied, IsNoKey, IsNoDelegate, StandsFor}
 use Rattle.cc_laws_heap.proofs.Shapes.{edges_of_shape, further_of}
 use Rattle.cc_laws_heap.proofs.HeapShapes.{shape_at-found, edge-held}
-use Rattle.cc_laws_heap.proofs.Following.{shape_in-native, shape_in-reflector}
+use Rattle.cc_laws_heap.proofs.Following.{shape_in-reflector}
 use Rattle.cc_laws_heap.proofs.ReachedAlike.{ArePart-among, edges_of-made}
 use Rattle.cc_laws_heap.proofs.Making.{contents-empty_none}
 use Rattle.cc_laws_heap.proofs.GraphParts.{is_some-found, reflector-made}

@@ -20,8 +20,7 @@ use Rattle.cc_model.specs.Heap.{Heap, HeapNative, HeapScript}
 use Rattle.cc_model.specs.View.{view, script_slot_edges, ReachedIn}
 use Rattle.cc_model.specs.WellFormed.{FitsName, native_names, script_names, names_there, is_proxy_kind}
 use Rattle.cc_model.specs.StandsFor.{Shape, shape_of_native, shape_of_held_native, kind_in, reflector_kind, IsNoKey, IsKept, StandsFor, IsNoDelegate}
-use Rattle.cc_model.specs.Snapshot.{Mapping}
-use Rattle.cc_model.specs.Units.{if_gray, mappings_of, begun, with_empty_buffer}
+use Rattle.cc_model.specs.Units.{begun, with_empty_buffer}
 use Rattle.cc_model.specs.Suspected.{is_unreached}
 use Rattle.cc_model.proofs.Joints.{Gives, its_key, joint-cases, its_value}
 use Rattle.cc_model.specs.Places.{script_places_of}
