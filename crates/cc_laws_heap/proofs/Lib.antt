@@ -39,6 +39,12 @@ pub mod MayBeDone
 pub mod CommandsSound
 pub mod NativesKeepScripts
 pub mod CommandsColours
+pub mod Raising
+pub mod ScansLeft
+pub mod HoldsBut
+pub mod MarkingBegun
+pub mod NativesHold
+pub mod CommandsMarking
 pub mod Leaving
 pub mod Staying
 pub mod Emptying
@@ -76,6 +82,8 @@ pub mod ReachedMarked
 pub mod RoundParts
 pub mod SweepColours
 pub mod RoundsStand
+pub mod MarkingEnded
+pub mod MarkingSpares
 pub mod RepliesAlike
 pub mod Numbered
 pub mod GraphWrites

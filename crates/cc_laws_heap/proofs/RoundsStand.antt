@@ -46,7 +46,7 @@ pub spared-from : (dead : List Name) (e : Entry) → ¬ (Among e.the_map dead) �
 spared-from dead e a b = grind (arith, is_not_among-from)
 
 -- what is told as freed is gone
-freed-left : (h : Heap) (o : Outcome) (xs : List Name) → FreesNames h xs o → (x : Name) → Among (Freed x) o.events → ¬ (Among x (names_there o.heap))
+pub freed-left : (h : Heap) (o : Outcome) (xs : List Name) → FreesNames h xs o → (x : Name) → Among (Freed x) o.events → ¬ (Among x (names_there o.heap))
 freed-left h o xs f x i there =
     let k = Among-map_cases Freed xs (Freed x) (subst (Among (Freed x)) f.told i) in
     let same : k.0 ≡ x = cc in

@@ -3,6 +3,7 @@ pub mod Balance
 pub mod Freeing
 pub mod Apart
 pub mod Marks
+pub mod UnderMarking
 pub mod Rounds
 pub mod Ending
 pub mod Stages

@@ -2,7 +2,7 @@
 //!
 //! Each function has an empty body and is a law that its clauses state, over the definitions of `cc_model` and a few
 //! words of this crate's own. Of `specs` a reader of the laws needs `Sound` (heaps whose counts are those of the
-//! references), `Marks` (closed marks, which a sweep asks for), `Apart` (natives to which nothing else leads, which an end
+//! references), `Marks` (closed marks, which a sweep asks for), `UnderMarking` (a marking in slices that goes on), `Apart` (natives to which nothing else leads, which an end
 //! asks for), `Freeing`, `Rounds` and `Ending` (what a cascade, a script collection and the end of a collection tell and
 //! take out). `Balance` says what holds between two steps of a cascade; the crates with code need it.
 //!
@@ -13,6 +13,7 @@ mod banks;
 mod commands;
 mod counts;
 mod ends;
+mod markings;
 mod paths;
 mod rounds;
 mod stands;
@@ -21,6 +22,9 @@ pub use banks::banks_may_be_longer;
 pub use commands::{commands_keep_colours, commands_keep_counts};
 pub use counts::cascade_keeps_counts;
 pub use ends::{ends_keep_counts, ends_stand, unlinking_keeps_counts};
+pub use markings::{
+    commands_keep_marking, markings_end_well, markings_spare_what_is_held, scans_keep_marking,
+};
 pub use paths::{paths_agree, paths_are_right};
 pub use rounds::{marking_is_least, rounds_keep_counts, rounds_stand, sweeps_stand};
 pub use stands::{

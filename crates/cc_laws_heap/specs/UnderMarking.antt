@@ -1,0 +1,25 @@
+-- A MARKING THAT GOES ON: what its new marks keep to from one step to the next, whatever commands come between.
+use Rattle.std.specs.Prelude.{ℕ, ◌+◌, length}
+use Rattle.cc_lists.specs.Members.{Among}
+use Rattle.cc_names.specs.declared.name.Name.{Name}
+use Rattle.cc_model.specs.Slots.{contents}
+use Rattle.cc_model.specs.Heap.{Heap}
+use Rattle.cc_model.specs.WellFormed.{script_names}
+use Rattle.cc_model.specs.Colours.{scripts_held}
+use Rattle.cc_model.specs.Marking.{NewMarks}
+
+-- what is not marked is not black either
+abbrev pub IsWithin : NewMarks → Type 0
+IsWithin m = (x : Name) → Among x m.unmarked → Among x m.unblack
+
+-- THE HEAPS ARE UNDER MARKING: what script registers hold is black by the new marks, and what natives hold is marked by them; what is
+-- not black by the new marks is there
+pub record IsUnderMarking (h : Heap) (m : NewMarks) : Type 0 where
+  pub registers : (x : Name) → Among x (contents h.script_registers) → ¬ (Among x m.unblack)
+  pub held : (x : Name) → Among x (scripts_held h) → ¬ (Among x m.unmarked)
+  pub within : IsWithin m
+  pub there : (x : Name) → Among x m.unblack → Among x (script_names h)
+
+-- HOW MANY SCANS ARE LEFT at most: an object goes on a list where it gets a higher mark, so at most twice
+abbrev pub scans_left : NewMarks → ℕ
+scans_left m = length m.black_list + length m.gray_list + (length m.unblack + length m.unmarked)
