@@ -4,7 +4,7 @@ use Rattle.std.specs.Prelude.{IsTrue}
 use Rattle.std.proofs.lemmas.Bool.{false≢true}
 use Rattle.cc_lists.specs.Members.{Among}
 use Rattle.cc_lists.proofs.Members.{Among-map, Among-map_cases, Among-left, Among-flat_map}
-use Rattle.cc_lists.proofs.ListWrites.{Among-flat_map_set}
+use Rattle.cc_lists.proofs.ListWrites.{Among-flat_map_set, changed_where, changed_where-either, flat_map-kept}
 use Rattle.cc_names.specs.declared.name.Name.{Name}
 use Rattle.cc_names.specs.declared.name.Name.TheVariants as name
 use Rattle.cc_names.specs.declared.register.Reg.{Reg}
@@ -18,7 +18,9 @@ use Rattle.cc_model.specs.Ranges.{in_range}
 use Rattle.cc_model.specs.Checks.{slots_at, slot_at, reflector_of}
 use Rattle.cc_model.specs.Heap.{Heap, HeapNative, HeapScript, Outcome, set_register, source, objects_of, preserve, has_reflector, new_script}
 use Rattle.cc_model.specs.Cascade.{take_up}
-use Rattle.cc_model.specs.Exposure.{exposed}
+use Rattle.std.specs.List.{flat_map}
+use Rattle.cc_model.specs.View.{script_slot_edges}
+use Rattle.cc_model.specs.Exposure.{slots_of_scripts, exposed, exposed_names, as_black}
 use Rattle.cc_model.specs.Effects.{done_in, effects, touched, taken_out, hold_native, put_in_slot, store_native, move_slot, make_native, make_object, with_script, with_reflector, wrapped, put_in_script, set_entry, make_proxy}
 use Rattle.cc_model.specs.WellFormed.{IsWellFormed, script_names}
 use Rattle.cc_model.specs.Colours.{scripts_held, scripts_held_by}
@@ -29,7 +31,7 @@ use Rattle.cc_laws_heap.proofs.Natives.{native_at-there}
 use Rattle.cc_laws_heap.proofs.Kept.{script_names-kept}
 use Rattle.cc_laws_heap.proofs.Writes.{contents-at}
 use Rattle.cc_laws_heap.proofs.Owning.{IsIn, take_up-sound}
-use Rattle.cc_laws_heap.proofs.ScriptsKept.{native-no_script, ChangesScripts-slot, script_names-exposed}
+use Rattle.cc_laws_heap.proofs.ScriptsKept.{is_one_of, native-no_script, ChangesScripts-slot, script_names-exposed}
 use Rattle.cc_laws_heap.proofs.Holding.{has_reflector-none}
 use Rattle.cc_laws_heap.proofs.Taken.{IsTaken}
 use Rattle.cc_laws_heap.proofs.Resting.{Readings, RestsOn, AreRead, rests_on}
@@ -67,7 +69,7 @@ source-held h (Some (S d)) w = λ y s i. contents-at h.script_registers d y i
 source-held h (Some (W d)) w = λ y s i. absurd i
 
 -- what commands read is known
-holdings-read : (h : Heap) → IsWellFormed h → AreRead (holdings h) (objects_of h)
+pub holdings-read : (h : Heap) → IsWellFormed h → AreRead (holdings h) (objects_of h)
 holdings-read h w = record {
   no_native = tt;
   no_script = λ y i. absurd i;
@@ -168,6 +170,13 @@ exposed-natives : (h : Heap) (x : Option Name) → (exposed h x).natives ≡ h.n
 unfolding exposed
 exposed-natives h None = refl
 exposed-natives h (Some x) = refl
+
+-- an exposure changes colours alone, so it leaves the edges over script slots
+pub exposed-edges : (h : Heap) (x : Option Name) → slots_of_scripts (exposed h x) ≡ slots_of_scripts h
+unfolding exposed
+exposed-edges h None = refl
+exposed-edges h (Some x) = flat_map-kept script_slot_edges (changed_where (is_one_of (exposed_names h x)) as_black) h.scripts
+    (λ o. changed_where-either (λ p. script_slot_edges p ≡ script_slot_edges o) (is_one_of (exposed_names h x)) as_black o (λ e. refl) refl)
 
 -- what is exposed comes into a script register
 hold_script-holds : (h : Heap) (d : ℕ) (x : Option Name) → IsWellFormed h → HoldsBut h (set_register (exposed h x) (S d) x) x
@@ -278,6 +287,24 @@ move_slot-holds h d i s j e w to from = subst (λ (o : Outcome). HoldsBut h o.he
       there = λ y m. subst (λ (os : List HeapScript). Among y (map (λ (o : HeapScript). o.name) os)) (sym same.scripts)
           (subst (Among y) (sym (touched-names h x w)) m);
     }
+
+-- what is touched leaves the edges over script slots
+touched-edges : (h : Heap) (x : Option Name) → slots_of_scripts (touched h x) ≡ slots_of_scripts h
+touched-edges h None = refl
+touched-edges h (Some (name.Native k)) = refl
+touched-edges h (Some (name.Script k)) = exposed-edges h (Some (object k.0))
+touched-edges h (Some (name.Reflector k)) = exposed-edges h (Some (reflector k.0))
+
+-- a move leaves them
+pub move_slot-edges : (h : Heap) (d i s j : ℕ) → IsWellFormed h → i < length (slots_at (objects_of h) (N d)) → j < length (slots_at (objects_of h) (N s)) →
+    slots_of_scripts (move_slot h d i s j).heap ≡ slots_of_scripts h
+move_slot-edges h d i s j w to from =
+    let f = HasSlot-from h s j w from in
+    let x : Option Name = slice_index_or f.there.slots j None in
+    let left : Heap = taken_out h (Some (native f.number)) j x in
+    let same = put_in_slot-scripts left d i x (HasSlot-taken_out h f.number j x d i (HasSlot-from h d i w to)) in
+    subst (λ (o : Outcome). slots_of_scripts o.heap ≡ slots_of_scripts h) (sym (move_slot-is h d i s j f))
+    (ap (λ os. flat_map script_slot_edges os) same.scripts ∙ touched-edges h x)
 
 -- A SLOT OF A NATIVE TAKES what is no script object, or one that a script register holds
 store_native-held : {owned : List ℕ} (h : Heap) (d i : ℕ) (x : Option Name) → IsSound owned h → MayBeDone h (native_stored d i x) → IsHeldHere h x →

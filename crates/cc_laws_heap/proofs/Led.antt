@@ -43,7 +43,7 @@ pub place-edge : (h : Heap) (o : HeapScript) (x : Name) → Among o h.scripts �
 place-edge h o x m i = Among-flat_map script_slot_edges o (from_to o.name x) h.scripts m (Among-map (from_to o.name) x (contents (script_places_of o)) i)
 
 -- an edge leads from a script object
-edge-source : (h : Heap) (x y : Name) → Among (x, y) (slots_of_scripts h) → Among x (script_names h)
+pub edge-source : (h : Heap) (x y : Name) → Among (x, y) (slots_of_scripts h) → Among x (script_names h)
 edge-source h x y e =
     let f = Among-flat_map_cases script_slot_edges h.scripts (x, y) e in
     let g = Among-map_cases (from_to f.0.name) (contents (script_places_of f.0)) (x, y) f.2 in

@@ -41,10 +41,12 @@ pub mod NativesKeepScripts
 pub mod CommandsColours
 pub mod Raising
 pub mod ScansLeft
+pub mod ScanningOn
 pub mod HoldsBut
 pub mod MarkingBegun
 pub mod NativesHold
 pub mod CommandsMarking
+pub mod EdgesBut
 pub mod Leaving
 pub mod Staying
 pub mod Emptying

@@ -1,7 +1,7 @@
 -- THE END OF A MARKING: where the heaps are under marking, the colours that it gives are closed, so what a sweep needs of them holds.
 use Rattle.std.proofs.Common.{◌≡◌, ℕ, true, List, [], ◌++◌, sym, ◌∙◌, ap, refl}
 use Rattle.cc_lists.specs.Members.{Among, has}
-use Rattle.cc_lists.proofs.Members.{Among-left, Among-right, Among-flat_map_cases, has-among}
+use Rattle.cc_lists.proofs.Members.{Among-left, Among-right, has-among}
 use Rattle.cc_lists.specs.Least.{system, closure}
 use Rattle.cc_lists.proofs.Least.{derive-root}
 use Rattle.cc_lists.proofs.Closure.{derived-closure}
@@ -18,7 +18,7 @@ use Rattle.cc_model.specs.WellMade.{IsWellMade}
 use Rattle.cc_model.specs.Heap.{Heap, HeapScript}
 use Rattle.cc_model.specs.View.{view, script_slot_edges}
 use Rattle.cc_model.specs.Exposure.{slots_of_scripts}
-use Rattle.cc_model.specs.Colours.{HasColourInvariant, scripts_held, scripts_held_by, colour_by, coloured_by}
+use Rattle.cc_model.specs.Colours.{HasColourInvariant, scripts_held, colour_by, coloured_by}
 use Rattle.cc_model.specs.Sweep.{sweep}
 use Rattle.cc_model.specs.WellFormed.{IsWellFormed, script_names}
 use Rattle.cc_model.specs.Marking.{NewMarks, without_all, blacks_by_mark, marks_by_mark, ended_marks}
@@ -28,17 +28,13 @@ use Rattle.cc_laws_heap.specs.Marks.{AreMarksClosed, IsBlackClosed}
 use Rattle.cc_laws_heap.specs.Rounds.{FreesNames}
 use Rattle.cc_laws_heap.specs.UnderMarking.{IsUnderMarking}
 use Rattle.cc_laws_heap.proofs.Raising.{without_all-in}
-use Rattle.cc_laws_heap.proofs.NativesHold.{held_by-there}
+use Rattle.cc_laws_heap.proofs.NativesHold.{held-there}
 use Rattle.cc_laws_heap.proofs.Led.{IsLed, led_names, AreColoursBy, AreMarksClosed-led, IsBlackClosed-led}
 use Rattle.cc_laws_heap.proofs.MarkingKeeps.{as_coloured, script_names-coloured, IsSound-coloured}
 use Rattle.cc_laws_heap.proofs.FreedNames.{FreesNames-alike}
 use Rattle.cc_laws_heap.proofs.Swept.{taken-sweep, sweep-frees, sweep-sound}
 use Rattle.cc_laws_heap.proofs.SweepColours.{sweep-invariant}
 use Rattle.cc_laws_heap.proofs.RoundsStand.{coloured-stands, sweep-stands, sweep-unreached}
-
--- what natives hold of script objects is there
-held-there : (h : Heap) → IsWellFormed h → (x : Name) → Among x (scripts_held h) → Among x (script_names h)
-held-there h w x m = let f = Among-flat_map_cases scripts_held_by h.natives x m in held_by-there h w f.0 x f.1 f.2
 
 module _ (h : Heap) (m : NewMarks) where
   -- the heaps with the colours that the end of a marking gives

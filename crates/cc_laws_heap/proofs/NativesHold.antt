@@ -189,3 +189,7 @@ held_by-there h w n x i m =
         Among x (script_names h)
     by_flag true f r = ⊎_elim (λ e. subst (λ z. Among z (script_names h)) e (f refl)) (λ t. absurd t) r
     by_flag false f r = absurd r
+
+-- what natives hold of script objects is there
+pub held-there : (h : Heap) → IsWellFormed h → (x : Name) → Among x (scripts_held h) → Among x (script_names h)
+held-there h w x m = let f = Among-flat_map_cases scripts_held_by h.natives x m in held_by-there h w f.0 x f.1 f.2

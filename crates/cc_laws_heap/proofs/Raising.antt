@@ -58,7 +58,7 @@ Raises-lists : (m : NewMarks) (blacks grays : List Name) → Raises m (record m 
 Raises-lists m blacks grays = record { unmarked = λ x i. i; unblack = λ x i. i; within = λ w. w }
 
 -- an object raised to black
-Raises-black : (m : NewMarks) (y : Name) → Raises m (raised_black m y)
+pub Raises-black : (m : NewMarks) (y : Name) → Raises m (raised_black m y)
 Raises-black m y = go (has same_name m.unblack y)
   where
     go : (b : Bool) → Raises m (elim b [
@@ -78,7 +78,7 @@ Raises-black m y = go (has same_name m.unblack y)
     go false = Raises-refl m
 
 -- an object raised to gray
-Raises-gray : (m : NewMarks) (y : Name) → Raises m (raised_gray m y)
+pub Raises-gray : (m : NewMarks) (y : Name) → Raises m (raised_gray m y)
 Raises-gray m y = go (has same_name m.unmarked y)
   where
     go : (b : Bool) → Raises m (elim b [
@@ -93,7 +93,7 @@ Raises-gray m y = go (has same_name m.unmarked y)
     go false = Raises-refl m
 
 -- many objects raised
-Raises-each : (raise : NewMarks → Name → NewMarks) → ((m : NewMarks) (y : Name) → Raises m (raise m y)) → (m : NewMarks) (ys : List Name) →
+pub Raises-each : (raise : NewMarks → Name → NewMarks) → ((m : NewMarks) (y : Name) → Raises m (raise m y)) → (m : NewMarks) (ys : List Name) →
     Raises m (each_raised raise m ys)
 Raises-each raise one m [] = Raises-refl m
 Raises-each raise one m (y ∷ ys) = Raises-trans m (raise m y) (each_raised raise (raise m y) ys) (one m y) (Raises-each raise one (raise m y) ys)

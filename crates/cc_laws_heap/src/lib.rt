@@ -23,7 +23,8 @@ pub use commands::{commands_keep_colours, commands_keep_counts};
 pub use counts::cascade_keeps_counts;
 pub use ends::{ends_keep_counts, ends_stand, unlinking_keeps_counts};
 pub use markings::{
-    commands_keep_marking, markings_end_well, markings_spare_what_is_held, scans_keep_marking,
+    commands_keep_marking, commands_keep_scanned, markings_end_well, markings_spare_what_is_held,
+    scans_keep_marking,
 };
 pub use paths::{paths_agree, paths_are_right};
 pub use rounds::{marking_is_least, rounds_keep_counts, rounds_stand, sweeps_stand};

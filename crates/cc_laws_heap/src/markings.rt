@@ -22,7 +22,7 @@ ghost use Rattle.cc_model.specs.StandsFor.{StandsFor};
 ghost use Rattle.cc_laws_heap.specs.Sound.{IsSound};
 ghost use Rattle.cc_laws_heap.specs.Marks.{AreMarksClosed, IsBlackClosed};
 ghost use Rattle.cc_laws_heap.specs.Rounds.{FreesNames};
-ghost use Rattle.cc_laws_heap.specs.UnderMarking.{IsUnderMarking, scans_left};
+ghost use Rattle.cc_laws_heap.specs.UnderMarking.{IsUnderMarking, IsScannedSoFar, scans_left};
 
 /// A marking that was just begun over sound heaps is under way as it should be: script registers hold what is black by the
 /// new marks, and natives what is marked by them. Each command that is not refused keeps it so, with the marks after what it
@@ -33,10 +33,18 @@ pub fn commands_keep_marking()
         refusal_of (objects_of h) c ≡ None → IsUnderMarking (effects h c).heap (marking_after h (deed_of (objects_of h) c) m) }
 {}
 
+/// Each command that is not refused keeps what was scanned as it should be: it has given its mark on.
+pub fn commands_keep_scanned()
+    ensures begun { (h : Heap) → IsSound [] h → IsScannedSoFar h (begun_marks h) }
+    ensures command { (h : Heap) (m : NewMarks) (c : Command) → IsSound [] h → IsUnderMarking h m → IsScannedSoFar h m → IsTrue (in_range c) →
+        refusal_of (objects_of h) c ≡ None → IsScannedSoFar (effects h c).heap (marking_after h (deed_of (objects_of h) c) m) }
+{}
+
 /// A scan keeps a marking under way as it should be, and where something is left to scan, less is left after it: so many
-/// scans are enough.
+/// scans are enough. A scan gives the mark of its object on, and keeps what was scanned before.
 pub fn scans_keep_marking()
     ensures scanned { (h : Heap) (m : NewMarks) → IsUnderMarking h m → IsUnderMarking h (scanned h m) }
+    ensures given_on { (h : Heap) (m : NewMarks) → IsSound [] h → IsUnderMarking h m → IsScannedSoFar h m → IsScannedSoFar h (scanned h m) }
     ensures less { (h : Heap) (m : NewMarks) → is_scanned m ≡ false → scans_left (scanned h m) < scans_left m }
 {}
 

@@ -2,10 +2,10 @@
 use cc_laws_headline::lawful_transcripts_tell_of_a_graph;
 use cc_laws_heap::{
     banks_may_be_longer, brought_back_stands, cascade_keeps_counts, commands_keep_colours,
-    commands_keep_counts, commands_keep_marking, commands_stand, ends_keep_counts, ends_stand,
-    graphs_are_well_made, marking_is_least, markings_end_well, markings_spare_what_is_held,
-    paths_agree, paths_are_right, reached_alike, replies_agree, rounds_keep_counts, rounds_stand,
-    scans_keep_marking, sweeps_stand, unlinking_keeps_counts,
+    commands_keep_counts, commands_keep_marking, commands_keep_scanned, commands_stand,
+    ends_keep_counts, ends_stand, graphs_are_well_made, marking_is_least, markings_end_well,
+    markings_spare_what_is_held, paths_agree, paths_are_right, reached_alike, replies_agree,
+    rounds_keep_counts, rounds_stand, scans_keep_marking, sweeps_stand, unlinking_keeps_counts,
 };
 use cc_laws_run::{
     asks_keep_suspected, collections_after_gc_miss_nothing, collections_are_lawful,
@@ -68,6 +68,7 @@ fn laws_of_the_heap_can_be_called() {
     commands_keep_colours();
     marking_is_least();
     commands_keep_marking();
+    commands_keep_scanned();
     scans_keep_marking();
     markings_end_well();
     markings_spare_what_is_held();
