@@ -14,6 +14,7 @@ pub mod Folding
 pub mod Giving
 pub mod Cascades
 pub mod Kept
+pub mod BufferStands
 pub mod Making
 pub mod HoldsTheSame
 pub mod Owning
@@ -93,6 +94,7 @@ pub mod Wrapping
 pub mod StepsAlike
 pub mod WeakRegisters
 pub mod CommandsStand
+pub mod UnlinkedKept
 pub mod BroughtBack
 pub mod Lengthening
 pub mod GraphLeads
