@@ -1,6 +1,8 @@
 -- WHAT CRATES WITH CODE CITE of these laws' proofs: they name this module and no other.
 pub use Rattle.cc_laws_heap.proofs.Apart.{unlink-stands}
+pub use Rattle.cc_laws_heap.proofs.BroughtBack.{come_back-given, hold-stands, hold-well}
 pub use Rattle.cc_laws_heap.proofs.Buffer.{places-with_mark_other, places-with_mark_same}
+pub use Rattle.cc_laws_heap.proofs.BufferStands.{HasColourInvariant-buffer, IsSound-buffer, StandsFor-buffer}
 pub use Rattle.cc_laws_heap.proofs.CascadeTakesOut.{TakesOut-cascade, TakesOut-let_go, let_go-gone}
 pub use Rattle.cc_laws_heap.proofs.Cascades.{above-one_at_zero, cascade-frees, cascade-sound, one_above_zero-above, one_at_zero-above}
 pub use Rattle.cc_laws_heap.proofs.Changing.{Follows-left, Leaves, option_map-found}
@@ -54,7 +56,7 @@ pub use Rattle.cc_laws_heap.proofs.NativesKeepScripts.{SameScripts, SameScripts-
 pub use Rattle.cc_laws_heap.proofs.Numbered.{change_numbered, numbered-change, numbered-change_other, numbered-next, numbered-push, numbered-push_old}
 pub use Rattle.cc_laws_heap.proofs.Owning.{IsCounted-add_ref, IsIn, add_ref-sound, let_go-sound, take_up-sound, times-numbers_of}
 pub use Rattle.cc_laws_heap.proofs.ReachedAlike.{given-in, given-there, in-given, in-reached, reached-in, reached-there}
-pub use Rattle.cc_laws_heap.proofs.ReachedReads.{native_of-reached, script-behind}
+pub use Rattle.cc_laws_heap.proofs.ReachedReads.{HasBehind, native_of-reached, script-behind}
 pub use Rattle.cc_laws_heap.proofs.References.{native-there, refs_to-removed, refs_to-slot, refs_to-there, times-among, times-append, times-cons, times-cons_other, times-cons_same, times-natives_in, times-some}
 pub use Rattle.cc_laws_heap.proofs.RepliesAlike.{delegate-stands, objects-stand, refusal_of-alike, reply_if_taken-alike}
 pub use Rattle.cc_laws_heap.proofs.Rising.{IsRising-filter, IsRising-once}

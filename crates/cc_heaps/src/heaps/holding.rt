@@ -9,6 +9,7 @@ ghost use Rattle.cc_model.specs.Counts.{times};
 ghost use Rattle.cc_model.specs.Effects.{hold_native, put_in_register, touched};
 ghost use Rattle.cc_model.specs.Telling.{TellsEvents};
 ghost use Rattle.cc_model.specs.Graph as graph;
+ghost use Rattle.cc_model.specs.Given.{MayComeBack};
 ghost use Rattle.cc_laws_heap.specs.Sound.{numbers_of};
 ghost use Rattle.cc_counted.specs.Counts.{key_left, slots_of};
 ghost use Rattle.cc_heaps.specs.Keyed.{IsInOrder, counts_of, number_at, the_number, changed_to, left_with};
@@ -112,7 +113,8 @@ impl Heaps {
     /// Register `r` holds a native from then on, or nothing.
     ///
     /// The new reference is taken first, then the register is written, then what it held is given up with all that it
-    /// deletes. Takes no memory.
+    /// deletes. Takes no memory. A native that nothing reaches may come back so, as a weak reference does it, unless it was
+    /// unlinked.
     pub fn set_native_reg<N: Notices>(&mut self, r: RegNo, content: Option<NKey>, out: &mut N)
         requires within { r < length self.old.heap.native_registers }
         requires order { (owned : List ℕ) × IsInOrder owned self.old × AreOwnedOnce owned }
@@ -123,6 +125,8 @@ impl Heaps {
         ensures tells { TellsWhatIsFreed self.old.heap self.new.heap (N.telling out.old) (N.telling out.new) }
         ensures kept { KeepsAll self.old self.new }
         ensures stands { IsReached self.old.heap (native_name self.old content) →
+            StandsAfter self.old.heap self.new.heap (λ g. graph.set_register g (n_register r) (native_name self.old content)) }
+        ensures brought_back { MayComeBack self.old.heap (native_name self.old content) →
             StandsAfter self.old.heap self.new.heap (λ g. graph.set_register g (n_register r) (native_name self.old content)) }
     {
         self.take_up(Held::of_native(content));
