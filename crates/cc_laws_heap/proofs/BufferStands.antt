@@ -1,15 +1,14 @@
 -- HEAPS WITH ANOTHER BUFFER stay sound, and stand for the same graph.
-use Rattle.std.proofs.Common.{arith, ◌≡◌, ℕ, ◌≤◌, ◌==◌, List, map, sym, ◌∙◌, ap, subst}
+use Rattle.std.proofs.Common.{arith, ◌≡◌, ℕ, ◌≤◌, ◌==◌, List, map, sym, ap, subst}
 use Rattle.cc_lists.specs.Members.{Among}
 use Rattle.cc_lists.proofs.ListWrites.{each-map, count_by-kept_map}
-use Rattle.cc_names.specs.declared.name.Name.{Name}
 use Rattle.cc_names.specs.Names.{native}
 use Rattle.cc_model.specs.Graph.{Graph}
 use Rattle.cc_model.specs.Heap.{Heap, Buffered}
 use Rattle.cc_model.specs.View.{view}
 use Rattle.cc_model.specs.WellFormed.{IsWellFormed, native_names}
 use Rattle.cc_model.specs.Colours.{HasColourInvariant}
-use Rattle.cc_model.specs.StandsFor.{shape_at, StandsFor}
+use Rattle.cc_model.specs.StandsFor.{StandsFor}
 use Rattle.cc_laws_heap.specs.Balance.{has_place}
 use Rattle.cc_laws_heap.specs.Sound.{IsSound}
 use Rattle.cc_laws_heap.proofs.Kept.{IsBuffer, with_buffer, IsWellFormed-buffer}
@@ -32,15 +31,12 @@ StandsFor-buffer h bs g s = record {
   scripts_made = s.scripts_made;
   natives = s.natives;
   scripts = s.scripts;
-  given = λ x d. let k = s.given x d in record { shape = k.shape; there = same x ∙ k.there; made = k.made };
+  given = λ x d. let k = s.given x d in record { shape = k.shape; made = k.made; there = k.there };
   values = s.values;
   spent = s.spent;
   entries = s.entries;
   blank = s.blank;
 }
-  where
-    same : (x : Name) → shape_at (with_buffer h bs) x ≡ shape_at h x
-    same x = grind arith
 
 -- a buffer whose natives keep their places, whatever their marks become, is one of natives that are there, each once
 pub IsBuffer-marks : (h : Heap) (f : Buffered → Buffered) → ((b : Buffered) → (f b).number ≡ b.number) → IsWellFormed h → IsBuffer h (map f h.buffer)

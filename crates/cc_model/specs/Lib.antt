@@ -23,6 +23,7 @@ pub mod Lawful
 pub mod Quiet
 pub mod Heap
 pub mod Given
+pub mod Ended
 pub mod Places
 pub mod View
 pub mod WellFormed

@@ -81,6 +81,18 @@ is_mutator (reads_weak d w) = true
 is_mutator (runs u) = false
 is_mutator (collects_scripts u) = false
 
+abbrev pub is_weak_reader : Class → Bool
+is_weak_reader (says q) = false
+is_weak_reader does = false
+is_weak_reader forgets = false
+is_weak_reader (reads_weak d w) = true
+is_weak_reader (runs u) = false
+is_weak_reader (collects_scripts u) = false
+
+-- whether a command reads a weak register
+abbrev pub reads_weakly : Command → Bool
+reads_weakly c = is_weak_reader (class_of c)
+
 -- THE COMMANDS OF THE MUTATOR: those that do a deed, and the one that reads a weak register
 abbrev pub is_applied : Command → Bool
 is_applied c = is_mutator (class_of c)

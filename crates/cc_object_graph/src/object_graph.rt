@@ -1,9 +1,9 @@
 //! The graph as its callers see it.
-ghost use Rattle.std.specs.Prelude.{◌≡◌, ◌≤◌, length, IfOk, IsTrue, OnOk};
+ghost use Rattle.std.specs.Prelude.{◌≡◌, ◌≤◌, length, slice_index_or, IfOk, IsTrue, None, OnOk};
 ghost use Rattle.cc_names.specs.declared.register.Reg.TheVariants as reg;
 ghost use Rattle.cc_model.specs.Ranges.{in_range};
 ghost use Rattle.cc_model.specs.Checks.{refusal_of, value_at};
-ghost use Rattle.cc_model.specs.Graph.{empty_graph, objects_of, register, reply_to, step};
+ghost use Rattle.cc_model.specs.Graph.{empty_graph, objects_of, register, reply_to, set_register, step};
 ghost use Rattle.cc_model.specs.WellMade.{IsWellMade};
 
 mod changes;
@@ -20,16 +20,16 @@ use crate::entries::Entries;
 use crate::natives::Natives;
 use crate::scripts::Scripts;
 use cc_model::{Command, Refusal, Reply, refusal};
-use cc_names::{BANK_LENGTH, Limits, Name, NoMemory, Reg, RegNo};
+use cc_names::{BANK_LENGTH, Limits, Name, NoMemory, Reg, RegNo, WEAK_LENGTH, WeakNo};
 use std::alloc::Global;
 use std::marker::Model;
 
-/// An object graph: registers, objects and entries, and the limits within which objects are made. No line writes a weak register yet,
-/// so these are empty.
+/// An object graph: registers, what weak registers note, objects and entries, and the limits within which objects are made.
 #[derive(Drop)]
 pub struct ObjectGraph {
     native_registers: Bank,
     script_registers: Bank,
+    weak_registers: Bank,
     natives: Natives,
     scripts: Scripts,
     entries: Entries,
@@ -39,16 +39,14 @@ pub struct ObjectGraph {
 }
 
 impl Model for ObjectGraph {
-    ghost use Rattle.cc_names.specs.Sizes.{weak_length};
     ghost use Rattle.cc_model.specs.Graph.{Graph};
-    ghost use Rattle.cc_model.specs.Slots.{empty_slots};
 
     ghost Value = { Graph };
 
     ghost view = { λ g. record {
       native_registers = g.native_registers;
       script_registers = g.script_registers;
-      weak_registers = empty_slots weak_length;
+      weak_registers = g.weak_registers;
       natives = g.natives;
       scripts = g.scripts;
       entries = g.entries;
@@ -64,6 +62,7 @@ impl ObjectGraph {
         Ok(ObjectGraph {
             native_registers: Bank::empty(alloc, BANK_LENGTH)?,
             script_registers: Bank::empty(alloc, BANK_LENGTH)?,
+            weak_registers: Bank::empty(alloc, WEAK_LENGTH)?,
             natives: Natives::new(alloc),
             scripts: Scripts::new(alloc),
             entries: Entries::new(alloc),
@@ -107,6 +106,20 @@ impl ObjectGraph {
             Reg::S(r) => self.script_registers.at(r as usize),
             Reg::W(_) => None,
         }
+    }
+
+    /// What a weak register notes.
+    pub fn noted(&self, w: WeakNo) -> Option<Name>
+        ensures { result ≡ slice_index_or self.now.weak_registers w None }
+    {
+        self.weak_registers.at(w as usize)
+    }
+
+    /// A native register holds what a weak one gave, or nothing. What that gives hangs on what has ended, of which a graph knows nothing.
+    pub fn hold_noted(&mut self, d: RegNo, content: Option<Name>)
+        ensures { self.new ≡ set_register self.old (reg.N d) content }
+    {
+        self.set_register(Reg::N(d), content);
     }
 
     /// The value that what one script register holds has for its key in what the other holds as their map.

@@ -3,16 +3,17 @@
 ghost use Rattle.std.specs.Prelude.{◌≡◌, ◌<◌, [], ◌∷◌, length, IsTrue, IfSome};
 ghost use Rattle.cc_model.specs.Lines.{without_return};
 ghost use Rattle.cc_model.specs.Tokens.{tokens_of};
-ghost use Rattle.cc_model.specs.Forms.{census_form, collect_form, copy_native_form, copy_script_form, drop_native_form, drop_script_form, expose_form, forms_of, gc_form, get_entry_form, get_native_form, get_script_form, move_form, native_form, preserve_form, proxy_form, put_none_form, put_script_form, script_form, set_entry_form, set_native_form, set_none_form, set_script_form, slice_form, take_form, unset_entry_form, unwrap_form, version_form, weak_map_form, why_form, wrap_form};
+ghost use Rattle.cc_model.specs.Forms.{census_form, collect_form, copy_native_form, copy_script_form, deref_form, drop_native_form, drop_script_form, drop_weak_form, expose_form, forget_form, forms_of, gc_form, get_entry_form, get_native_form, get_script_form, move_form, native_form, preserve_form, proxy_form, put_none_form, put_script_form, script_form, set_entry_form, set_native_form, set_none_form, set_script_form, slice_form, take_form, unset_entry_form, unwrap_form, version_form, weak_form, weak_map_form, why_form, wrap_form};
 ghost use Rattle.cc_model.specs.Ranges.{in_range};
 ghost use Rattle.cc_model.specs.Asks.{command_in, command_of};
 ghost use Rattle.cc_reader.specs.Words.{first_read, heap_forms, own_forms, reflector_forms, register_forms, slot_forms};
 
 use crate::tokens::{
     four_tokens, native, next_token, number, object_name, one_token, register_of, script,
-    slots_number, three_tokens, two_tokens, units_number,
+    slots_number, three_tokens, two_tokens, units_number, weak,
 };
 use cc_model::{Command, Dialect};
+use cc_names::Reg;
 
 /// A line without the carriage return at its end.
 fn without_return(line: &[u8]) -> &[u8]
@@ -229,6 +230,45 @@ fn read_why(after: &[u8]) -> Option<Command>
     Some(Command::Why(object_name(name)?))
 }
 
+/// The command of the word `forget`, by the tokens that stand behind it. None where they are in no form of it.
+fn read_forget(after: &[u8]) -> Option<Command>
+    ensures form { result ≡ first_read (forget_form ∷ []) (tokens_of after.now) }
+    ensures in_range { IfSome result (λ c. IsTrue (in_range c)) }
+{
+    match next_token(after) {
+        None => Some(Command::Forget),
+        Some(_) => None,
+    }
+}
+
+/// The command of the word `weak`, by the tokens that stand behind it. None where they are in no form of it.
+fn read_weak(after: &[u8], dialect: Dialect) -> Option<Command>
+    ensures form { result ≡ first_read (weak_form dialect ∷ []) (tokens_of after.now) }
+    ensures in_range { IfSome result (λ c. IsTrue (in_range c)) }
+{
+    let (to, from) = two_tokens(after)?;
+    Some(Command::Weak(weak(to)?, native(from, dialect)?))
+}
+
+/// The command of the word `deref`, by the tokens that stand behind it. None where they are in no form of it.
+fn read_deref(after: &[u8], dialect: Dialect) -> Option<Command>
+    ensures form { result ≡ first_read (deref_form dialect ∷ []) (tokens_of after.now) }
+    ensures in_range { IfSome result (λ c. IsTrue (in_range c)) }
+{
+    let (to, from) = two_tokens(after)?;
+    Some(Command::Deref(native(to, dialect)?, weak(from)?))
+}
+
+/// The command of the word `drop` where it empties a weak register, by the tokens that stand behind the word. None where
+/// they are not in this form.
+fn read_drop_weak(after: &[u8]) -> Option<Command>
+    ensures form { result ≡ first_read (drop_weak_form ∷ []) (tokens_of after.now) }
+    ensures in_range { IfSome result (λ c. IsTrue (in_range c)) }
+{
+    let register = one_token(after)?;
+    Some(Command::Drop(Reg::W(weak(register)?)))
+}
+
 /// The command of the word `slice`, by the tokens that stand behind it. None where they are in no form of it.
 fn read_slice(after: &[u8]) -> Option<Command>
     ensures form { result ≡ first_read (slice_form ∷ []) (tokens_of after.now) }
@@ -398,6 +438,14 @@ fn read_of_dialect(word: &[u8], after: &[u8], dialect: Dialect) -> Option<Comman
                 read_move(after, dialect)
             } else if word == b"why".as_slice() {
                 read_why(after)
+            } else if word == b"forget".as_slice() {
+                read_forget(after)
+            } else if word == b"weak".as_slice() {
+                read_weak(after, dialect)
+            } else if word == b"deref".as_slice() {
+                read_deref(after, dialect)
+            } else if word == b"drop".as_slice() {
+                read_drop_weak(after)
             } else {
                 None
             }

@@ -1,13 +1,13 @@
 //! The tokens of a line, and the numbers and registers that they name.
 
 ghost use Rattle.std.specs.Prelude.{◌≡◌, ◌≢◌, ◌<◌, ◌≤◌, [], ◌∷◌, length, slice_index, false, IsTrue, IfNone, IfSome};
-ghost use Rattle.cc_names.specs.Sizes.{bank_length, most_slots};
-ghost use Rattle.cc_model.specs.Tokens.{digits_from, made_number, native_register, number_within, object_name, register_with, script_register, slots_number, tokens_of, units_number};
+ghost use Rattle.cc_names.specs.Sizes.{bank_length, most_slots, weak_length};
+ghost use Rattle.cc_model.specs.Tokens.{digits_from, made_number, native_register, number_within, object_name, register_with, script_register, slots_number, tokens_of, units_number, weak_register};
 ghost use Rattle.cc_model.specs.Ranges.{is_reg};
 ghost use Rattle.cc_reader.specs.Words.{register_of};
 
 use cc_model::Dialect;
-use cc_names::{Name, NativeNo, Reg, RegNo, ScriptNo, SlotNo};
+use cc_names::{Name, NativeNo, Reg, RegNo, ScriptNo, SlotNo, WEAK_LENGTH, WeakNo};
 
 /// A line from its first byte on that is no space.
 fn without_spaces(line: &[u8]) -> &[u8]
@@ -160,6 +160,23 @@ pub(crate) fn script(token: &[u8], dialect: Dialect) -> Option<RegNo>
     ensures in_range { IfSome result (λ r. r < bank_length) }
 {
     register_with(b's', token, dialect)
+}
+
+/// The number of the weak register that a token names: `w`, and directly behind it a number of at most 255.
+pub(crate) fn weak(token: &[u8]) -> Option<WeakNo>
+    ensures register { result ≡ weak_register token.now }
+    ensures in_range { IfSome result (λ w. w < weak_length) }
+{
+    match token {
+        [first, digits @ ..] => {
+            if *first != b'w' {
+                return None;
+            }
+            let register = number(digits, WEAK_LENGTH as u32 - 1)?;
+            Some(register as WeakNo)
+        }
+        [] => None,
+    }
 }
 
 /// The register of either kind that a token names.

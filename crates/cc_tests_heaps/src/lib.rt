@@ -1,7 +1,10 @@
-//! Tests of roots beyond the registers that commands can name, and of a walk over both heaps: no clause says that memory is there.
+//! Tests of roots beyond the registers that commands can name, of a walk over both heaps, and of weak registers beside them: no
+//! clause says that memory is there.
 #![tactic(auto)]
 
 #[cfg(test)]
 mod roots;
 #[cfg(test)]
 mod walks;
+#[cfg(test)]
+mod weak_registers;

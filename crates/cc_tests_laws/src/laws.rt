@@ -1,10 +1,10 @@
 //! A call of each law.
 use cc_laws_headline::lawful_transcripts_tell_of_a_graph;
 use cc_laws_heap::{
-    banks_may_be_longer, cascade_keeps_counts, commands_keep_colours, commands_keep_counts,
-    commands_stand, ends_keep_counts, ends_stand, graphs_are_well_made, marking_is_least,
-    paths_agree, paths_are_right, reached_alike, replies_agree, rounds_keep_counts, rounds_stand,
-    sweeps_stand, unlinking_keeps_counts,
+    banks_may_be_longer, brought_back_stands, cascade_keeps_counts, commands_keep_colours,
+    commands_keep_counts, commands_stand, ends_keep_counts, ends_stand, graphs_are_well_made,
+    marking_is_least, paths_agree, paths_are_right, reached_alike, replies_agree,
+    rounds_keep_counts, rounds_stand, sweeps_stand, unlinking_keeps_counts,
 };
 use cc_laws_run::{
     asks_keep_suspected, collections_after_gc_miss_nothing, collections_are_lawful,
@@ -16,9 +16,10 @@ use cc_laws_run::{
 };
 use cc_laws_snapshot::{
     begin_is_fresh, black_is_least, collections_keep_suspected, commands_keep_fresh,
-    commands_keep_suspected, ends_keep_reached, ends_take_white, gentle_changes_keep_fresh,
-    kinds_of_change_keep_fresh, kinds_of_change_keep_suspected, loyal_changes_keep_suspected,
-    units_keep_fresh, waiting_asks_less, white_is_unreached,
+    commands_keep_suspected, ends_keep_reached, ends_take_white, forgetting_keeps_suspected,
+    gentle_changes_keep_fresh, kinds_of_change_keep_fresh, kinds_of_change_keep_suspected,
+    loyal_changes_keep_suspected, units_keep_fresh, waiting_asks_less, waiting_keeps_suspected,
+    white_is_unreached,
 };
 use cc_laws_told::collections_tell_few;
 use cc_lists::{closure_is_least, membership_is_decided, rarer_is_shorter};
@@ -75,6 +76,7 @@ fn laws_of_the_heap_can_be_called() {
     graphs_are_well_made();
     reached_alike();
     commands_stand();
+    brought_back_stands();
     paths_are_right();
     paths_agree();
     raised_is_least();
@@ -87,6 +89,7 @@ fn laws_of_the_snapshot_can_be_called() {
     gentle_changes_keep_fresh();
     kinds_of_change_keep_fresh();
     waiting_asks_less();
+    waiting_keeps_suspected();
     commands_keep_fresh();
     white_is_unreached();
     black_is_least();
@@ -95,6 +98,7 @@ fn laws_of_the_snapshot_can_be_called() {
     loyal_changes_keep_suspected();
     kinds_of_change_keep_suspected();
     commands_keep_suspected();
+    forgetting_keeps_suspected();
     collections_keep_suspected();
 }
 

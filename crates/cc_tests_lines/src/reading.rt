@@ -69,16 +69,41 @@ const OF_VERSION_2: &[Row] = &[
     ("move n1 0 n2 1 1", None),
     ("move n1 0 s2 1", None),
     ("move n1 0 n2 none", None),
+    ("forget", Some(Command::Forget)),
+    ("forget n0", None),
     (" version  2 \r", None),
 ];
 
-/// No line asks these yet.
-const OF_NONE: &[Row] = &[
-    ("drop w0", None),
+/// Lines of weak registers: `weak`, `deref` and `drop` alone name them.
+const OF_WEAK_REGISTERS: &[Row] = &[
+    ("weak w255 n1023", Some(Command::Weak(255, 1023))),
+    ("deref  n1023 w255\r", Some(Command::Deref(1023, 255))),
+    ("drop w255", Some(Command::Drop(Reg::W(255)))),
+    ("drop n0", Some(Command::Drop(Reg::N(0)))),
+    ("weak w0", None),
+    ("weak w256 n0", None),
+    ("weak w00 n0", None),
+    ("weak w n0", None),
+    ("weak n0 n0", None),
+    ("weak w0 s0", None),
+    ("deref s0 w0", None),
+    ("deref n0 n0", None),
+    ("deref n1024 w0", None),
+    ("drop w256", None),
+    ("set n0 0 w0", None),
+    ("get w0 n0 0", None),
+    ("copy w0 w1", None),
+];
+
+/// No line asks this yet.
+const OF_NONE: &[Row] = &[("mark 1", None)];
+
+/// Words of version 2 alone.
+const NOT_OF_VERSION_1: &[Row] = &[
+    ("forget", None),
     ("weak w0 n0", None),
     ("deref n0 w0", None),
-    ("forget", None),
-    ("mark 1", None),
+    ("drop w0", None),
 ];
 
 /// A path is asked for with one name.
@@ -123,5 +148,8 @@ fn lines_ask_what_their_dialect_says(rt: HostRuntime) {
     assert!(rt; ask(Dialect::Two, OF_PATHS));
     assert!(rt; ask(Dialect::One, OF_NONE));
     assert!(rt; ask(Dialect::Two, OF_NONE));
+    assert!(rt; ask(Dialect::Start, NOT_OF_VERSION_1));
+    assert!(rt; ask(Dialect::One, NOT_OF_VERSION_1));
+    assert!(rt; ask(Dialect::Two, OF_WEAK_REGISTERS));
     assert!(rt; ask(Dialect::Start, OF_THE_START));
 }

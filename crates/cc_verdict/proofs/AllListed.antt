@@ -20,7 +20,8 @@ use Rattle.cc_model.specs.declared.item.Reply.TheVariants.{Named, Refused}
 use Rattle.cc_model.specs.Checks.{named_or_nothing, reflector_of, refusal_of, refused_or, reply_if_taken}
 use Rattle.cc_model.specs.Deeds.{deed_of}
 use Rattle.cc_model.specs.Graph.{Graph, GraphNative, changed, empty_graph, objects_of, register, reply_to, step, unless_refused}
-use Rattle.cc_model.specs.Lawful.{is_gc, is_refused, runs_units}
+use Rattle.cc_model.specs.Mutating.{reads_weakly}
+use Rattle.cc_model.specs.Lawful.{reply_with, is_gc, is_refused, runs_units}
 use Rattle.cc_model.specs.Listed.{after_event, after_reply}
 use Rattle.cc_model.specs.Ranges.{in_range}
 use Rattle.cc_model.specs.Reached.{Reached, held, edge, value, key}
@@ -39,6 +40,7 @@ use Rattle.cc_laws_heap.proofs.Taken.{IsTaken-from}
 use Rattle.cc_verdict.specs.Following.{Place}
 use Rattle.cc_verdict.specs.Hearing.{EndsAbandoned, EndsAsTheGraph, Hearing, MayCome, MayEnd, hearing, is_heard, place_ended, with_told}
 use Rattle.cc_verdict.specs.GoingOn.{AreBlank, ListsAll, ListsAllIn}
+use Rattle.cc_verdict.proofs.Stays.{step-plain, reply-plain}
 use Rattle.cc_verdict.proofs.ReachedStays.{ReachesNoMore, done_to-reaches, new_by}
 
 -- Reflectors that are not preserved
@@ -188,11 +190,12 @@ start-lists limits = record {
 }
 
 -- AS AN ANSWER BEGINS all is listed that the graph reaches then.
-pub begins-lists : (p : Place) (c : Command) → IsTrue (is_heard c) → IsTrue (in_range c) → ListsAll p.state.graph p.state.listed → ListsAllIn (hearing p c)
-begins-lists p c heard range l = record {
+pub begins-lists : (p : Place) (c : Command) → IsTrue (is_heard c) → IsTrue (in_range c) → reads_weakly c ≡ false → ListsAll p.state.graph p.state.listed → ListsAllIn (hearing p c)
+begins-lists p c heard range plain l = record {
   heard = heard;
-  granted = collection-granted p.state.graph c;
-  listed = step-lists p.state.graph p.state.listed c range l;
+  granted = λ e. ap is_refused (reply-plain p.state.ended p.state.graph c plain) ∙ collection-granted p.state.graph c e;
+  listed = subst (λ (g : Graph). ListsAll g (after_reply p.state.listed c (Some (reply_with p.state.ended p.state.graph c)))) (sym (step-plain p.state.ended p.state.graph c plain))
+      (subst (λ r. ListsAll (step p.state.graph c) (after_reply p.state.listed c (Some r))) (sym (reply-plain p.state.ended p.state.graph c plain)) (step-lists p.state.graph p.state.listed c range l));
 }
 
 -- An event

@@ -28,7 +28,7 @@ use Rattle.cc_laws_heap.proofs.LedReached.{reached-led}
 use Rattle.cc_verdict.specs.Following.{Follows, Place, lines_of_items, place_after}
 use Rattle.cc_verdict.specs.Hearing.{Hearing, Hears, MayCome, MayEnd, hearing, is_heard, place_ended, with_told}
 use Rattle.cc_verdict.specs.Positions.{GoesOn, Position, reciting, within}
-use Rattle.cc_verdict.specs.GoingOn.{AreInRange, CanAnswer, CanGoOn, ListsAll, ListsAllAt, ListsAllIn}
+use Rattle.cc_verdict.specs.GoingOn.{AreInRange, ReadNone, CanAnswer, CanGoOn, ListsAll, ListsAllAt, ListsAllIn}
 use Rattle.cc_verdict.proofs.AllListed.{begins-lists, ends-lists, event-lists, step-lists}
 use Rattle.cc_verdict.proofs.Answered.{answered-follows, heard-hears, hears-heard, place-ended}
 use Rattle.cc_verdict.proofs.Comes.{EachMayCome, told-names, with_all}
@@ -243,26 +243,26 @@ no-row : (p : Place) (ask : Ask) (a : Answer) (asks : List Ask) → row_after p.
 no-row p ask a asks e = can-answer (place_after p ask a) asks (row-quiet (row_after p.row ask a) (place_after p ask a).state (λ all. let no : nothing_yet ≡ after_all = sym e ∙ all in cc))
 
 -- WHATEVER IS ASKED CAN BE ANSWERED.
-follows-on : (asks : List Ask) (p : Place) → AreInRange asks → ListsAll p.state.graph p.state.listed → CanAnswer p asks → (lines : List (List ℕ)) × Follows p asks lines
-follows-on [] p range l can = ([], record { answers = []; lines_are = refl; lawful = tt; quiet = tt })
-follows-on (long ∷ asks) p range l can = by-answer p long asks (replying [] (reply.Refused refusal.Long)) refl (long-quiet p.row p.state)
-    (follows-on asks (place_after p long (replying [] (reply.Refused refusal.Long))) (λ c m. range c (inr m)) l (no-row p long (replying [] (reply.Refused refusal.Long)) asks refl))
-follows-on (bad ∷ asks) p range l can = by-answer p bad asks (replying [] (reply.Refused refusal.Line)) refl (bad-quiet p.row p.state)
-    (follows-on asks (place_after p bad (replying [] (reply.Refused refusal.Line))) (λ c m. range c (inr m)) l (no-row p bad (replying [] (reply.Refused refusal.Line)) asks refl))
-follows-on (taken Nothing ∷ asks) p range l can = by-answer p (taken Nothing) asks no_answer refl (nothing-quiet p.row p.state)
-    (follows-on asks p (λ c m. range c (inr m)) l can)
-follows-on (taken Census ∷ asks) p range l can = by-answer p (taken Census) asks (census_of p.state.listed) refl can
-    (follows-on asks (place_after p (taken Census) (census_of p.state.listed)) (λ c m. range c (inr m))
+follows-on : (asks : List Ask) (p : Place) → AreInRange asks → ReadNone asks → ListsAll p.state.graph p.state.listed → CanAnswer p asks → (lines : List (List ℕ)) × Follows p asks lines
+follows-on [] p range plain l can = ([], record { answers = []; lines_are = refl; lawful = tt; quiet = tt })
+follows-on (long ∷ asks) p range plain l can = by-answer p long asks (replying [] (reply.Refused refusal.Long)) refl (long-quiet p.row p.state)
+    (follows-on asks (place_after p long (replying [] (reply.Refused refusal.Long))) (λ c m. range c (inr m)) (λ c m. plain c (inr m)) l (no-row p long (replying [] (reply.Refused refusal.Long)) asks refl))
+follows-on (bad ∷ asks) p range plain l can = by-answer p bad asks (replying [] (reply.Refused refusal.Line)) refl (bad-quiet p.row p.state)
+    (follows-on asks (place_after p bad (replying [] (reply.Refused refusal.Line))) (λ c m. range c (inr m)) (λ c m. plain c (inr m)) l (no-row p bad (replying [] (reply.Refused refusal.Line)) asks refl))
+follows-on (taken Nothing ∷ asks) p range plain l can = by-answer p (taken Nothing) asks no_answer refl (nothing-quiet p.row p.state)
+    (follows-on asks p (λ c m. range c (inr m)) (λ c m. plain c (inr m)) l can)
+follows-on (taken Census ∷ asks) p range plain l can = by-answer p (taken Census) asks (census_of p.state.listed) refl can
+    (follows-on asks (place_after p (taken Census) (census_of p.state.listed)) (λ c m. range c (inr m)) (λ c m. plain c (inr m))
     (step-lists p.state.graph p.state.listed Census (range Census (inl refl)) l) (no-row p (taken Census) (census_of p.state.listed) asks refl))
-follows-on (taken (Why x) ∷ asks) p range l can = by-answer p (taken (Why x)) asks (replying [] (reply.Refused refusal.NoMemory)) (inr refl) (why-quiet p.row p.state x)
-    (follows-on asks (place_after p (taken (Why x)) (replying [] (reply.Refused refusal.NoMemory))) (λ c m. range c (inr m)) l (no-row p (taken (Why x)) (replying [] (reply.Refused refusal.NoMemory)) asks refl))
-follows-on (taken c ∷ asks) p range l can =
-    let s = hears-on asks (hearing p c) (λ q m n. follows-on asks q (λ d i. range d (inr i)) m n) (begins-lists p c refl (range c (inl refl)) l) (λ r. refl) in
+follows-on (taken (Why x) ∷ asks) p range plain l can = by-answer p (taken (Why x)) asks (replying [] (reply.Refused refusal.NoMemory)) (inr refl) (why-quiet p.row p.state x)
+    (follows-on asks (place_after p (taken (Why x)) (replying [] (reply.Refused refusal.NoMemory))) (λ c m. range c (inr m)) (λ c m. plain c (inr m)) l (no-row p (taken (Why x)) (replying [] (reply.Refused refusal.NoMemory)) asks refl))
+follows-on (taken c ∷ asks) p range plain l can =
+    let s = hears-on asks (hearing p c) (λ q m n. follows-on asks q (λ d i. range d (inr i)) (λ d i. plain d (inr i)) m n) (begins-lists p c refl (range c (inl refl)) (plain c (inl refl)) l) (λ r. refl) in
     (s.0, hears-follows p c asks s.0 refl s.1)
 
 -- FROM WHEREVER A CHECK CAN GO ON, LINES GO ON.
-pub goes-on : (p : Position) (asks : List Ask) → AreInRange asks → ListsAllAt p → CanGoOn p asks → (lines : List (List ℕ)) × GoesOn p asks lines
-goes-on (reciting items p) asks range l can =
-    let f = follows-on asks p range l can in
+pub goes-on : (p : Position) (asks : List Ask) → AreInRange asks → ReadNone asks → ListsAllAt p → CanGoOn p asks → (lines : List (List ℕ)) × GoesOn p asks lines
+goes-on (reciting items p) asks range plain l can =
+    let f = follows-on asks p range plain l can in
     (lines_of_items items ++ f.0, record { rest = f.0; lines_are = refl; follows = f.1 })
-goes-on (within h) asks range l can = hears-on asks h (λ q m n. follows-on asks q range m n) l can
+goes-on (within h) asks range plain l can = hears-on asks h (λ q m n. follows-on asks q range plain m n) l can

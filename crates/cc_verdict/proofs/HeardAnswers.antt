@@ -6,14 +6,14 @@ use Rattle.cc_model.specs.declared.item.Refusal.TheVariants.{NoMemory}
 use Rattle.cc_model.specs.declared.item.Reply.{Reply}
 use Rattle.cc_model.specs.declared.item.Reply.TheVariants.{Refused}
 use Rattle.cc_model.specs.declared.item.Event.{Event}
-use Rattle.cc_model.specs.Graph.{Graph, objects_of, reply_to, step}
-use Rattle.cc_model.specs.Lawful.{AnswersCommand, EachMayBe, WantsMemory, begins_with_at_most_one, ends_with_one, graph_after, has_abandonment_in_place, has_none, is_abandoning, is_gc, is_refused, is_without_memory, runs, runs_allowed, runs_units, unlinked_numbers}
+use Rattle.cc_model.specs.Graph.{Graph, objects_of}
+use Rattle.cc_model.specs.Lawful.{AnswersCommand, EachMayBe, WantsMemory, begins_with_at_most_one, ends_with_one, step_with, reply_with, graph_after, has_abandonment_in_place, has_none, is_abandoning, is_gc, is_refused, is_without_memory, runs, runs_allowed, runs_units, unlinked_numbers}
 use Rattle.cc_verdict.specs.Following.{Place}
 use Rattle.cc_verdict.specs.Hearing.{Told, nothing_told, EndsAbandoned, EndsAsTheGraph, MayEnd, hearing}
 use Rattle.cc_verdict.proofs.Came.{came-each, came-ending, came-first, came-rising, came-whole}
 use Rattle.cc_verdict.proofs.Comes.{EachMayCome, none-told, runs-from_none, stays-unabandoned, told_all, unabandoned, with_all}
 use Rattle.cc_verdict.proofs.Coming.{HasFewRuns, coming-ending, coming-first, coming-whole}
-use Rattle.cc_verdict.proofs.Stays.{gc-no_units, graph-granted, graph_after-granted, units-allowed, units-no_gc, units-stay, units-want}
+use Rattle.cc_verdict.proofs.Stays.{gc-no_units, reply-granted, graph_after-granted, units-allowed, units-no_gc, units-stay, units-want}
 
 -- whether an abandonment stands at most where the command allows one, want of memory aside
 abbrev is_whole : Command → List Event → Bool
@@ -29,10 +29,10 @@ told_by p es = told_all (nothing_told p.state.listed p.state.ended) es
 
 -- a reply that may end an answer takes the graph to its step
 pub ended-graph : (p : Place) (c : Command) (es : List Event) (reply : Reply) → MayEnd (with_all (hearing p c) es) reply →
-    graph_after p.state.graph c (Some reply) ≡ step p.state.graph c
+    graph_after p.state.ended p.state.graph c (Some reply) ≡ step_with p.state.ended p.state.graph c
 ended-graph p c es reply ends = ⊎_elim
-    (λ (r : EndsAsTheGraph (with_all (hearing p c) es) reply). ap (λ (q : Reply). graph_after p.state.graph c (Some q)) r.same ∙ graph_after-granted p.state.graph c)
-    (λ (r : EndsAbandoned (with_all (hearing p c) es) reply). ap (λ (q : Reply). graph_after p.state.graph c (Some q)) r.refused ∙ sym (units-stay p.state.graph c r.units))
+    (λ (r : EndsAsTheGraph (with_all (hearing p c) es) reply). ap (λ (q : Reply). graph_after p.state.ended p.state.graph c (Some q)) r.same ∙ graph_after-granted p.state.ended p.state.graph c)
+    (λ (r : EndsAbandoned (with_all (hearing p c) es) reply). ap (λ (q : Reply). graph_after p.state.ended p.state.graph c (Some q)) r.refused ∙ sym (units-stay p.state.ended p.state.graph c r.units))
     ends
 
 -- Heard answers are lawful
@@ -41,7 +41,7 @@ module _ (p : Place) (c : Command) (es : List Event) (reply : Reply) (came : Eac
   heard-rising : nat_le (runs (unlinked_numbers es)) (runs_allowed c) ≡ true
   heard-rising = le-leb _ _ (omega (arith, came-rising (hearing p c) es came (omega arith), runs-from_none (unlinked_numbers es)))
 
-  heard-each : MayEnd (with_all (hearing p c) es) reply → EachMayBe (graph_after p.state.graph c (Some reply)) p.state.listed c es
+  heard-each : MayEnd (with_all (hearing p c) es) reply → EachMayBe (graph_after p.state.ended p.state.graph c (Some reply)) p.state.listed c es
   heard-each ends = subst (λ (g : Graph). EachMayBe g p.state.listed c es) (sym (ended-graph p c es reply ends)) (came-each (hearing p c) es came)
 
   -- Answers that end as the graph says
@@ -59,7 +59,7 @@ module _ (p : Place) (c : Command) (es : List Event) (reply : Reply) (came : Eac
 
   graph-answers : EndsAsTheGraph (with_all (hearing p c) es) reply → AnswersCommand p.state c reply es
   graph-answers r =
-      let granted : is_without_memory reply ≡ false = ap is_without_memory r.same ∙ graph-granted p.state.graph c in
+      let granted : is_without_memory reply ≡ false = ap is_without_memory r.same ∙ reply-granted p.state.ended p.state.graph c in
       record {
         replies = inl r.same;
         quiet = λ q. none-told (nothing_told p.state.listed p.state.ended) es (r.quiet (and_parts (is_refused reply) (not (is_abandoning c reply)) q).0);
@@ -93,15 +93,15 @@ module _ (p : Place) (c : Command) (es : List Event) (reply : Reply) (a : Answer
   none-refused r n = a.quiet (and_from (is_refused reply) (not (is_abandoning c reply)) r (not_from_false (is_abandoning c reply) n))
 
   -- answers that end as the graph says are heard
-  graph-heard : reply ≡ reply_to p.state.graph c → EachMayCome (hearing p c) es × MayEnd (with_all (hearing p c) es) reply
+  graph-heard : reply ≡ reply_with p.state.ended p.state.graph c → EachMayCome (hearing p c) es × MayEnd (with_all (hearing p c) es) reply
   graph-heard same = go (is_gc c) refl
     where
       granted : is_abandoning c reply ≡ false
-      granted = and_right (runs_units c) (is_without_memory reply) (ap is_without_memory same ∙ graph-granted p.state.graph c)
+      granted = and_right (runs_units c) (is_without_memory reply) (ap is_without_memory same ∙ reply-granted p.state.ended p.state.graph c)
 
-      each : EachMayBe (step p.state.graph c) p.state.listed c es
+      each : EachMayBe (step_with p.state.ended p.state.graph c) p.state.listed c es
       each = subst (λ (g : Graph). EachMayBe g p.state.listed c es)
-          (ap (λ (q : Reply). graph_after p.state.graph c (Some q)) same ∙ graph_after-granted p.state.graph c) a.each
+          (ap (λ (q : Reply). graph_after p.state.ended p.state.graph c (Some q)) same ∙ graph_after-granted p.state.ended p.state.graph c) a.each
 
       whole : is_whole c es ≡ true
       whole = sym (in-place c reply es false granted) ∙ a.abandonment
@@ -132,8 +132,8 @@ module _ (p : Place) (c : Command) (es : List Event) (reply : Reply) (a : Answer
       go true u =
           let abandoning : is_abandoning c reply ≡ true = and_from (runs_units c) (is_without_memory reply) u (ap is_without_memory w.refused) in
           let ends : ends_with_one es ≡ true = sym (in-place c reply es true abandoning) ∙ a.abandonment in
-          let each : EachMayBe (step p.state.graph c) p.state.listed c es = subst (λ (g : Graph). EachMayBe g p.state.listed c es)
-          (ap (λ (q : Reply). graph_after p.state.graph c (Some q)) w.refused ∙ sym (units-stay p.state.graph c u)) a.each in
+          let each : EachMayBe (step_with p.state.ended p.state.graph c) p.state.listed c es = subst (λ (g : Graph). EachMayBe g p.state.listed c es)
+          (ap (λ (q : Reply). graph_after p.state.ended p.state.graph c (Some q)) w.refused ∙ sym (units-stay p.state.ended p.state.graph c u)) a.each in
           let come = coming-ending (hearing p c) es u refl ends each few-runs in
           (come.0, inr (record { refused = w.refused; units = u; abandoned = come.1 }))
 

@@ -1,15 +1,15 @@
 -- COLLECTIONS LEAVE THE GRAPH, and no reply by the graph is want of memory.
-use Rattle.std.proofs.Common.{◌≡◌, Bool, true, false, Option, Some, None, refl, sym, ap, ◌∙◌, arith}
+use Rattle.std.proofs.Common.{◌≡◌, Bool, true, false, List, Option, Some, None, refl, sym, ap, ◌∙◌, arith}
 use Rattle.cc_names.specs.declared.name.Name.{Name}
 use Rattle.cc_model.specs.declared.command.Command.{Command}
 use Rattle.cc_model.specs.declared.item.Refusal.{Refusal}
 use Rattle.cc_model.specs.declared.item.Refusal.TheVariants.{Empty, Kind, Slot, Full}
 use Rattle.cc_model.specs.declared.item.Reply.{Reply}
 use Rattle.cc_model.specs.declared.item.Reply.TheVariants.{Refused}
-use Rattle.cc_model.specs.Mutating.{Class, class_of, is_deed, is_units, is_script_collection}
+use Rattle.cc_model.specs.Mutating.{Class, reads_weak, class_of, is_deed, is_units, is_script_collection, is_weak_reader, reads_weakly}
 use Rattle.cc_model.specs.Checks.{Objects, named_or_nothing, refusal_of, refused_or, reply_if_taken, lacks_object, has_wrong_object, has_no_slot, has_wrong_content, is_full}
 use Rattle.cc_model.specs.Graph.{Graph, objects_of, reply_to, step}
-use Rattle.cc_model.specs.Lawful.{State, class_may_want_memory, graph_after, is_gc, is_refused, is_without_memory, may_want_memory, runs_units}
+use Rattle.cc_model.specs.Lawful.{State, class_may_want_memory, noted_in, step_of, step_with, reply_of_class, reply_with, graph_after, is_gc, is_refused, is_without_memory, may_want_memory, runs_units}
 use Rattle.cc_model.proofs.NoDeeds.{no_deed-allowed, no_deed-leaves}
 
 -- Replies by the graph
@@ -55,9 +55,30 @@ graph-granted g c = go (refusal_of (objects_of g) c) refl
     go None e = not_refused-granted (reply_if_taken (objects_of g) c) (taken-not_refused (objects_of g) c)
     go (Some refusal) e = refusal-granted (objects_of g) c refusal e
 
+-- beside ended names neither
+reply_of-granted : (ended : List Name) (g : Graph) (c : Command) (k : Class) → is_without_memory (reply_of_class ended g c k) ≡ false
+reply_of-granted ended g c (reads_weak d w) = not_refused-granted (named_or_nothing (noted_in ended g w)) (named-not_refused (noted_in ended g w))
+reply_of-granted ended g c k = graph-granted g c
+
+pub reply-granted : (ended : List Name) (g : Graph) (c : Command) → is_without_memory (reply_with ended g c) ≡ false
+reply-granted ended g c = reply_of-granted ended g c (class_of c)
+
 -- the reply by the graph takes the graph to its step
-pub graph_after-granted : (g : Graph) (c : Command) → graph_after g c (Some (reply_to g c)) ≡ step g c
-graph_after-granted g c = ap (λ b. elim b [ true ↦ g | false ↦ step g c ]) (graph-granted g c)
+pub graph_after-granted : (ended : List Name) (g : Graph) (c : Command) → graph_after ended g c (Some (reply_with ended g c)) ≡ step_with ended g c
+graph_after-granted ended g c = ap (λ b. elim b [ true ↦ g | false ↦ step_with ended g c ]) (reply-granted ended g c)
+
+-- where no weak register is read, the step and the reply are the graph's own
+step_of-plain : (ended : List Name) (g : Graph) (c : Command) (k : Class) → is_weak_reader k ≡ false → step_of ended g c k ≡ step g c
+step_of-plain ended g c k e = grind arith
+
+pub step-plain : (ended : List Name) (g : Graph) (c : Command) → reads_weakly c ≡ false → step_with ended g c ≡ step g c
+step-plain ended g c e = step_of-plain ended g c (class_of c) e
+
+reply_of-plain : (ended : List Name) (g : Graph) (c : Command) (k : Class) → is_weak_reader k ≡ false → reply_of_class ended g c k ≡ reply_to g c
+reply_of-plain ended g c k e = grind arith
+
+pub reply-plain : (ended : List Name) (g : Graph) (c : Command) → reads_weakly c ≡ false → reply_with ended g c ≡ reply_to g c
+reply-plain ended g c e = reply_of-plain ended g c (class_of c) e
 
 -- Collections in units
 
@@ -65,9 +86,13 @@ graph_after-granted g c = ap (λ b. elim b [ true ↦ g | false ↦ step g c ]) 
 units-no_deed : (k : Class) → is_units k ≡ true → is_deed k ≡ false
 units-no_deed k e = grind arith
 
+-- units read no weak register
+units-read_none : (k : Class) → is_units k ≡ true → is_weak_reader k ≡ false
+units-read_none k e = grind arith
+
 -- collections in units leave the graph
-pub units-stay : (g : Graph) (c : Command) → runs_units c ≡ true → step g c ≡ g
-units-stay g c e = no_deed-leaves c (units-no_deed (class_of c) e) g
+pub units-stay : (ended : List Name) (g : Graph) (c : Command) → runs_units c ≡ true → step_with ended g c ≡ g
+units-stay ended g c e = step-plain ended g c (units-read_none (class_of c) e) ∙ no_deed-leaves c (units-no_deed (class_of c) e) g
 
 -- the graph refuses no collection in units
 pub units-allowed : (o : Objects) (c : Command) → runs_units c ≡ true → refusal_of o c ≡ None

@@ -7,6 +7,7 @@ use Rattle.cc_model.specs.declared.command.Command.{Command}
 use Rattle.cc_model.specs.declared.command.Command.TheVariants.{Nothing}
 use Rattle.cc_model.specs.Asks.{Ask, taken}
 use Rattle.cc_model.specs.Graph.{Graph, GraphNative, native_in}
+use Rattle.cc_model.specs.Mutating.{reads_weakly}
 use Rattle.cc_model.specs.Lawful.{is_gc, is_refused, runs_units}
 use Rattle.cc_model.specs.Listed.{after_reply}
 use Rattle.cc_model.specs.Quiet.{CensusIsQuiet}
@@ -33,6 +34,11 @@ CanGoOn (within h) asks = IsTrue (is_refused h.reply && not (runs_units h.comman
 -- the commands among asks are in their ranges
 abbrev pub AreInRange : List Ask → Type 0
 AreInRange asks = (c : Command) → Among (taken c) asks → IsTrue (in_range c)
+
+-- and none of them reads a weak register: what is unlinked or freed may be led to by a native that has not ended, which such a
+-- command brings back
+abbrev pub ReadNone : List Ask → Type 0
+ReadNone asks = (c : Command) → Among (taken c) asks → reads_weakly c ≡ false
 
 -- a reflector that is not preserved has empty slots, and is the key of no entry and the delegate of no proxy
 abbrev pub AreBlank : Graph → Type 0

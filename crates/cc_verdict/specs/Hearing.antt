@@ -13,10 +13,10 @@ use Rattle.cc_model.specs.declared.item.Event.{Event}
 use Rattle.cc_model.specs.declared.item.Event.TheVariants.{Unlinked, Freed, Abandoned}
 use Rattle.cc_model.specs.Answers.{replying}
 use Rattle.cc_model.specs.Asks.{Ask, taken}
-use Rattle.cc_model.specs.Graph.{Graph, step, reply_to}
+use Rattle.cc_model.specs.Graph.{Graph}
 use Rattle.cc_model.specs.Reached.{Reached}
 use Rattle.cc_model.specs.Listed.{after_event, after_reply, ended_with}
-use Rattle.cc_model.specs.Lawful.{break_between, is_gc, is_refused, may_free, may_unlink, runs_allowed, runs_units}
+use Rattle.cc_model.specs.Lawful.{step_with, reply_with, break_between, is_gc, is_refused, may_free, may_unlink, runs_allowed, runs_units}
 use Rattle.cc_model.specs.Quiet.{Row, row_after}
 use Rattle.cc_verdict.specs.Following.{Place, place, Follows}
 
@@ -65,8 +65,8 @@ is_heard _ = true
 abbrev pub hearing : Place → Command → Hearing
 hearing p c = record {
   command = c;
-  reply = reply_to p.state.graph c;
-  graph = step p.state.graph c;
+  reply = reply_with p.state.ended p.state.graph c;
+  graph = step_with p.state.ended p.state.graph c;
   row = p.row;
   told = nothing_told p.state.listed p.state.ended;
 }

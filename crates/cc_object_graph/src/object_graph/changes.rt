@@ -1,5 +1,6 @@
 //! What a command makes of the graph.
 ghost use Rattle.std.specs.Prelude.{◌≡◌, ◌<◌, false, length, IsTrue, OnOk};
+ghost use Rattle.cc_model.specs.declared.command.Command.TheVariants.{Drop};
 ghost use Rattle.cc_model.specs.Checks.{is_full};
 ghost use Rattle.cc_model.specs.Graph.{changed, objects_of};
 ghost use Rattle.cc_model.specs.Ranges.{in_range};
@@ -13,6 +14,16 @@ use cc_names::{NoMemory, Reg};
 
 #[tactic(auto, unfolding(cc_model::specs::Graph::changed, cc_model::specs::Graph::done_to, cc_model::specs::Deeds::deed_of))]
 impl ObjectGraph {
+    /// Empties a register of any kind.
+    fn empty(&mut self, r: Reg)
+        ensures { self.new ≡ changed self.old (Drop r) }
+    {
+        match r {
+            Reg::N(_) | Reg::S(_) => self.set_register(r, None),
+            Reg::W(w) => self.set_weak(w, None),
+        }
+    }
+
     /// Does a command that takes no memory.
     fn write(&mut self, command: &Command)
         requires no_memory { may_take_memory command.now ≡ false }
@@ -22,7 +33,7 @@ impl ObjectGraph {
         match *command {
             Command::CopyNative(d, s) => self.set_register(Reg::N(d), self.register(Reg::N(s))),
             Command::CopyScript(d, s) => self.set_register(Reg::S(d), self.register(Reg::S(s))),
-            Command::Drop(r) => self.set_register(r, None),
+            Command::Drop(r) => self.empty(r),
             Command::Set(d, i, from) => {
                 self.set_slot(self.register(Reg::N(d)), i, self.source(from))
             }
@@ -45,6 +56,7 @@ impl ObjectGraph {
             }
             Command::Preserve(s) => self.preserve(self.register(Reg::S(s))),
             Command::GetEntry(d, m, k) => self.set_register(Reg::S(d), self.value_at(m, k)),
+            Command::Weak(w, s) => self.set_weak(w, self.register(Reg::N(s))),
             _ => (),
         }
     }

@@ -1,10 +1,10 @@
 //! Registers, slots and entries written.
 ghost use Rattle.std.specs.Prelude.{◌≡◌, IfSome, OnOk};
-ghost use Rattle.cc_model.specs.Graph.{delegate_in, move_slot, preserve, set_entry, set_register, set_slot, wrapped};
+ghost use Rattle.cc_model.specs.Graph.{delegate_in, move_slot, preserve, set_entry, set_register, set_slot, set_weak, wrapped};
 ghost use Rattle.cc_object_graph.specs.Keyed.{HasKey};
 
 use crate::object_graph::ObjectGraph;
-use cc_names::{Name, NoMemory, Reg};
+use cc_names::{Name, NoMemory, Reg, WeakNo};
 
 impl ObjectGraph {
     /// Writes a register that is a root. A weak one is none: nothing is written.
@@ -16,6 +16,13 @@ impl ObjectGraph {
             Reg::S(r) => self.script_registers.write(r as usize, content),
             Reg::W(_) => (),
         }
+    }
+
+    /// Writes what a weak register notes.
+    pub(super) fn set_weak(&mut self, w: WeakNo, content: Option<Name>)
+        ensures { self.new ≡ set_weak self.old w content }
+    {
+        self.weak_registers.write(w as usize, content);
     }
 
     /// Writes slot `i` of an object that may be there.

@@ -17,7 +17,7 @@ use Rattle.cc_verdict.specs.Following.{Follows, Place, place_after}
 use Rattle.cc_verdict.specs.Hearing.{hearing}
 use Rattle.cc_verdict.proofs.Answered.{answer_lines, answered-follows, follows-answered, heard-hears, hears-heard, place-ended}
 use Rattle.cc_verdict.proofs.HeardAnswers.{answers-heard, heard-answers}
-use Rattle.cc_verdict.proofs.Stays.{graph-granted}
+use Rattle.cc_verdict.proofs.Stays.{reply-granted}
 use Rattle.cc_verdict.proofs.answers.answers_are_heard.Goals as goal
 
 abbrev no_memory : Reply
@@ -54,7 +54,7 @@ event-memory Abandoned e = false≢true (eq-eqb 45 33 (ap (byte_at 0) e))
 unmet-parts : (s : State) (c : Command) → AnswersCommand s c no_memory [] →
     (may_want_memory s c ≡ true) × (refusal_of (objects_of s.graph) c ≡ None)
 unmet-parts s c a = ⊎_elim
-    (λ same. absurd (true≢false (ap is_without_memory same ∙ graph-granted s.graph c)))
+    (λ same. absurd (true≢false (ap is_without_memory same ∙ reply-granted s.ended s.graph c)))
     (λ (w : WantsMemory s c no_memory). (w.command_may, w.no_other))
     a.replies
 
