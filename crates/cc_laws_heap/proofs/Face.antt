@@ -1,6 +1,6 @@
 -- WHAT CRATES WITH CODE CITE of these laws' proofs: they name this module and no other.
 pub use Rattle.cc_laws_heap.proofs.Apart.{unlink-stands}
-pub use Rattle.cc_laws_heap.proofs.BroughtBack.{come_back-given, hold-stands, hold-well}
+pub use Rattle.cc_laws_heap.proofs.BroughtBack.{IsGivenNative, come_back-given, come_back-there, hold-invariant, hold-sound, hold-stands, hold-unreached, hold-well, usable-given, usable-native}
 pub use Rattle.cc_laws_heap.proofs.Buffer.{places-with_mark_other, places-with_mark_same}
 pub use Rattle.cc_laws_heap.proofs.BufferStands.{HasColourInvariant-buffer, IsSound-buffer, StandsFor-buffer}
 pub use Rattle.cc_laws_heap.proofs.CascadeTakesOut.{TakesOut-cascade, TakesOut-let_go, let_go-gone}
@@ -25,7 +25,7 @@ pub use Rattle.cc_laws_heap.proofs.Freed.{TakesOut}
 pub use Rattle.cc_laws_heap.proofs.FreedNames.{FreesNames-left}
 pub use Rattle.cc_laws_heap.proofs.Given.{Reached-given, living-given, living-named, named-living}
 pub use Rattle.cc_laws_heap.proofs.GiveUp.{IsBalanced-give_up_each, living-one, lower_native}
-pub use Rattle.cc_laws_heap.proofs.GraphCommands.{KeepsReflector-slot, proxy-well, step-well}
+pub use Rattle.cc_laws_heap.proofs.GraphCommands.{KeepsReflector-slot, proxy-well, step-well, step_with-well}
 pub use Rattle.cc_laws_heap.proofs.GraphLeads.{graph-within}
 pub use Rattle.cc_laws_heap.proofs.GraphParts.{Grows, IsMadeEntry-grows, IsWellMade-entries, is_some-found, with_natives}
 pub use Rattle.cc_laws_heap.proofs.GraphReads.{Made, MadeNative, MadeScript, native_register-made}
@@ -75,6 +75,7 @@ pub use Rattle.cc_laws_heap.proofs.Swept.{scripts-sweep, sweep-sound}
 pub use Rattle.cc_laws_heap.proofs.Taken.{IsTaken, IsTaken-from}
 pub use Rattle.cc_laws_heap.proofs.TakingAway.{IsSound-permuted, IsTaking, others-kept, take_away-leaves, take_away-sound, take_away-takes, taken-emptied, unroot_each-taking}
 pub use Rattle.cc_laws_heap.proofs.Unlinking.{Unlinks, unlink-keeps}
+pub use Rattle.cc_laws_heap.proofs.UnlinkedKept.{KeepUnlinked, KeepUnlinked-refl, KeepUnlinked-then, WasThere, WasThereOrMade, collect_scripts-unlinked, done_in-unlinked, empty_buffer-unlinked, give_back-unlinked, hold-unlinked, sweep-unlinked, take_away-unlinked, unlinked-kept, usable-kept}
 pub use Rattle.cc_laws_heap.proofs.Unseen.{Leaves-exposed, Leaves-let_go, Leaves-take_up, Leaves-touched}
 pub use Rattle.cc_laws_heap.proofs.WeakRegisters.{Follows-weak_register, reached-weak, weak-stands}
 pub use Rattle.cc_laws_heap.proofs.Wrapping.{Follows-wrapped}

@@ -94,6 +94,7 @@ pub mod Wrapping
 pub mod StepsAlike
 pub mod WeakRegisters
 pub mod CommandsStand
+pub mod UnlinkedKept
 pub mod BroughtBack
 pub mod Lengthening
 pub mod GraphLeads

@@ -2,9 +2,9 @@
 //!
 //! Each function has an empty body and is a law that its clauses state, over the definitions of `cc_model` and a few
 //! words of this crate's own. Of `specs` a reader of the laws needs `Sound` (heaps whose counts are those of the
-//! references), `Marks` (closed marks, which a sweep asks for), `Freeing`, `Rounds` and `Ending` (what a cascade, a script
-//! collection and the end of a collection tell and take out). `Balance` says what holds between two steps of a cascade;
-//! the crates with code need it.
+//! references), `Marks` (closed marks, which a sweep asks for), `Apart` (natives to which nothing else leads, which an end
+//! asks for), `Freeing`, `Rounds` and `Ending` (what a cascade, a script collection and the end of a collection tell and
+//! take out). `Balance` says what holds between two steps of a cascade; the crates with code need it.
 //!
 //! Those crates prove that their calls are the definitions of `cc_model`, and cite these laws.
 #![tactic(auto)]
