@@ -18,7 +18,7 @@ use Rattle.cc_model.proofs.Places.{preserved_edge, native_edges-split}
 use Rattle.cc_model.specs.WellFormed.{script_names}
 use Rattle.cc_model.specs.StandsFor.{StandsFor}
 use Rattle.cc_laws_heap.specs.Sound.{IsSound}
-use Rattle.cc_laws_heap.proofs.Face.{AreColoured-from_view, Follows-preserved, HasColourInvariant-from, IsWellMade-change_native, KeepsNative-preserved, Reached-given, follows-stands, in-reached, native_at-change_same, set_preserved-sound}
+use Rattle.cc_laws_heap.proofs.Face.{AreColoured-from_view, Follows-preserved, HasColourInvariant-from, IsWellMade-change_native, KeepsNative-preserved, follows-stands, in-reached, native_at-change_same, set_preserved-sound}
 use Rattle.cc_heaps.specs.Standing.{IsReached, MayHold, StandsAfter, KeepsFresh, KeepsSuspected, KeepsColours}
 use Rattle.cc_heaps.proofs.Reflecting.{there-made, Follows-reflector}
 
@@ -32,7 +32,7 @@ module _ {owned : List ℕ} (h : Heap) (k : ℕ) (s : IsSound owned h) (there : 
   preserved-stands r g m t =
       let well = IsWellMade-change_native g k as_preserved (λ n q. q) m (KeepsNative-preserved g k (there-made h g (reflector k) s.well_formed t there)) in (
         well,
-        Follows-reflector h g k s.well_formed m t there (Reached-given h g (native k) (in-reached h g s.well_formed m t (native k) r))
+        Follows-reflector h g k s.well_formed m t there (in-reached h g s.well_formed m t (native k) r)
             (StandsFor (set_preserved h k true) (graph.preserve g (Some (reflector k))))
             (λ P p q f. follows-stands P (set_preserved h k true) (graph.preserve g (Some (reflector k))) preserved-sound.well_formed well
             (Follows-preserved P h g k p q f)),

@@ -25,7 +25,7 @@ use Rattle.cc_heaps.proofs.Reflecting.{there-made, held-made, Follows-reflector}
 pub handed-reached : (h : Heap) (g : Graph) (x : Option Name) → IsWellFormed h → IsWellMade g → StandsFor h g → IsReached h x → OfSome (Reached g) x
 handed-reached h g x w m s r = grind (arith, in-reached)
 
--- and given
+-- so it is given
 pub handed-given : (h : Heap) (g : Graph) (x : Option Name) → IsWellFormed h → IsWellMade g → StandsFor h g → IsReached h x → OfSome (Given h g) x
 handed-given h g x w m s r = OfSome-then (Reached g) (Given h g) (Reached-given h g) x (handed-reached h g x w m s r)
 
@@ -47,16 +47,13 @@ held_script-stands {owned} h d x s there r g m t = (well, go x there r)
     start : Follows (Given h g) h g
     start = stands-follows h g s.well_formed t
 
-    up : (y : Name) → IsReached h (Some y) → Given h g y
-    up y d = Reached-given h g y (in-reached h g s.well_formed m t y d)
-
     go : (y : Option Name) → IsIn (script_names h) y → IsReachedOrReflects h y → StandsFor (hold_script h d y) (graph.set_register g (S d) y)
     go None i q = stands (Given h g) None i tt start
     go (Some (name.Native k)) i q = absurd (native-no_script h k.0 s.well_formed (i (native k.0) (inl refl)))
-    go (Some (name.Script k)) i q = stands (Given h g) (Some (object k.0)) i (up (object k.0) q) start
+    go (Some (name.Script k)) i q = stands (Given h g) (Some (object k.0)) i (handed-given h g (Some (object k.0)) s.well_formed m t q) start
     go (Some (name.Reflector k)) i q = ⊎_elim
-        (λ a. stands (Given h g) (Some (reflector k.0)) i (up (reflector k.0) a) start)
-        (λ a. Follows-reflector h g k.0 s.well_formed m t (i (reflector k.0) (inl refl)) (up (native k.0) a)
+        (λ a. stands (Given h g) (Some (reflector k.0)) i (handed-given h g (Some (reflector k.0)) s.well_formed m t a) start)
+        (λ a. Follows-reflector h g k.0 s.well_formed m t (i (reflector k.0) (inl refl)) (in-reached h g s.well_formed m t (native k.0) a)
         (StandsFor (hold_script h d (Some (reflector k.0))) (graph.set_register g (S d) (Some (reflector k.0))))
         (λ P p b f. stands P (Some (reflector k.0)) i b f)) q
 

@@ -1,22 +1,23 @@
 -- HEAPS GO ON STANDING FOR THE SAME GRAPHS, and the colours stay as they should be: where something changes that no graph
--- sees, where references are taken and given up, and where a native that is apart is unlinked.
-use Rattle.std.proofs.Common.{◌≡◌, ℕ, Bool, List, [], ◌∷◌, Option, Some, None, refl, sym, subst, inl, IsSome, MatchOption}
+-- sees, where references are taken and given up, and where what no register reaches is unlinked.
+use Rattle.std.proofs.Common.{arith, ◌≡◌, ℕ, Bool, List, [], ◌∷◌, Option, Some, None, refl, sym, ◌∙◌, subst, inl, IsSome, MatchOption}
 use Rattle.cc_lists.specs.Members.{Among}
 use Rattle.cc_names.specs.declared.name.Name.{Name}
 use Rattle.cc_names.specs.declared.number.NKey.{NKey}
 use Rattle.cc_names.specs.Names.{native}
 use Rattle.cc_model.specs.Given.{Given}
 use Rattle.cc_model.specs.Heap.{Heap, Buffered, buffered_as}
-use Rattle.cc_model.specs.View.{view}
+use Rattle.cc_model.specs.View.{view, ReachedIn}
 use Rattle.cc_model.specs.Cascade.{add_ref, cascade}
 use Rattle.cc_model.specs.End.{unlink}
 use Rattle.cc_model.specs.Exposure.{exposed}
 use Rattle.cc_model.specs.Colours.{HasColourInvariant}
 use Rattle.cc_model.specs.WellFormed.{IsWellFormed, native_names}
+use Rattle.cc_model.specs.StandsFor.{shape_at}
 use Rattle.cc_laws_heap.specs.Sound.{IsSound}
-use Rattle.cc_laws_heap.specs.Freeing.{SameBeside}
 use Rattle.cc_laws_heap.specs.Apart.{AreApart}
-use Rattle.cc_laws_heap.proofs.Face.{AreColoured-from_view, Follows-left, HasColourInvariant-buffer, HasColourInvariant-from, HoldsTheSame-add_ref, Leaves, Leaves-exposed, StandsFor-buffer, add_ref-sound, add_ref-stands, cascade-frees, cascade-sound, cascade-stands, exposed-sound, follows-stands, stands-follows, unlink-keeps, unlink-stands}
+use Rattle.cc_laws_heap.specs.Freeing.{SameBeside}
+use Rattle.cc_laws_heap.proofs.Face.{AreColoured-from_view, Follows-left, HasColourInvariant-from, HoldsTheSame-add_ref, Leaves, Leaves-exposed, add_ref-sound, add_ref-stands, cascade-frees, cascade-sound, cascade-stands, exposed-sound, follows-stands, reached-in, stands-follows, unlink-keeps, unlink-stands}
 use Rattle.cc_heaps.specs.Keyed.{Keyed, IsInOrder, changed_to, number_at, the_number}
 use Rattle.cc_heaps.specs.Standing.{StillStands}
 use Rattle.cc_heaps.proofs.Calls.{number-there}
@@ -38,9 +39,32 @@ exposed-still {owned} h x s = StillStands-left h (exposed h x) s.well_formed (ex
 
 -- The buffer
 
--- The buffer changes.
-pub buffer-goes_on : (h : Heap) (buffer : List Buffered) → GoesOn h (record h { buffer = buffer })
-buffer-goes_on h buffer = record { stands = λ g m s. StandsFor-buffer h buffer g s; colours = HasColourInvariant-buffer h buffer }
+module _ (h : Heap) (buffer : List Buffered) where
+  abbrev rebuffered : Heap
+  rebuffered = record h { buffer = buffer }
+
+  shape_at-buffer : (x : Name) → shape_at rebuffered x ≡ shape_at h x
+  shape_at-buffer x = grind arith
+
+  -- The buffer changes.
+  pub buffer-goes_on : GoesOn h (record h { buffer = buffer })
+  buffer-goes_on = record {
+    stands = λ g m s. record {
+      native_registers = s.native_registers;
+      script_registers = s.script_registers;
+      limits = s.limits;
+      natives_made = s.natives_made;
+      scripts_made = s.scripts_made;
+      natives = s.natives;
+      scripts = s.scripts;
+      given = λ x d. let k = s.given x d in record { shape = k.shape; made = k.made; there = shape_at-buffer x ∙ k.there };
+      values = s.values;
+      spent = s.spent;
+      entries = s.entries;
+      blank = s.blank;
+    };
+    colours = λ c. record { black_to_black = c.black_to_black; held_black = c.held_black; none_white = c.none_white };
+  }
 
 -- a native and its mark
 abbrev pub Front : Type 0

@@ -15,7 +15,7 @@ use Rattle.cc_heaps.proofs.Leaving.{hold_native-tells}
 use Rattle.cc_heaps.proofs.FewCounts.{few-owned}
 use Rattle.cc_heaps.proofs.Following.{Keeps, hold_native-keeps}
 use Rattle.cc_heaps.proofs.KeysKept.{KeepsKeys-left}
-use Rattle.cc_heaps.proofs.StandingAfter.{native_register-stands, brought_back-stands}
+use Rattle.cc_heaps.proofs.StandingAfter.{native_register-stands}
 use Rattle.cc_heaps.proofs.Content.{held_of_native-name, native-in}
 use Rattle.cc_heaps.proofs.MarksKept.{marks-left}
 use Rattle.cc_heaps.proofs.heaps.Heaps.set_native_reg.Given as given
@@ -84,12 +84,7 @@ returns-clause-kept g c = record {
 pub returns-clause-stands : goal.returns-clause-stands
 returns-clause-stands g c =
     let f = c.requires.order in
-    native_register-stands c.args.self.now c.put_in_register.new.self f.1 ((returns-clause-kept g c).order f.0 f.1) c.args.r c.args.content (returns-clause-heap g c)
-
-pub returns-clause-brought_back : goal.returns-clause-brought_back
-returns-clause-brought_back g c =
-    let f = c.requires.order in
-    brought_back-stands c.args.self.now c.put_in_register.new.self f.1 ((returns-clause-kept g c).order f.0 f.1) c.args.r c.args.content (returns-clause-heap g c) c.requires.within
+    native_register-stands c.args.self.now c.put_in_register.new.self f.1 ((returns-clause-kept g c).order f.0 f.1) c.args.r c.args.content c.requires.within (returns-clause-heap g c)
 
 pub returns-clause-tells : goal.returns-clause-tells
 returns-clause-tells g c =
