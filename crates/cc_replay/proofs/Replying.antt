@@ -13,15 +13,16 @@ use Rattle.cc_model.specs.Telling.{Telling, Tells}
 use Rattle.cc_model.specs.Answers.{items_of, item_of_step}
 use Rattle.cc_model.specs.Derivations.{leads_in, path_to, is_led_to, done_or_nothing}
 use Rattle.cc_model.specs.Ranges.{in_range}
-use Rattle.cc_model.specs.Mutating.{is_applied, Class, Saying, path, census, says, does, class_of, is_deed, takes_memory_to_say}
+use Rattle.cc_model.specs.Mutating.{is_applied, Class, Saying, path, census, says, does, forgets, class_of, is_deed, takes_memory_to_say}
 use Rattle.cc_model.specs.Asks.{taken}
 use Rattle.cc_model.specs.Checks.{refusal_of, reply_if_taken}
 use Rattle.cc_model.specs.Deeds.{deed_of}
-use Rattle.cc_model.specs.Heap.{objects_of}
+use Rattle.cc_model.specs.Heap.{Heap, objects_of}
 use Rattle.cc_model.specs.Effects.{effects, takes_memory}
 use Rattle.cc_model.specs.Marking.{marking_after}
+use Rattle.cc_model.specs.Skipping.{forgotten}
 use Rattle.cc_model.specs.Lawful.{is_without_memory}
-use Rattle.cc_model.specs.Run.{Turn, answering, with_effects, beside_deed, if_granted, unless_refused, mutate, census_names, do_ask, turn_of, said, do_class}
+use Rattle.cc_model.specs.Run.{Turn, answering, with_effects, beside_deed, if_granted, unless_refused, mutate, forget_suspects, census_names, do_ask, turn_of, said, do_class}
 use Rattle.cc_model.specs.Collecting.{Machine, UnitsDone, slice, collect, gc, reply_to_units}
 use Rattle.cc_model.specs.End.{Progress}
 use Rattle.cc_model.proofs.Replies.{is_without_memory-true}
@@ -36,8 +37,8 @@ use Rattle.cc_laws_run.specs.Memory.{SameMachine, with_memory}
 use Rattle.cc_laws_run.proofs.Face.{deed-leaves_weak}
 
 -- A command that a line asks is one of the mutator, where it is none of these
-pub others-applied : (c : Command) → IsTrue (in_range c) → c ≢ command.Nothing → c ≢ command.Version2 → ((x : Name) → c ≢ command.Why x) → c ≢ command.Census → ((u : ℕ) → c ≢ command.Slice u) → c ≢ command.Collect → c ≢ command.Gc → IsTrue (is_applied c)
-others-applied c range no_line no_version no_why no_census no_slice no_collect no_gc = grind arith
+pub others-applied : (c : Command) → IsTrue (in_range c) → c ≢ command.Nothing → c ≢ command.Version2 → c ≢ command.Forget → ((x : Name) → c ≢ command.Why x) → c ≢ command.Census → ((u : ℕ) → c ≢ command.Slice u) → c ≢ command.Collect → c ≢ command.Gc → IsTrue (is_applied c)
+others-applied c range no_line no_version no_forget no_why no_census no_slice no_collect no_gc = grind arith
 
 -- the plain run does what the class of a command does
 class-done : (m : Machine) (c : Command) (k : Class) → class_of c ≡ k → do_ask m (taken c) ≡ do_class m c k
@@ -157,6 +158,14 @@ module _ (old new : Machine) (before after : Telling) where
 -- what stays is the same machine
 same-still : (m : Machine) (memory : List Bool) → SameMachine (with_memory m memory) m
 same-still m memory = record { heap = refl; weak = refl; marking = refl; snapshot = refl }
+
+-- SUSPECTS FORGOTTEN, by the heaps without their marks
+pub answered-forget : (old new : Heap) (kept : Option Built) (before after : Telling) → new ≡ forgotten old → Tells before after (of_reply Done ∷ []) →
+    IsAnswered (machine_of old kept) (machine_of new kept) (taken command.Forget) before after
+answered-forget old new kept before after is t =
+    let m = with_memory (machine_of old kept) [] in
+    by_turn (machine_of old kept) (machine_of new kept) before after command.Forget [] (forget_suspects m) (class-done m command.Forget forgets refl)
+    (record { heap = sym is; weak = refl; marking = refl; snapshot = refl }) t
 
 -- WHAT IS SAID, where there is memory
 pub answered-said : (m : Machine) (c : Command) (q : Saying) (before after : Telling) → class_of c ≡ says q → Tells before after (items_of (said m.heap q)) →

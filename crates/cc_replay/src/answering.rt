@@ -29,6 +29,7 @@ use cc_names::{Name, NoMemory};
 use cc_outside::Source;
 use cc_paths::why;
 use cc_reader::{Line, Lines, ReadStop, parse};
+use cc_skip::forget;
 use std::alloc::Global;
 use std::marker::Brand;
 use std::sync::ledger::{Blank, Ledger};
@@ -105,6 +106,18 @@ fn answer_mutator<N: Notices>(
     out.tell(Item::Reply(reply));
 }
 
+/// Answers `forget`: suspects that the registers reach over edges lose their mark. It forgets no native that nothing reaches,
+/// whatever the candidates of a running collection are.
+fn answer_forget<N: Notices>(heaps: &mut Heaps, collector: &Collector, out: &mut N)
+    requires runs { RunsIn heaps.old collector.now }
+    ensures answered { IsAnswered (machine_of heaps.old.heap collector.now) (machine_of heaps.new.heap collector.now) (taken command.Forget) (N.telling out.old) (N.telling out.new) }
+    ensures remembers { KeepsSuspected heaps.old.heap heaps.new.heap }
+    ensures runs { RunsIn heaps.new collector.now }
+{
+    forget(heaps);
+    out.tell(Item::Reply(Reply::Done));
+}
+
 /// Answers `why`: tells how the registers reach the object, or that none does.
 fn answer_why<N: Notices>(alloc: Global, name: &Name, heaps: &Heaps, out: &mut N)
     requires order { IsInOrder [] heaps.now }
@@ -134,6 +147,7 @@ fn answer_command<N: Notices>(
     match command {
         Command::Nothing => {}
         Command::Version2 => out.tell(Item::Reply(Reply::Done)),
+        Command::Forget => answer_forget(heaps, collector, out),
         Command::Why(name) => answer_why(alloc, &name, heaps, out),
         Command::Census => answer_census(heaps, out),
         Command::Slice(units) => {
