@@ -17,10 +17,10 @@ use Rattle.cc_model.specs.End.{Progress, went_on, at_end, refused, UnitDone, aba
 use Rattle.cc_model.specs.Collecting.{Machine, UnitsDone, no_units, next_answer, one_unit, units_done, enough_units, to_the_end, finish_running, slice, starting_anew, collect, gc}
 use Rattle.cc_model.proofs.UnitsEnd.{to_the_end-stops}
 use Rattle.cc_laws_heap.specs.Sound.{IsSound}
-use Rattle.cc_laws_heap.proofs.Face.{IsBuffer, collect_scripts-invariant, collect_scripts-sound, with_buffer}
+use Rattle.cc_laws_heap.proofs.Face.{HasColourInvariant-buffer, IsBuffer, IsSound-buffer, collect_scripts-invariant, collect_scripts-sound, with_buffer}
 use Rattle.cc_laws_snapshot.proofs.Face.{after_node-fresh, begun-fresh, give_back-buffer, given_back, given_back-buffer, reached-there, taking_white-colours, taking_white-sound, white_natives-there, white_natives-unreached}
 use Rattle.cc_laws_run.specs.Running.{IsFreshNow}
-use Rattle.cc_laws_run.proofs.Face.{HasColourInvariant-buffer, IsSound-buffer, traversed-none, unit-cases, units_done-keep, with_empty_buffer-sound}
+use Rattle.cc_laws_run.proofs.Face.{traversed-none, unit-cases, units_done-keep, with_empty_buffer-sound}
 use Rattle.cc_laws_run.specs.Memory.{with_memory}
 use Rattle.cc_heaps.specs.Keyed.{Keyed}
 use Rattle.cc_builder.specs.Building.{Built}

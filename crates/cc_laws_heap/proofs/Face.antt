@@ -1,5 +1,6 @@
 -- WHAT CRATES WITH CODE CITE of these laws' proofs: they name this module and no other.
 pub use Rattle.cc_laws_heap.proofs.Buffer.{places-with_mark_other, places-with_mark_same}
+pub use Rattle.cc_laws_heap.proofs.BufferStands.{HasColourInvariant-buffer, IsSound-buffer, StandsFor-buffer}
 pub use Rattle.cc_laws_heap.proofs.CascadeTakesOut.{TakesOut-cascade, TakesOut-let_go, let_go-gone}
 pub use Rattle.cc_laws_heap.proofs.Cascades.{above-one_at_zero, cascade-frees, cascade-sound, one_above_zero-above, one_at_zero-above}
 pub use Rattle.cc_laws_heap.proofs.Changing.{Follows-left, Leaves, option_map-found}

@@ -14,6 +14,7 @@ pub mod Folding
 pub mod Giving
 pub mod Cascades
 pub mod Kept
+pub mod BufferStands
 pub mod Making
 pub mod HoldsTheSame
 pub mod Owning

@@ -1,5 +1,5 @@
 -- WHAT A WRITE OF A REGISTER, A SLOT, A FLAG OR A COLOUR DOES TO THE COUNTS: the new content is owned before, the old one after.
-use Rattle.std.proofs.Common.{◌≡◌, ℕ, ◌<◌, ◌≤◌, Bool, true, List, ◌++◌, length, set, get_or, Option, Some, None, refl, sym, ◌∙◌, subst, ⊎_elim, arith, ◌==◌}
+use Rattle.std.proofs.Common.{◌≡◌, ℕ, ◌<◌, ◌≤◌, Bool, true, List, ◌++◌, length, set, get_or, Option, Some, None, refl, sym, subst, ⊎_elim, arith, ◌==◌}
 use Rattle.std.specs.Option.{option_to_list}
 use Rattle.std.proofs.lemmas.Bool.{eqb-true}
 use Rattle.std.proofs.lemmas.List.{length-set}

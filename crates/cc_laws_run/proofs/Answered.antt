@@ -162,7 +162,7 @@ mutate-answers m s c r i d = mutate-cases m c (λ (u : Turn). AnswersClass s c u
 -- What is said
 
 -- what is no deed and moves no collection is done, where it is answered as a deed is
-said-done : (s : State) (c : Command) → is_deed (class_of c) ≡ false → IsTrue (moves_no_collection (taken c)) → AnswersCommand s c Done []
+pub said-done : (s : State) (c : Command) → is_deed (class_of c) ≡ false → IsTrue (moves_no_collection (taken c)) → AnswersCommand s c Done []
 said-done s c none t = record {
   replies = inl (sym (no_deed-reply c none (graph.objects_of s.graph)));
   quiet = λ q. refl;

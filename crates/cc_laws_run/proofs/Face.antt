@@ -1,7 +1,6 @@
 -- WHAT CRATES WITH CODE CITE of these laws' proofs: they name this module and no other.
 pub use Rattle.cc_laws_run.proofs.Ample.{turns-ample}
 pub use Rattle.cc_laws_run.proofs.BesideUnits.{StandsBeside, collect-beside, finish-beside, gc-beside, slice-beside, units_done-beside}
-pub use Rattle.cc_laws_run.proofs.BufferStands.{HasColourInvariant-buffer, IsSound-buffer}
 pub use Rattle.cc_laws_run.proofs.DoomedBegin.{collected-doomed}
 pub use Rattle.cc_laws_run.proofs.FollowedAsks.{IsFollowed, ask-follows, begin-follows}
 pub use Rattle.cc_laws_run.proofs.GivingUp.{collect-gives_up, slice-gives_up}

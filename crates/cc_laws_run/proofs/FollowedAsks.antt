@@ -31,6 +31,7 @@ use Rattle.cc_laws_run.specs.Doomed.{IsDoomed, IsDoomedNow, IsSuspectedNow, Keep
 use Rattle.cc_laws_run.specs.Followed.{first_units, first_collection, first_units_of}
 use Rattle.cc_laws_run.specs.Missing.{MissesNone, begins_one, lost, has_units}
 use Rattle.cc_laws_run.specs.Spent.{IsSpent}
+use Rattle.cc_laws_run.proofs.Forgetting.{forget-follows}
 use Rattle.cc_laws_run.proofs.Spoken.{spoken-as}
 use Rattle.cc_laws_run.proofs.CommandCases.{mutate-cases, say-leaves}
 use Rattle.cc_laws_run.proofs.TouchedCommands.{doomed-effects}
@@ -134,7 +135,7 @@ class-follows m s c ds r i keeps d (runs whole) e = let t = ended m s ds r d in
     stopped s.graph r.well_made ds m (collect m).machine t (collect-spent s.graph r.well_made ds m t)
 class-follows m s c ds r i keeps d (collects_scripts whole) e = gc-follows m s ds r d
 class-follows m s c ds r i keeps d (collects_scripts (so_many n)) e = absurd (spoken-as c i (collects_scripts (so_many n)) e)
-class-follows m s c ds r i keeps d forgets e = absurd (spoken-as c i forgets e)
+class-follows m s c ds r i keeps d forgets e = (refl, forget-follows m ds d)
 class-follows m s c ds r i keeps d (reads_weak n w) e = absurd (spoken-as c i (reads_weak n w) e)
 
 -- A COLLECTION THAT CAN'T MISS NAMES, under any ask

@@ -6,6 +6,7 @@ pub mod Spoken
 pub mod CommandCases
 pub mod Answered
 pub mod RunsOn
+pub mod Forgetting
 pub mod Unabandoned
 pub mod UnitsUse
 pub mod MarkedUnits
@@ -17,7 +18,6 @@ pub mod RefusedUnits
 pub mod FreedListed
 pub mod EachNamed
 pub mod RunsOfNumbers
-pub mod BufferStands
 pub mod UnitLawful
 pub mod HoldingUnits
 pub mod BesideUnits

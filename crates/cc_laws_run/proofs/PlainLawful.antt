@@ -16,6 +16,7 @@ use Rattle.cc_laws_run.specs.Running.{IsRunning, ask_in_range, moves_none, moves
 use Rattle.cc_laws_run.proofs.Spoken.{spoken-as}
 use Rattle.cc_laws_run.proofs.Answered.{mutate-answers, say-answers}
 use Rattle.cc_laws_run.proofs.RunsOn.{empty-runs, mutate-runs, say-runs}
+use Rattle.cc_laws_run.proofs.Forgetting.{forget-answers, forget-runs}
 use Rattle.cc_laws_run.proofs.CollectionsLawful.{units-answers, units-runs, gc-answers, gc-runs}
 
 -- each command is answered lawfully, by its class
@@ -26,7 +27,7 @@ class-answers m s c r i does e = mutate-answers m s c r i e
 class-answers m s c r i (runs u) e = units-answers m s c u r e
 class-answers m s c r i (collects_scripts whole) e = gc-answers m s c r e
 class-answers m s c r i (collects_scripts (so_many n)) e = absurd (spoken-as c i (collects_scripts (so_many n)) e)
-class-answers m s c r i forgets e = absurd (spoken-as c i forgets e)
+class-answers m s c r i forgets e = forget-answers m s c e
 class-answers m s c r i (reads_weak d w) e = absurd (spoken-as c i (reads_weak d w) e)
 
 -- each command leaves a machine that runs, by its class
@@ -37,7 +38,7 @@ class-runs m s c r i does e = mutate-runs m s c r i
 class-runs m s c r i (runs u) e = units-runs m s c u r e
 class-runs m s c r i (collects_scripts whole) e = gc-runs m s c r e
 class-runs m s c r i (collects_scripts (so_many n)) e = absurd (spoken-as c i (collects_scripts (so_many n)) e)
-class-runs m s c r i forgets e = absurd (spoken-as c i forgets e)
+class-runs m s c r i forgets e = forget-runs m s c r e
 class-runs m s c r i (reads_weak d w) e = absurd (spoken-as c i (reads_weak d w) e)
 
 -- EACH ASK is answered lawfully.

@@ -125,7 +125,7 @@ common-in_range v =
 forms-in_range : (v : Dialect) → EachInRange (forms_of v)
 forms-in_range Start = (λ tokens. grind arith) also common-in_range Start
 forms-in_range One = common-in_range One
-forms-in_range Two = (λ tokens. grind (arith, below)) also (λ tokens. grind arith) also common-in_range Two
+forms-in_range Two = (λ tokens. grind (arith, below)) also (λ tokens. grind arith) also (λ tokens. grind arith) also common-in_range Two
 
 -- Lines
 

@@ -27,7 +27,7 @@ use Rattle.cc_laws_run.proofs.DoomedNode.{after_node-doomed}
 use Rattle.cc_laws_run.proofs.DoomedBegin.{garbage-there, collected-doomed}
 use Rattle.cc_laws_snapshot.proofs.ReachedStays.{IsTidy}
 use Rattle.cc_laws_run.proofs.QuietTaken.{end-tidy}
-use Rattle.cc_laws_run.proofs.BufferStands.{IsSound-buffer, HasColourInvariant-buffer}
+use Rattle.cc_laws_heap.proofs.BufferStands.{IsSound-buffer, HasColourInvariant-buffer}
 use Rattle.cc_laws_run.proofs.UnitLawful.{unit-cases, traversed-none}
 use Rattle.cc_laws_run.proofs.HoldingUnits.{units_done-keep, finish-cases}
 use Rattle.cc_model.specs.Lawful.{State}

@@ -22,6 +22,7 @@ use Rattle.cc_laws_heap.proofs.CommandsSound.{effects-sound}
 use Rattle.cc_laws_run.specs.Doomed.{KeepsReflectors}
 use Rattle.cc_laws_run.specs.Spent.{IsSpent}
 use Rattle.cc_laws_run.specs.Running.{IsRunning, ask_in_range}
+use Rattle.cc_laws_run.proofs.Forgetting.{forget-spends}
 use Rattle.cc_laws_run.proofs.Spoken.{spoken-as}
 use Rattle.cc_laws_run.proofs.CommandCases.{mutate-cases, say-leaves}
 use Rattle.cc_laws_run.proofs.TouchedCommands.{command-leaves}
@@ -87,7 +88,7 @@ class-spends m s c ds r i keeps d does e = mutate-spends m c ds r.sound i keeps 
 class-spends m s c ds r i keeps d (runs u) e = units-spend m s u ds r d
 class-spends m s c ds r i keeps d (collects_scripts whole) e = gc-spends m s ds r d
 class-spends m s c ds r i keeps d (collects_scripts (so_many n)) e = absurd (spoken-as c i (collects_scripts (so_many n)) e)
-class-spends m s c ds r i keeps d forgets e = absurd (spoken-as c i forgets e)
+class-spends m s c ds r i keeps d forgets e = forget-spends m.heap ds d
 class-spends m s c ds r i keeps d (reads_weak n w) e = absurd (spoken-as c i (reads_weak n w) e)
 
 -- WHAT IS SPENT STAYS SO under any ask.

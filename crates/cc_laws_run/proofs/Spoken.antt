@@ -1,13 +1,13 @@
--- WHAT LINES CAN ASK: no command in range forgets suspects, reads or writes a weak register, or marks script objects in units.
+-- WHAT LINES CAN ASK: no command in range reads or writes a weak register, or marks script objects in units.
 use Rattle.std.proofs.Common.{◌≡◌, Option, None, option_map, refl, sym, ◌∙◌, ap, subst}
 use Rattle.std.specs.Prelude.{IsTrue}
 use Rattle.std.proofs.lemmas.Bool.{false≢true}
 use Rattle.cc_names.specs.declared.register.Reg.TheVariants.{N, S, W}
 use Rattle.cc_model.specs.declared.command.Command.{Command}
-use Rattle.cc_model.specs.declared.command.Command.TheVariants.{Drop, Get, Forget, Weak, Deref, Mark}
+use Rattle.cc_model.specs.declared.command.Command.TheVariants.{Drop, Get, Weak, Deref, Mark}
 use Rattle.cc_model.specs.Slots.{Slots}
 use Rattle.cc_model.specs.Ranges.{in_range}
-use Rattle.cc_model.specs.Mutating.{so_many, Class, forgets, reads_weak, collects_scripts, class_of}
+use Rattle.cc_model.specs.Mutating.{so_many, Class, reads_weak, collects_scripts, class_of}
 use Rattle.cc_model.specs.Checks.{Objects}
 use Rattle.cc_model.specs.Deeds.{deed_of}
 use Rattle.cc_model.specs.Marking.{NewMarks, marking_after}
@@ -16,14 +16,12 @@ use Rattle.cc_model.specs.Run.{weak_after, beside_deed}
 
 -- whether a line can ask a command of this class
 abbrev pub IsSpoken : Class → Type 0
-IsSpoken forgets = ⊥
 IsSpoken (reads_weak d w) = ⊥
 IsSpoken (collects_scripts (so_many n)) = ⊥
 IsSpoken _ = Unit {0}
 
 -- A COMMAND IN RANGE is of such a class.
 pub spoken : (c : Command) → IsTrue (in_range c) → IsSpoken (class_of c)
-spoken Forget i = absurd (false≢true i)
 spoken (Deref d w) i = absurd (false≢true i)
 spoken (Mark n) i = absurd (false≢true i)
 spoken c i = tt

@@ -36,7 +36,7 @@ use Rattle.cc_laws_snapshot.proofs.NodeUnit.{after_node-fresh}
 use Rattle.cc_laws_run.specs.Running.{IsFreshNow}
 use Rattle.cc_laws_snapshot.proofs.WhiteNatives.{white_natives-there, white_natives-unreached_in}
 use Rattle.cc_laws_snapshot.proofs.GivingBack.{given_back, give_back-buffer, given_back-buffer}
-use Rattle.cc_laws_run.proofs.BufferStands.{IsSound-buffer, HasColourInvariant-buffer, StandsFor-buffer}
+use Rattle.cc_laws_heap.proofs.BufferStands.{IsSound-buffer, HasColourInvariant-buffer, StandsFor-buffer}
 use Rattle.cc_laws_run.proofs.FreedListed.{there-listed, census_names-end}
 use Rattle.cc_laws_run.proofs.EachNamed.{FreeLast, FreeLast-end, each-from}
 use Rattle.cc_laws_run.proofs.RunsOfNumbers.{runs-rising, has_none-natives}
@@ -155,7 +155,13 @@ module _ (g : Graph) (well : IsWellMade g) (c : Command) (moves : (runs_units c 
 
   -- with another buffer, and no snapshot, the heaps run
   buffer-runs : (h : Heap) (bs : List Buffered) (s : Option Snapshot) → RunsOn g names h s → IsBuffer h bs → RunsOn g names (with_buffer h bs) None
-  buffer-runs h bs s r b = grind (arith, IsSound-buffer, HasColourInvariant-buffer, StandsFor-buffer)
+  buffer-runs h bs s r b = record {
+    sound = IsSound-buffer h bs r.sound b;
+    colours = HasColourInvariant-buffer h bs r.colours;
+    fresh = tt;
+    stands = StandsFor-buffer h bs g r.stands;
+    listed = r.listed;
+  }
 
   -- A UNIT THAT IS REFUSED
   abandoned-lawful : (h : Heap) (s : Option Snapshot) → RunsOn g names h s → UnitIsLawful g names c (abandoned h s)

@@ -27,4 +27,5 @@ pub use Rattle.cc_laws_snapshot.proofs.ScriptParts.{not_gray-held, script_slot-g
 pub use Rattle.cc_laws_snapshot.proofs.SoundView.{living-native, named-there, native-name_of, script-place}
 pub use Rattle.cc_laws_snapshot.proofs.States.{gone-not_traversed}
 pub use Rattle.cc_laws_snapshot.proofs.SweepLoses.{collect_scripts-suspected, sweep-suspected}
+pub use Rattle.cc_laws_snapshot.proofs.Unmarking.{forgotten-colours, forgotten-exactly, forgotten-fresh, forgotten-names, forgotten-sound, forgotten-stands, forgotten-suspected, forgotten-taken, skippable-decided, skippable-reached, unmarked-colours, unmarked-fresh, unmarked-names, unmarked-sound, unmarked-stands, unmarked-suspected}
 pub use Rattle.cc_laws_snapshot.proofs.WhiteNatives.{taking_white-colours, taking_white-sound, white_natives-there, white_natives-unreached}

@@ -1,6 +1,6 @@
 -- HOW A CHANGE KEEPS SNAPSHOTS FRESH where natives that wait count as in the buffer: as a gentle change of the view with
 -- more in its buffer; and how the colours are kept where nothing becomes black.
-use Rattle.std.proofs.Common.{◌≡◌, ℕ, List, [], map, refl, ◌∙◌, subst, inl, ◌⊎◌, ⊎_elim, arith}
+use Rattle.std.proofs.Common.{◌≡◌, ℕ, List, [], ◌++◌, map, refl, ◌∙◌, subst, inl, ◌⊎◌, ⊎_elim, arith}
 use Rattle.std.specs.Prelude.{IsTrue}
 use Rattle.std.proofs.lemmas.List.{append-nil}
 use Rattle.cc_lists.specs.Members.{Among}
@@ -72,14 +72,22 @@ fresh-more made v buffer purple more = fresh-by made made v (with_buffer buffer 
     more (λ u c m l. absurd l) (λ u c m i. more u i))
     (record { black = λ x m. m; white = refl; held = λ x m i. inl m })
 
--- So while more natives wait.
-pub more_wait-fresh : (h : Heap) (s : Snapshot) (ks js : List ℕ) → ((k : ℕ) → Among k ks → Among k js) → IsFreshCounting ks h s → IsFreshCounting js h s
-more_wait-fresh h s ks js more = fresh-more h.natives_made (counting ks (view h)) (counting js (view h)).buffer (counting js (view h)).purple
+-- So while more natives wait: who waits no more stands in the buffer.
+pub buffered_wait-fresh : (h : Heap) (s : Snapshot) (ks js : List ℕ) → ((k : ℕ) → Among k ks → Among k js ⊎ Among (native k) (view h).buffer) →
+    IsFreshCounting ks h s → IsFreshCounting js h s
+buffered_wait-fresh h s ks js more = fresh-more h.natives_made (counting ks (view h)) (counting js (view h)).buffer (counting js (view h)).purple
     (λ u m. ⊎_elim
     (λ b. Among-left u (view h).buffer (map native js) b)
     (λ w. let f = Among-map_cases native ks u w in
-    Among-right u (view h).buffer (map native js) (subst (λ v. Among v (map native js)) f.2 (Among-map native f.0 js (more f.0 f.1))))
+    subst (λ v. Among v ((view h).buffer ++ map native js)) f.2 (⊎_elim
+    (λ j. Among-right (native f.0) (view h).buffer (map native js) (Among-map native f.0 js j))
+    (λ b. Among-left (native f.0) (view h).buffer (map native js) b)
+    (more f.0 f.1)))
     (Among-append u (view h).buffer (map native ks) m)) s
+
+-- Where all that waited wait, none needs to stand there.
+pub more_wait-fresh : (h : Heap) (s : Snapshot) (ks js : List ℕ) → ((k : ℕ) → Among k ks → Among k js) → IsFreshCounting ks h s → IsFreshCounting js h s
+more_wait-fresh h s ks js more = buffered_wait-fresh h s ks js (λ k m. inl (more k m))
 
 -- And while some wait where none did.
 pub some_wait-fresh : (h : Heap) (s : Snapshot) (ks : List ℕ) → IsFreshIn h s → IsFreshCounting ks h s

@@ -10,7 +10,7 @@ use Rattle.cc_names.specs.declared.kind.Kind.TheVariants.{Reflector}
 use Rattle.cc_names.specs.Names.{native, object, reflector, same_name, is_script}
 use Rattle.cc_names.specs.Sizes.{most_slots}
 use Rattle.cc_model.specs.Slots.{reflector_slots}
-use Rattle.cc_model.specs.Heap.{Heap, HeapScript, has_reflector, change_script, with_script_slot, set_preserved, new_script}
+use Rattle.cc_model.specs.Heap.{Heap, HeapScript, touch, has_reflector, change_script, with_script_slot, set_preserved, new_script}
 use Rattle.cc_model.specs.View.{view, ReachedIn}
 use Rattle.cc_model.specs.Cascade.{add_ref}
 use Rattle.cc_model.specs.Exposure.{exposed}
@@ -23,7 +23,7 @@ use Rattle.cc_lists.proofs.ListWrites.{changed_where, changed_where-either, map-
 use Rattle.cc_laws_snapshot.specs.KindsSuspected.{IsSuspectedIn, IsReachedNative}
 use Rattle.cc_laws_snapshot.proofs.LoyalSuspected.{loyal-suspected}
 use Rattle.cc_laws_snapshot.proofs.Handing.{hands-loyal}
-use Rattle.cc_laws_snapshot.proofs.Handed.{TakesUp, TakesUp-nothing, TakesUp-add_ref, Still}
+use Rattle.cc_laws_snapshot.proofs.Handed.{TakesUp, TakesUp-nothing, TakesUp-add_ref, TakesUp-touch, Still}
 use Rattle.cc_laws_snapshot.proofs.StillNatives.{Still-refl, Still-script_last, Still-exposed, Still-change_script, Still-flag, Still-set_entry, Still-make_object, Hands-taken}
 use Rattle.cc_laws_snapshot.proofs.KindsLoyal.{HasScriptNames, HasScriptNames-well_formed, buffers-suspected}
 use Rattle.cc_laws_snapshot.proofs.CommandsLoyal.{make_native-loyal}
@@ -73,6 +73,13 @@ pub reference_added-suspected : (h : Heap) (candidates : List ℕ) (k : ℕ) →
 reference_added-suspected h candidates k w r = taken-suspected h (add_ref h k) (add_ref h k) candidates (Some (native k)) w
     (HasScriptNames-well_formed h w) (TakesUp-add_ref h k) (native_names-alike h (add_ref h k) (HoldsTheSame-add_ref h k)) (Still-refl (add_ref h k))
     (λ j m. ⊎_elim (λ e. subst (ReachedIn (view (add_ref h k))) e r) (λ b. absurd b) m)
+
+-- A native is touched that is reached.
+pub touched-suspected : (h : Heap) (candidates : List ℕ) (k : ℕ) → IsWellFormed h → ReachedIn (view h) (native k) →
+    IsSuspectedIn h candidates → IsSuspectedIn (touch h k) candidates
+touched-suspected h candidates k w r = taken-suspected h (touch h k) (touch h k) candidates (Some (native k)) w
+    (HasScriptNames-well_formed h w) (TakesUp-touch h k) refl (Still-refl (touch h k))
+    (λ j m. ⊎_elim (λ e. subst (ReachedIn (view h)) e r) (λ b. absurd b) m)
 
 -- A reflector is made of a native that is reached.
 pub reflector_made-suspected : (h : Heap) (candidates : List ℕ) (k : ℕ) → IsWellFormed h → ReachedIn (view (with_reflector h k)) (native k) →

@@ -1,5 +1,6 @@
 -- WHAT IS OVERWRITTEN, GIVEN UP OR FREED keeps every unreached native suspected, where who waits counts as purple.
 use Rattle.std.proofs.Common.{◌≡◌, ℕ, ◌≤◌, List, [], ◌∷◌, ◌++◌, map, set, Option, Some, None, refl, sym, ◌∙◌, ap, subst, inl, inr, ◌⊎◌, ⊎_elim, slice_index_or}
+use Rattle.std.proofs.lemmas.List.{append-nil}
 use Rattle.cc_lists.specs.Members.{Among}
 use Rattle.cc_lists.proofs.Members.{Among-map, Among-map_cases, Among-left, Among-right, Among-append, Among-flat_map}
 use Rattle.cc_names.specs.declared.name.Name.{Name}
@@ -63,6 +64,45 @@ waiting-suspected h g candidates js early early_purple w named edge held marked 
       living = λ x l. inl (living x l);
     }
 
+-- Who waits
+
+-- More may wait: who waits no more is reached.
+pub reached_wait-suspected : (h : Heap) (candidates ks js : List ℕ) → IsWellFormed h → ((k : ℕ) → Among k ks → Among k js ⊎ ReachedIn (view h) (native k)) →
+    IsSuspectedCounting ks h candidates → IsSuspectedCounting js h candidates
+reached_wait-suspected h candidates ks js w more =
+    buffers-suspected h h candidates (counting ks (view h)).buffer (counting ks (view h)).purple (counting js (view h)).buffer (counting js (view h)).purple
+    w (HasScriptNames-well_formed h w) loyal
+  where
+    loyal : IsLoyal (counting ks (view h)) (counting js (view h))
+    loyal = record {
+      edge = λ x i m. inl m;
+      register = λ i m. inl m;
+      purple = λ i m. ⊎_elim
+          (λ p. inl (stays-marked js h i p))
+          (λ q. let f = Among-map_cases native ks (native i) q in
+          let j : Among i ks = subst (λ k. Among k ks) (ap number_of f.2) f.1 in
+          ⊎_elim (λ k. inl (waits-marked js h i k)) (λ r. inr r) (more i j))
+          (Among-append (native i) (view h).purple (map native ks) m);
+      buffer = λ x m. ⊎_elim
+          (λ b. inl (Among-left x (view h).buffer (map native ks) b))
+          (λ q. inr (inl (Among-right x (view h).purple (map native js) q)))
+          (Among-append x (view h).buffer (map native js) m);
+      living = λ x l. inl l;
+    }
+
+-- where nothing waits, the buffer alone counts
+counting-none : (v : View) → counting [] v ≡ v
+counting-none v = λ i. record v { buffer = append-nil v.buffer i; purple = append-nil v.purple i }
+
+-- Where nothing waits, natives are suspected as they were.
+pub none_waits-suspected : (h : Heap) (candidates : List ℕ) → IsSuspectedCounting [] h candidates → IsSuspectedIn h candidates
+none_waits-suspected h candidates s = subst (λ v. IsSuspected v candidates) (counting-none (view h)) s
+
+-- Some may wait where none did.
+pub some_wait-suspected : (h : Heap) (candidates ks : List ℕ) → IsWellFormed h → IsSuspectedIn h candidates → IsSuspectedCounting ks h candidates
+some_wait-suspected h candidates ks w s = reached_wait-suspected h candidates [] ks w (λ k m. absurd m)
+    (subst (λ v. IsSuspected v candidates) (sym (counting-none (view h))) s)
+
 -- What is overwritten
 
 -- A register is written: what it held waits.
@@ -98,12 +138,13 @@ register_written-suspected h candidates (W d) x w =
     (λ i m. stays-marked (numbers_of (register h (W d))) h i m)
     (λ y m. inl m) (λ y l. l)
 
--- A slot of a native is written: what it held waits.
-pub slot_written-suspected : (h : Heap) (candidates : List ℕ) (n : HeapNative) (k i : ℕ) (x : Option Name) → IsWellFormed h → native_at h k ≡ Some n →
-    IsSuspectedIn h candidates → IsSuspectedCounting (numbers_of (slice_index_or n.slots i None)) (change_native h k (with_native_slot i x)) candidates
-slot_written-suspected h candidates n k i x w found =
-    waiting-suspected h g candidates (numbers_of old) (view h).buffer (view h).purple w (HasScriptNames-well_formed h w)
-    edge (λ j m. inl m) (λ j m. stays-marked (numbers_of old) g j m) (λ y m. inl m) (living-same h g (native_names-change h k (with_native_slot i x) (λ o. refl)))
+-- A slot of a native is written while others wait: so does what it held.
+pub slot_written_waiting-suspected : (h : Heap) (candidates : List ℕ) (n : HeapNative) (k i : ℕ) (x : Option Name) (others : List ℕ) → IsWellFormed h → native_at h k ≡ Some n →
+    IsSuspectedCounting others h candidates → IsSuspectedCounting (numbers_of (slice_index_or n.slots i None) ++ others) (change_native h k (with_native_slot i x)) candidates
+slot_written_waiting-suspected h candidates n k i x others w found =
+    waiting-suspected h g candidates js (counting others (view h)).buffer (counting others (view h)).purple w (HasScriptNames-well_formed h w)
+    edge (λ j m. inl m) marked (λ y m. inl (Among-left y (view h).buffer (map native others) m))
+    (living-same h g (native_names-change h k (with_native_slot i x) (λ o. refl)))
   where
     g : Heap
     g = change_native h k (with_native_slot i x)
@@ -111,14 +152,32 @@ slot_written-suspected h candidates n k i x w found =
     old : Option Name
     old = slice_index_or n.slots i None
 
-    edge : (y : Name) (j : ℕ) → Among (y, native j) (view h).edges → Among (y, native j) (view g).edges ⊎ Among j (numbers_of old)
+    js : List ℕ
+    js = numbers_of old ++ others
+
+    edge : (y : Name) (j : ℕ) → Among (y, native j) (view h).edges → Among (y, native j) (view g).edges ⊎ Among j js
     edge y j m = ⊎_elim
         (λ a. ⊎_elim
         (λ s. inl (subst (λ z. Among (z, native j) (view g).edges) (ap native s.2 ∙ a.2) (edge-from_slot g s.0 (native j) s.1 s.3)))
-        (λ o. inr (numbers_of-there old j o))
+        (λ o. inr (Among-left j (numbers_of old) others (numbers_of-there old j o)))
         (slot_written-kept h k i n x (IsWellFormed-distinct h w) found a.0 (native j) a.1 a.3))
         (λ a. inl (subst (λ z. Among (z, native j) (view g).edges) a.0 (edge-from_reflector g j a.1)))
         (edge-to h y j w m)
+
+    -- who counted as purple does
+    marked : (j : ℕ) → Among (native j) (counting others (view h)).purple → IsMarked js g j
+    marked j m = ⊎_elim
+        (λ p. stays-marked js g j p)
+        (λ q. let f = Among-map_cases native others (native j) q in
+        waits-marked js g j (Among-right j (numbers_of old) others (subst (λ l. Among l others) (ap number_of f.2) f.1)))
+        (Among-append (native j) (view h).purple (map native others) m)
+
+-- And while nothing else waits.
+pub slot_written-suspected : (h : Heap) (candidates : List ℕ) (n : HeapNative) (k i : ℕ) (x : Option Name) → IsWellFormed h → native_at h k ≡ Some n →
+    IsSuspectedIn h candidates → IsSuspectedCounting (numbers_of (slice_index_or n.slots i None)) (change_native h k (with_native_slot i x)) candidates
+slot_written-suspected h candidates n k i x w found s =
+    subst (λ (ks : List ℕ). IsSuspectedCounting ks (change_native h k (with_native_slot i x)) candidates) (append-nil (numbers_of (slice_index_or n.slots i None)))
+    (slot_written_waiting-suspected h candidates n k i x [] w found (some_wait-suspected h candidates [] w s))
 
 -- From stage to stage
 

@@ -1,19 +1,20 @@
 -- WHAT IS WRITTEN keeps every snapshot fresh: a reference, a register, a slot, a flag, an entry.
-use Rattle.std.proofs.Common.{arith, ◌≡◌, ℕ, ◌<◌, Bool, true, List, [], ◌∷◌, map, length, Option, Some, None, refl, sym, subst, inl, inr, ⊎_elim, slice_index_or}
+use Rattle.std.proofs.Common.{arith, ◌≡◌, ℕ, ◌<◌, Bool, true, List, [], ◌∷◌, ◌++◌, map, length, Option, Some, None, refl, sym, subst, inl, inr, ⊎_elim, slice_index_or}
 use Rattle.std.specs.Prelude.{IsTrue}
 use Rattle.std.specs.Option.{option_to_list}
+use Rattle.std.proofs.lemmas.List.{append-nil}
 use Rattle.cc_lists.specs.Members.{Among}
-use Rattle.cc_lists.proofs.Members.{Among-map, Among-left, Among-right, Among-append, Among-flat_map}
+use Rattle.cc_lists.proofs.Members.{Among-map, Among-map_cases, Among-left, Among-right, Among-append, Among-flat_map}
 use Rattle.cc_names.specs.declared.name.Name.{Name}
 use Rattle.cc_names.specs.declared.kind.Colour.{Colour}
 use Rattle.cc_names.specs.declared.register.Reg.{Reg}
 use Rattle.cc_names.specs.declared.register.Reg.TheVariants.{N, S, W}
 use Rattle.cc_names.specs.Names.{native, reflector, natives_in, is_script}
 use Rattle.cc_model.specs.Slots.{contents}
-use Rattle.cc_model.specs.Heap.{Heap, HeapNative, HeapScript, native_at, is_white_colour, is_black_colour, set_register, change_native, change_script, with_native_slot, with_script_slot, set_preserved}
+use Rattle.cc_model.specs.Heap.{Heap, HeapNative, HeapScript, native_at, is_white_colour, is_black_colour, set_register, touch, change_native, change_script, with_native_slot, with_script_slot, set_preserved}
 use Rattle.cc_model.specs.Cascade.{add_ref}
 use Rattle.cc_model.specs.Effects.{set_entry}
-use Rattle.cc_model.specs.View.{view, names_with}
+use Rattle.cc_model.specs.View.{View, view, names_with}
 use Rattle.cc_model.specs.Colours.{HasColourInvariant}
 use Rattle.cc_model.specs.WellFormed.{IsWellFormed}
 use Rattle.cc_model.specs.Snapshot.{Snapshot}
@@ -23,14 +24,20 @@ use Rattle.cc_laws_snapshot.specs.Kinds.{counting, IsFreshIn, IsFreshCounting, I
 use Rattle.cc_laws_heap.specs.Sound.{numbers_of}
 use Rattle.cc_laws_snapshot.proofs.SoundView.{black-or_gray, living-native, named-there}
 use Rattle.cc_laws_snapshot.proofs.NativeParts.{register-gentle, add_ref-gentle, native_slot-gentle, flag-gentle}
+use Rattle.cc_laws_snapshot.proofs.MovesGentle.{touch-gentle}
 use Rattle.cc_laws_snapshot.proofs.ScriptParts.{script_slot-gentle, set_entry-gentle}
-use Rattle.cc_laws_snapshot.proofs.KindsFresh.{IsGentleBut-buffers, KeepsColours, fresh-by}
+use Rattle.cc_laws_snapshot.proofs.KindsFresh.{IsGentleBut-buffers, KeepsColours, fresh-by, some_wait-fresh}
 
 -- References and registers
 
 -- A native gets a reference.
 pub reference_added-fresh : (h : Heap) (s : Snapshot) (k : ℕ) → IsFreshIn h s → IsFreshIn (add_ref h k) s
 reference_added-fresh h s k = fresh-by h.natives_made h.natives_made (view h) (view (add_ref h k)) (add_ref-gentle h k)
+    (record { black = λ x m. m; white = refl; held = λ x m i. inl m }) s
+
+-- A native is touched.
+pub touched-fresh : (h : Heap) (s : Snapshot) (k : ℕ) → IsFreshIn h s → IsFreshIn (touch h k) s
+touched-fresh h s k = fresh-by h.natives_made h.natives_made (view h) (view (touch h k)) (touch-gentle h k)
     (record { black = λ x m. m; white = refl; held = λ x m i. inl m }) s
 
 -- what is there and not gray is black
@@ -68,17 +75,18 @@ register_written-fresh h s r x there pale f = search (fresh-by, register-gentle,
 
 -- Slots of natives
 
--- A slot of a native is written: what it held waits.
-pub slot_written-fresh : (h : Heap) (s : Snapshot) (n : HeapNative) (k i : ℕ) (x : Option Name) → IsWellFormed h → native_at h k ≡ Some n →
+-- A slot of a native is written while others wait: so does what it held.
+pub slot_written_waiting-fresh : (h : Heap) (s : Snapshot) (n : HeapNative) (k i : ℕ) (x : Option Name) (others : List ℕ) → IsWellFormed h → native_at h k ≡ Some n →
     i < length n.slots → IsInBuffer (view h) x → IsNotGrayIn (view h) x →
-    IsFreshIn h s → IsFreshCounting (numbers_of (slice_index_or n.slots i None)) (change_native h k (with_native_slot i x)) s
-slot_written-fresh h s n k i x w found room taken pale = fresh-by h.natives_made h.natives_made (view h) (counting (numbers_of old) (view written))
+    IsFreshCounting others h s → IsFreshCounting (numbers_of (slice_index_or n.slots i None) ++ others) (change_native h k (with_native_slot i x)) s
+slot_written_waiting-fresh h s n k i x others w found room taken pale = fresh-by h.natives_made h.natives_made (counting others (view h)) later
     (IsGentleBut-buffers (option_to_list old) h.natives_made h.natives_made (view h) (view written)
-    (view h).buffer (view h).purple (counting (numbers_of old) (view written)).buffer (counting (numbers_of old) (view written)).purple
-    (native_slot-gentle h k i n x w found room taken pale)
-    (λ u b. Among-left u (view written).buffer (map native (numbers_of old)) b)
-    (λ u c m l. Among-right u (view written).buffer (map native (numbers_of old)) (waits u c m l))
-    (λ u c m b. Among-left u (view written).buffer (map native (numbers_of old)) b))
+    (counting others (view h)).buffer (counting others (view h)).purple later.buffer later.purple
+    (native_slot-gentle h k i n x w found room taken pale) stays
+    (λ u c m l. let f = waits u c m l in counted u f.0 f.1 (Among-left f.0 (numbers_of old) others f.2))
+    (λ u c m b. ⊎_elim (stays u)
+    (λ o. let f = Among-map_cases native others u o in counted u f.0 f.2 (Among-right f.0 (numbers_of old) others f.1))
+    (Among-append u (view h).buffer (map native others) b)))
     (record { black = λ y m. m; white = refl; held = λ y m i. inl m }) s
   where
     old : Option Name
@@ -87,12 +95,32 @@ slot_written-fresh h s n k i x w found room taken pale = fresh-by h.natives_made
     written : Heap
     written = change_native h k (with_native_slot i x)
 
-    waits : (u : Name) (c : ℕ) → Among (u, c) (view written).natives → Among u (option_to_list old) → Among u (map native (numbers_of old))
+    later : View
+    later = counting (numbers_of old ++ others) (view written)
+
+    -- who stood in the buffer does
+    stays : (u : Name) → Among u (view h).buffer → Among u later.buffer
+    stays u b = Among-left u (view written).buffer (map native (numbers_of old ++ others)) b
+
+    -- who waits counts as in the buffer
+    counted : (u : Name) (j : ℕ) → native j ≡ u → Among j (numbers_of old ++ others) → Among u later.buffer
+    counted u j e m = Among-right u (view written).buffer (map native (numbers_of old ++ others))
+        (subst (λ v. Among v (map native (numbers_of old ++ others))) e (Among-map native j (numbers_of old ++ others) m))
+
+    -- a native that the slot held is one of the numbers that wait
+    waits : (u : Name) (c : ℕ) → Among (u, c) (view written).natives → Among u (option_to_list old) → (j : ℕ) × (native j ≡ u) × Among j (numbers_of old)
     waits u c m l =
         let f = living-native written u c m in
         let held : Among (native f.0.number) (option_to_list old) = subst (λ v. Among v (option_to_list old)) (sym f.2) l in
-        subst (λ v. Among v (map native (numbers_of old))) f.2
-        (Among-map native f.0.number (numbers_of old) (Among-flat_map natives_in (native f.0.number) f.0.number (option_to_list old) held (inl refl)))
+        (f.0.number, f.2, Among-flat_map natives_in (native f.0.number) f.0.number (option_to_list old) held (inl refl))
+
+-- And while nothing else waits.
+pub slot_written-fresh : (h : Heap) (s : Snapshot) (n : HeapNative) (k i : ℕ) (x : Option Name) → IsWellFormed h → native_at h k ≡ Some n →
+    i < length n.slots → IsInBuffer (view h) x → IsNotGrayIn (view h) x →
+    IsFreshIn h s → IsFreshCounting (numbers_of (slice_index_or n.slots i None)) (change_native h k (with_native_slot i x)) s
+slot_written-fresh h s n k i x w found room taken pale f =
+    subst (λ (ks : List ℕ). IsFreshCounting ks (change_native h k (with_native_slot i x)) s) (append-nil (numbers_of (slice_index_or n.slots i None)))
+    (slot_written_waiting-fresh h s n k i x [] w found room taken pale (some_wait-fresh h s [] f))
 
 -- Slots of script objects
 

@@ -30,6 +30,7 @@ pub mod ReachedStays
 pub mod KindsLoyal
 pub mod LoyalSuspected
 pub mod BufferMarks
+pub mod Unmarking
 pub mod NamesAndEdges
 pub mod LosesTo
 pub mod CascadeLoses

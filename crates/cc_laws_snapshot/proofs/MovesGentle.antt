@@ -24,7 +24,7 @@ use Rattle.cc_laws_snapshot.proofs.ScriptParts.{not_gray-held, exposed-gentle}
 use Rattle.cc_laws_snapshot.proofs.NativesHeld.{put_in_slot-gentle}
 
 -- A native touched is gentle: one more stands in the buffer.
-touch-gentle : (h : Heap) (k : ℕ) → AreGentle h (touch h k)
+pub touch-gentle : (h : Heap) (k : ℕ) → AreGentle h (touch h k)
 touch-gentle h k = record {
   made_more = omega arith;
   outside = λ u c m o l. (m, λ b. o (with_mark-keeps false k h.buffer u b));

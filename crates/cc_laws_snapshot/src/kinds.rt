@@ -1,5 +1,5 @@
 //! Laws of each kind of change that commands are made of.
-ghost use Rattle.std.specs.Prelude.{◌≡◌, ◌+◌, ◌<◌, ◌≤◌, ℕ, Bool, true, false, List, [], ◌∷◌, ◌++◌, length, map, Option, Some, None, is_some, slice_index_or};
+ghost use Rattle.std.specs.Prelude.{◌≡◌, ◌+◌, ◌<◌, ◌≤◌, ℕ, Bool, true, false, List, [], ◌∷◌, ◌++◌, length, map, ◌⊎◌, Option, Some, None, is_some, slice_index_or};
 ghost use Rattle.cc_lists.specs.Members.{Among};
 ghost use Rattle.cc_names.specs.declared.name.Name.{Name};
 ghost use Rattle.cc_names.specs.declared.register.Reg.{Reg};
@@ -8,10 +8,11 @@ ghost use Rattle.cc_names.specs.Names.{native, object, reflector};
 ghost use Rattle.cc_names.specs.Sizes.{most_slots};
 ghost use Rattle.cc_model.specs.Banks.{Bank};
 ghost use Rattle.cc_model.specs.Slots.{contents, empty_slots};
-ghost use Rattle.cc_model.specs.Heap.{Heap, HeapNative, native_at, has_reflector, set_register, change_native, change_script, with_native_slot, with_script_slot, set_preserved, register, lengthen};
+ghost use Rattle.cc_model.specs.Heap.{Heap, HeapNative, native_at, has_reflector, set_register, change_native, change_script, with_native_slot, with_script_slot, set_preserved, register, lengthen, touch};
 ghost use Rattle.cc_model.specs.Cascade.{Draining, add_ref, give_up, natives_of_slots, without_native};
 ghost use Rattle.cc_model.specs.Effects.{make_native, make_object, with_reflector, wrapped, set_entry};
 ghost use Rattle.cc_model.specs.Exposure.{exposed};
+ghost use Rattle.cc_model.specs.Skipping.{unmarked};
 ghost use Rattle.cc_model.specs.View.{view, ReachedIn};
 ghost use Rattle.cc_model.specs.WellFormed.{IsWellFormed, IsRising, FitsName, is_proxy_kind, native_names};
 ghost use Rattle.cc_model.specs.Snapshot.{Snapshot};
@@ -23,9 +24,10 @@ ghost use Rattle.cc_laws_snapshot.specs.KindsSuspected.{IsSuspectedIn, IsSuspect
 /// overwritten reference is not given up yet, count as purple in the buffer.
 ///
 /// The kinds: a native is made, and a register holds it; a script object is made; a native gets a reference, or a
-/// reflector; a register, a slot, a flag or an entry is written, where no script object that is named then, or is the
-/// delegate of the one that is made, is gray, and a native that is put into a slot stands in the buffer; registers come,
-/// empty; something is exposed; a reference is given up; the front of the queue leaves.
+/// reflector, or is touched, or loses its mark; a register, a slot, a flag or an entry is written, where no script object
+/// that is named then, or is the delegate of the one that is made, is gray, and a native that is put into a slot stands in
+/// the buffer; registers come, empty; something is exposed; a reference is given up; the front of the queue leaves.
+/// A slot may be written while others wait, as where what one slot held goes into another.
 pub fn kinds_of_change_keep_fresh()
     ensures native_made { (owned : List ℕ) (h : Heap) (s : Snapshot) (d n : ℕ) → IsSound owned h → d < length h.native_registers → n ≤ most_slots →
         h.natives_made < h.limits.natives → IsFreshIn h s → IsFreshIn (make_native h d n).heap s }
@@ -38,12 +40,17 @@ pub fn kinds_of_change_keep_fresh()
     ensures wrapped { (owned : List ℕ) (h : Heap) (s : Snapshot) (x : Option Name) → IsSound owned h → IsNativeThere h x →
         IsFreshIn h s → IsFreshIn (wrapped h x) s }
     ensures reference_added { (h : Heap) (s : Snapshot) (k : ℕ) → IsFreshIn h s → IsFreshIn (add_ref h k) s }
+    ensures touched { (h : Heap) (s : Snapshot) (k : ℕ) → IsFreshIn h s → IsFreshIn (touch h k) s }
+    ensures mark_taken { (h : Heap) (s : Snapshot) (k : ℕ) → IsFreshIn h s → IsFreshIn (unmarked h k) s }
     ensures register_written { (h : Heap) (s : Snapshot) (r : Reg) (x : Option Name) → IsThereIn (view h) x → IsNotGrayIn (view h) x →
         IsFreshIn h s → IsFreshIn (set_register h r x) s }
     ensures registers_come { (h : Heap) (s : Snapshot) (b : Bank) (n : ℕ) → IsFreshIn h s → IsFreshIn (lengthen h b n) s }
     ensures slot_written { (h : Heap) (s : Snapshot) (n : HeapNative) (k i : ℕ) (x : Option Name) → IsWellFormed h →
         native_at h k ≡ Some n → i < length n.slots → IsInBuffer (view h) x → IsNotGrayIn (view h) x →
         IsFreshIn h s → IsFreshCounting (numbers_of (slice_index_or n.slots i None)) (change_native h k (with_native_slot i x)) s }
+    ensures slot_written_waiting { (h : Heap) (s : Snapshot) (n : HeapNative) (k i : ℕ) (x : Option Name) (others : List ℕ) → IsWellFormed h →
+        native_at h k ≡ Some n → i < length n.slots → IsInBuffer (view h) x → IsNotGrayIn (view h) x →
+        IsFreshCounting others h s → IsFreshCounting (numbers_of (slice_index_or n.slots i None) ++ others) (change_native h k (with_native_slot i x)) s }
     ensures script_slot_written { (h : Heap) (s : Snapshot) (o : Name) (i : ℕ) (x : Option Name) → IsWellFormed h →
         IsScriptObject x → IsThereIn (view h) x → IsNotGrayIn (view h) x →
         IsFreshIn h s → IsFreshIn (change_script h o (with_script_slot i x)) s }
@@ -63,9 +70,12 @@ pub fn kinds_of_change_keep_fresh()
         IsFreshCounting (natives_of_slots (native_at d.heap k) ++ d.queue) (without_native d k).heap s }
 {}
 
-/// What waits asks less of a snapshot; where nothing waits, it is fresh as it was.
+/// What waits asks less of a snapshot, and who stands in the buffer need not wait; where nothing waits, it is fresh as it
+/// was.
 pub fn waiting_asks_less()
     ensures more_wait { (h : Heap) (s : Snapshot) (ks js : List ℕ) → ((k : ℕ) → Among k ks → Among k js) →
+        IsFreshCounting ks h s → IsFreshCounting js h s }
+    ensures buffered_need_not { (h : Heap) (s : Snapshot) (ks js : List ℕ) → ((k : ℕ) → Among k ks → Among k js ⊎ Among (native k) (view h).buffer) →
         IsFreshCounting ks h s → IsFreshCounting js h s }
     ensures some_wait { (h : Heap) (s : Snapshot) (ks : List ℕ) → IsFreshIn h s → IsFreshCounting ks h s }
     ensures none_waits { (h : Heap) (s : Snapshot) → IsFreshCounting [] h s → IsFreshIn h s }
@@ -75,8 +85,9 @@ pub fn waiting_asks_less()
 /// queued for deletion, and those whose overwritten reference is not given up yet, count as purple in the buffer.
 ///
 /// The kinds: a native is made, and a register holds it; a script object is made; a reached native gets a reference, or a
-/// reflector; a register, a slot, a flag or an entry is written, whatever it then holds; registers come, empty; something
-/// is exposed; a reference is given up; the front of the queue leaves.
+/// reflector, or is touched, or loses its mark; a register, a slot, a flag or an entry is written, whatever it then holds;
+/// registers come, empty; something is exposed; a reference is given up; the front of the queue leaves. A slot may be
+/// written while others wait, as where what one slot held goes into another.
 pub fn kinds_of_change_keep_suspected()
     ensures native_made { (owned : List ℕ) (h : Heap) (candidates : List ℕ) (d n : ℕ) → IsSound owned h → d < length h.native_registers → n ≤ most_slots →
         h.natives_made < h.limits.natives → IsSuspectedIn h candidates → IsSuspectedIn (make_native h d n).heap candidates }
@@ -88,11 +99,18 @@ pub fn kinds_of_change_keep_suspected()
         IsSuspectedIn h candidates → IsSuspectedIn (wrapped h x) candidates }
     ensures reference_added { (h : Heap) (candidates : List ℕ) (k : ℕ) → IsWellFormed h → ReachedIn (view (add_ref h k)) (native k) →
         IsSuspectedIn h candidates → IsSuspectedIn (add_ref h k) candidates }
+    ensures touched { (h : Heap) (candidates : List ℕ) (k : ℕ) → IsWellFormed h → ReachedIn (view h) (native k) →
+        IsSuspectedIn h candidates → IsSuspectedIn (touch h k) candidates }
+    ensures mark_taken { (h : Heap) (candidates : List ℕ) (k : ℕ) → IsWellFormed h → ReachedIn (view h) (native k) →
+        IsSuspectedIn h candidates → IsSuspectedIn (unmarked h k) candidates }
     ensures register_written { (h : Heap) (candidates : List ℕ) (r : Reg) (x : Option Name) → IsWellFormed h →
         IsSuspectedIn h candidates → IsSuspectedCounting (numbers_of (register h r)) (set_register h r x) candidates }
     ensures registers_come { (h : Heap) (candidates : List ℕ) (b : Bank) (n : ℕ) → IsSuspectedIn h candidates → IsSuspectedIn (lengthen h b n) candidates }
     ensures slot_written { (h : Heap) (candidates : List ℕ) (n : HeapNative) (k i : ℕ) (x : Option Name) → IsWellFormed h → native_at h k ≡ Some n →
         IsSuspectedIn h candidates → IsSuspectedCounting (numbers_of (slice_index_or n.slots i None)) (change_native h k (with_native_slot i x)) candidates }
+    ensures slot_written_waiting { (h : Heap) (candidates : List ℕ) (n : HeapNative) (k i : ℕ) (x : Option Name) (others : List ℕ) → IsWellFormed h →
+        native_at h k ≡ Some n → IsSuspectedCounting others h candidates →
+        IsSuspectedCounting (numbers_of (slice_index_or n.slots i None) ++ others) (change_native h k (with_native_slot i x)) candidates }
     ensures script_slot_written { (h : Heap) (candidates : List ℕ) (o : Name) (i : ℕ) (x : Option Name) → IsWellFormed h →
         IsSuspectedIn h candidates → IsSuspectedIn (change_script h o (with_script_slot i x)) candidates }
     ensures flag_written { (h : Heap) (candidates : List ℕ) (k : ℕ) (on : Bool) → IsWellFormed h →
@@ -110,4 +128,15 @@ pub fn kinds_of_change_keep_suspected()
     ensures full_front_leaves { (d : Draining) (candidates : List ℕ) (k : ℕ) → IsWellFormed d.heap →
         IsSuspectedCounting (k ∷ d.queue) d.heap candidates →
         IsSuspectedCounting (natives_of_slots (native_at d.heap k) ++ d.queue) (without_native d k).heap candidates }
+{}
+
+/// What waits counts as purple, and who is reached need not wait; where nothing waits, natives are suspected as they were.
+pub fn waiting_keeps_suspected()
+    ensures more_wait { (h : Heap) (candidates ks js : List ℕ) → IsWellFormed h → ((k : ℕ) → Among k ks → Among k js) →
+        IsSuspectedCounting ks h candidates → IsSuspectedCounting js h candidates }
+    ensures reached_need_not { (h : Heap) (candidates ks js : List ℕ) → IsWellFormed h →
+        ((k : ℕ) → Among k ks → Among k js ⊎ ReachedIn (view h) (native k)) →
+        IsSuspectedCounting ks h candidates → IsSuspectedCounting js h candidates }
+    ensures some_wait { (h : Heap) (candidates ks : List ℕ) → IsWellFormed h → IsSuspectedIn h candidates → IsSuspectedCounting ks h candidates }
+    ensures none_waits { (h : Heap) (candidates : List ℕ) → IsSuspectedCounting [] h candidates → IsSuspectedIn h candidates }
 {}

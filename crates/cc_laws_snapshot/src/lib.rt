@@ -16,9 +16,13 @@ mod white;
 
 pub use changes::{commands_keep_fresh, gentle_changes_keep_fresh};
 pub use ends::{ends_keep_reached, ends_take_white};
-pub use kinds::{kinds_of_change_keep_fresh, kinds_of_change_keep_suspected, waiting_asks_less};
+pub use kinds::{
+    kinds_of_change_keep_fresh, kinds_of_change_keep_suspected, waiting_asks_less,
+    waiting_keeps_suspected,
+};
 pub use suspected::{
-    collections_keep_suspected, commands_keep_suspected, loyal_changes_keep_suspected,
+    collections_keep_suspected, commands_keep_suspected, forgetting_keeps_suspected,
+    loyal_changes_keep_suspected,
 };
 pub use units::{begin_is_fresh, units_keep_fresh};
 pub use white::{black_is_least, white_is_unreached};

@@ -5,7 +5,7 @@ use Rattle.cc_model.specs.Heap.{Heap, Buffered}
 use Rattle.cc_model.specs.Collecting.{Machine, UnitsDone}
 use Rattle.cc_laws_heap.specs.Sound.{IsSound}
 use Rattle.cc_laws_heap.proofs.Kept.{IsBuffer, with_buffer}
-use Rattle.cc_laws_run.proofs.BufferStands.{IsSound-buffer}
+use Rattle.cc_laws_heap.proofs.BufferStands.{IsSound-buffer}
 use Rattle.cc_laws_told.specs.Told.{objects, TellsFew}
 
 -- one is told for each object that leaves, and at most so many besides; no object comes, and the heaps after it are sound

@@ -16,9 +16,10 @@ use cc_laws_run::{
 };
 use cc_laws_snapshot::{
     begin_is_fresh, black_is_least, collections_keep_suspected, commands_keep_fresh,
-    commands_keep_suspected, ends_keep_reached, ends_take_white, gentle_changes_keep_fresh,
-    kinds_of_change_keep_fresh, kinds_of_change_keep_suspected, loyal_changes_keep_suspected,
-    units_keep_fresh, waiting_asks_less, white_is_unreached,
+    commands_keep_suspected, ends_keep_reached, ends_take_white, forgetting_keeps_suspected,
+    gentle_changes_keep_fresh, kinds_of_change_keep_fresh, kinds_of_change_keep_suspected,
+    loyal_changes_keep_suspected, units_keep_fresh, waiting_asks_less, waiting_keeps_suspected,
+    white_is_unreached,
 };
 use cc_laws_told::collections_tell_few;
 use cc_lists::{closure_is_least, membership_is_decided, rarer_is_shorter};
@@ -87,6 +88,7 @@ fn laws_of_the_snapshot_can_be_called() {
     gentle_changes_keep_fresh();
     kinds_of_change_keep_fresh();
     waiting_asks_less();
+    waiting_keeps_suspected();
     commands_keep_fresh();
     white_is_unreached();
     black_is_least();
@@ -95,6 +97,7 @@ fn laws_of_the_snapshot_can_be_called() {
     loyal_changes_keep_suspected();
     kinds_of_change_keep_suspected();
     commands_keep_suspected();
+    forgetting_keeps_suspected();
     collections_keep_suspected();
 }
 

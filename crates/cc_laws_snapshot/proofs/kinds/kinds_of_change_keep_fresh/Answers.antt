@@ -1,6 +1,7 @@
 use Rattle.cc_laws_snapshot.proofs.Lengthened.{lengthen-fresh}
 use Rattle.cc_laws_snapshot.proofs.KindsMade.{native_made-fresh, object_made-fresh, reflector_made-fresh, exposed-fresh, wrapped-fresh}
-use Rattle.cc_laws_snapshot.proofs.KindsWritten.{reference_added-fresh, register_written-fresh, slot_written-fresh, script_slot_written-fresh, flag_written-fresh, entry_written-fresh}
+use Rattle.cc_laws_snapshot.proofs.KindsWritten.{reference_added-fresh, touched-fresh, register_written-fresh, slot_written-fresh, slot_written_waiting-fresh, script_slot_written-fresh, flag_written-fresh, entry_written-fresh}
+use Rattle.cc_laws_snapshot.proofs.Unmarking.{unmarked-fresh}
 use Rattle.cc_laws_snapshot.proofs.KindsGivenUp.{given_up-fresh, front_leaves-fresh, full_front_leaves-fresh}
 use Rattle.cc_laws_snapshot.proofs.kinds.kinds_of_change_keep_fresh.Goals as goal
 
@@ -48,3 +49,12 @@ returns-clause-wrapped c = wrapped-fresh
 
 pub returns-clause-registers_come : goal.returns-clause-registers_come
 returns-clause-registers_come c = lengthen-fresh
+
+pub returns-clause-touched : goal.returns-clause-touched
+returns-clause-touched c = touched-fresh
+
+pub returns-clause-mark_taken : goal.returns-clause-mark_taken
+returns-clause-mark_taken c = unmarked-fresh
+
+pub returns-clause-slot_written_waiting : goal.returns-clause-slot_written_waiting
+returns-clause-slot_written_waiting c = slot_written_waiting-fresh

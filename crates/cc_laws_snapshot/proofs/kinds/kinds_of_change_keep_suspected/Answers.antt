@@ -1,6 +1,7 @@
 use Rattle.cc_laws_snapshot.proofs.Lengthened.{lengthen-suspected}
-use Rattle.cc_laws_snapshot.proofs.KindsHeld.{native_made-suspected, object_made-suspected, reflector_made-suspected, wrapped-suspected, reference_added-suspected, script_slot_written-suspected, flag_written-suspected, entry_written-suspected, exposed-suspected}
-use Rattle.cc_laws_snapshot.proofs.KindsWaiting.{register_written-suspected, slot_written-suspected, given_up-suspected, front_leaves-suspected, full_front_leaves-suspected}
+use Rattle.cc_laws_snapshot.proofs.KindsHeld.{native_made-suspected, object_made-suspected, reflector_made-suspected, wrapped-suspected, reference_added-suspected, touched-suspected, script_slot_written-suspected, flag_written-suspected, entry_written-suspected, exposed-suspected}
+use Rattle.cc_laws_snapshot.proofs.KindsWaiting.{register_written-suspected, slot_written-suspected, slot_written_waiting-suspected, given_up-suspected, front_leaves-suspected, full_front_leaves-suspected}
+use Rattle.cc_laws_snapshot.proofs.Unmarking.{unmarked-suspected}
 use Rattle.cc_laws_snapshot.proofs.kinds.kinds_of_change_keep_suspected.Goals as goal
 
 pub returns-clause-native_made : goal.returns-clause-native_made
@@ -47,3 +48,12 @@ returns-clause-full_front_leaves c = full_front_leaves-suspected
 
 pub returns-clause-registers_come : goal.returns-clause-registers_come
 returns-clause-registers_come c = lengthen-suspected
+
+pub returns-clause-touched : goal.returns-clause-touched
+returns-clause-touched c = touched-suspected
+
+pub returns-clause-mark_taken : goal.returns-clause-mark_taken
+returns-clause-mark_taken c = λ h candidates k w. unmarked-suspected h k candidates w
+
+pub returns-clause-slot_written_waiting : goal.returns-clause-slot_written_waiting
+returns-clause-slot_written_waiting c = slot_written_waiting-suspected
