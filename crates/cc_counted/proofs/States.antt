@@ -1,7 +1,7 @@
 -- HOW KEYS STAND IN A WALK, as a list by key: what is read from it, and what becomes of it.
-use Rattle.std.proofs.Common.{◌≡◌, ◌≢◌, ℕ, zero, suc, ◌<◌, ◌≤◌, Bool, true, false, List, [], ◌∷◌, map, length, get_or, Option, Some, None, is_some, if◌then◌else◌, refl, sym, ◌∙◌, ap, subst, ⊎_elim, arith}
+use Rattle.std.proofs.Common.{◌≡◌, ℕ, zero, suc, ◌<◌, Bool, true, false, List, [], ◌∷◌, length, get_or, Option, Some, None, is_some, if◌then◌else◌, refl, sym, ◌∙◌, ap, ⊎_elim, arith}
 use Rattle.std.proofs.Math.ListN.{set}
-use Rattle.std.proofs.lemmas.Bool.{cases_lt, eq-eqb, ne_eqb}
+use Rattle.std.proofs.lemmas.Bool.{cases_lt, eq-eqb}
 use Rattle.std.proofs.lemmas.Bool.Decides.{eqb_tells}
 use Rattle.std.proofs.lemmas.List.{ext_get_or, get_or-set_same, get_or-set_other, get_or_past, length-set}
 use Rattle.cc_names.specs.declared.kind.Walked.{Walked}
@@ -10,7 +10,7 @@ use Rattle.cc_model.specs.Heap.{Heap, native_at}
 use Rattle.cc_walk.specs.Walks.{Walks, nowhere, with_state, states_of}
 use Rattle.cc_walk.proofs.Sets.{states-absent, with_state-other}
 use Rattle.cc_counted.specs.Counts.{state_in, state_left, none_walked, walks_left}
-use Rattle.cc_counted.specs.Lists.{Placed, Lists, cell_at, states_below, IsPlaced}
+use Rattle.cc_counted.specs.Lists.{Lists, states_below, IsPlaced}
 use Rattle.cc_counted.proofs.Changing.{cell-within}
 
 pub states-length : (n : ℕ) (walks : Walks) → length (states_below n walks) ≡ n

@@ -1,12 +1,13 @@
 -- THE WALK of the natives: its keys are those of natives after each call, and what it is by the states of its keys.
-use Rattle.std.proofs.Common.{◌≡◌, ℕ, Option, Some, None, option_map, is_some, IfSome, MatchOption, true, false, length, ◌<◌, sym, ◌∙◌, ap, subst, ⊎_elim, ◌==◌}
+use Rattle.std.proofs.Common.{◌≡◌, ℕ, Option, Some, None, option_map, is_some, IfSome, MatchOption, true, false, length, ◌<◌, sym, ◌∙◌, ap, subst, ⊎_elim, ◌==◌, arith}
+use Rattle.std.proofs.lemmas.List.{get_or-set_same}
 use Rattle.cc_lists.specs.Members.{Among, has}
 use Rattle.cc_lists.specs.Walks.{first_of}
 use Rattle.cc_lists.proofs.Members.{Among-right}
 use Rattle.cc_lists.proofs.Walks.{first-among}
 use Rattle.cc_names.specs.declared.number.NKey.{NKey}
 use Rattle.cc_names.specs.declared.kind.Walked.{Walked}
-use Rattle.cc_names.specs.declared.kind.Walked.TheVariants.{Waiting, Given}
+use Rattle.cc_names.specs.declared.kind.Walked.TheVariants.{Out, Waiting, Given}
 use Rattle.cc_walk.specs.Walks.{Walk, no_walk, members, with_member, without_first, gone_on, with_state, states_of, entered, is_walked}
 use Rattle.cc_walk.proofs.Sets.{walked-member, member-came, member-given, states-with_member, states-gone_on, states-first, states-none, gone_on-none, fewer-members, first-none, no_members}
 use Rattle.cc_counted.specs.Counts.{number_at, state_of, with_state_of, unwalked, NoneWaits}
@@ -14,7 +15,7 @@ use Rattle.cc_counted.specs.Lists.{Placed, Lists, cell_at, counts_of, states_bel
 use Rattle.cc_counted.specs.Stored.{Stored, with_walk}
 use Rattle.cc_counted.proofs.Places.{number_at-cell}
 use Rattle.cc_counted.proofs.Changing.{cell-within}
-use Rattle.cc_counted.proofs.States.{states-set, states-shown}
+use Rattle.cc_counted.proofs.States.{states-length, states-set, states-shown}
 use Rattle.cc_counted.proofs.States as States
 
 module _ (l : Lists) (p : IsPlaced l) where
@@ -69,6 +70,14 @@ module _ (l : Lists) (p : IsPlaced l) where
   counts-entered key c at =
       counts-stated key c at (with_member key l.walk) (entered (states_of l.walk key)) (states-with_member key l.walk)
       ∙ ap (λ state. with_state_of (counts_of l) key (entered state)) (sym (states-shown l p key))
+
+  -- and stands so
+  pub state-entered : (key : ℕ) (c : Placed) → cell_at l.cells key ≡ Some c →
+      state_of (counts_of (record l { walk = with_member key l.walk })) key ≡ entered (state_of (counts_of l) key)
+  state-entered key c at =
+      ap (λ d. state_of d key) (counts-entered key c at)
+      ∙ get_or-set_same (states_below (length l.cells) (states_of l.walk)) key (entered (state_of (counts_of l) key)) Out
+      (omega (arith, states-length (length l.cells) (states_of l.walk), cell-within l.cells key c at))
 
   -- whether a key is in it
   pub walked-shown : (key : ℕ) → has ◌==◌ (members l.walk) key ≡ is_walked (state_of (counts_of l) key)

@@ -390,6 +390,7 @@ impl Counted {
     pub fn walk_add(&mut self, key: NKey)
         requires live { IsSome (number_at self.old key.0) }
         ensures walks { self.new ≡ with_state_of self.old key.0 (entered (state_of self.old key.0)) }
+        ensures came { state_of self.new key.0 ≡ entered (state_of self.old key.0) }
         ensures owned { Transfers [] [] self.old self.new }
     {
         self.natives.walk_add(key);
