@@ -35,7 +35,8 @@
  *
  * SLICES. Call cc_gc, and then cc_slice for some units in each frame. What no root reached when the first of them began the
  * collection is told as unlinked at its end, each native of it, whatever calls come between the slices; the next cc_gc frees it.
- * So it is unless the collection is abandoned, or a call between was handed an object that no root reached any more.
+ * So it is unless the collection is abandoned, or a call between was handed an object that no root reached any more. cc_forget
+ * between cc_gc and the first slice changes nothing of this, and spares the collection suspects that are alive.
  *
  * STATUS. Each call answers one of the CC_ numbers: of those that apply the first of CC_CLOSED; CC_INDEX of a numbered root; then
  * of the objects in the order in which they are handed in CC_FOREIGN, CC_GONE, CC_KIND of each; CC_INDEX of slots; CC_FULL. Where
@@ -128,6 +129,10 @@ uint32_t cc_gc(cc_collector *);
 /* Leaves exactly what the roots reach. (cc_gc wants no memory: where a collection that it ends is refused some, that is told.) */
 uint32_t cc_settle(cc_collector *);
 uint32_t cc_running(cc_collector *, uint32_t *running);
+/* Forgets suspects that are alive, *marks of them: those that roots reach over slots, reflectors and delegates. A collection that
+ * begins then does not begin at them. What roots reach by entries of weak maps alone stays a suspect. It may come at any time, also
+ * while a collection runs; it tells nothing, wants no memory, and takes time by what roots reach. */
+uint32_t cc_forget(cc_collector *, uint32_t *marks);
 
 /* What was told: CC_NONE where all was fetched. */
 uint32_t cc_next_told(cc_collector *, cc_told *);

@@ -195,12 +195,17 @@ static void collect_in_slices(cc_collector *c, struct page *p) {
 /* Other things that a program does. */
 static void move_and_proxy(cc_collector *c) {
     cc_object parent, child, proxy, found, reflector;
-    uint32_t kind, some;
+    uint32_t kind, some, marks;
     printf("A reference is moved, and a proxy is made.\n");
     TRY(cc_new_native(c, 2, 2, &parent));
     TRY(cc_new_native(c, 3, 0, &child));
     TRY(cc_store(c, &parent, 0, &child));
     TRY(cc_set_native_root(c, 3, &nothing));
+    /* the parent was written, and the child lost a reference: both are suspects, and a root reaches them */
+    TRY(cc_forget(c, &marks));
+    HOLDS(marks == 2);
+    TRY(cc_forget(c, &marks));
+    HOLDS(marks == 0);
     TRY(cc_move_slot(c, &parent, 1, &parent, 0));
     TRY(cc_slot(c, &parent, 0, &found));
     HOLDS(found.kind == CC_NOTHING);
@@ -251,11 +256,13 @@ static void meet_each_status(cc_collector *c, const struct page *p) {
     cc_root root, strange_root;
     cc_told told;
     uint64_t natives, natives_after;
+    uint32_t marks;
     uint16_t slots;
     printf("Each status is met.\n");
 
     WANT(cc_gc(&closed), CC_CLOSED);
     WANT(cc_natives(&closed, &natives), CC_CLOSED);
+    WANT(cc_forget(&closed, &marks), CC_CLOSED);
     cc_close(&closed);
     printf("  CC_CLOSED: a collector that was never opened\n");
     WANT(cc_open(c, 8, 10, 10), CC_OPEN);

@@ -14,6 +14,7 @@ pub mod Finding
 pub mod Reading
 pub mod Stopping
 pub mod Collecting
+pub mod Forgetting
 pub mod Taking
 pub mod Telling
 pub mod Rooted

@@ -18,6 +18,7 @@
 //!
 //! A collection in slices that begins right after `gc` takes each native that nothing reached by then, where the calls between
 //! its slices are handed what is reached, unless the collection is abandoned, which is told (`garbage`, `begins`, `takes`).
+//! `forget` before it spares it the suspects that are alive, and changes nothing of this (`forgets`).
 #![tactic(auto)]
 
 mod changes;

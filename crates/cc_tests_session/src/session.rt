@@ -39,9 +39,11 @@ fn explains(s: &mut Session, native: Object) -> bool {
     given & s.why(reflector).is_ok()
 }
 
+// The native that was wrapped is a suspect, and a root holds it.
 fn collects(s: &mut Session) -> bool {
+    let forgotten = s.forget() == 1;
     let sliced = s.slice(1_000) == Ok(Ended::Yes);
-    sliced & s.collect().is_ok()
+    forgotten & sliced & s.collect().is_ok()
 }
 
 // So many roots hold an object, as many times.

@@ -111,10 +111,14 @@ impl Document {
         self.session.set_script_root(REFLECTOR, None)
     }
 
-    /// A few units of a collection, in a frame. One that begins here begins right after `gc`, and can miss no garbage.
+    /// A few units of a collection, in a frame. One that begins here begins right after `gc`, and can miss no garbage. It does not
+    /// begin at what is alive.
     pub fn frame(&mut self, units: u32) -> Result<Ended, Hindrance> {
         if !self.session.running() {
             self.session.gc()?;
+            if self.session.has_suspects() {
+                self.session.forget();
+            }
         }
         self.session.slice(units)
     }
@@ -126,7 +130,7 @@ impl Document {
     }
 
     /// The row of a native that was told as freed goes.
-    pub fn forget(&mut self, name: Name) {
+    pub fn remove_row(&mut self, name: Name) {
         if let Name::Native(number) = name {
             let row = self.session.data_of(number.0) as usize;
             self.titles.try_remove(row);

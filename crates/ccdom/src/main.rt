@@ -28,7 +28,7 @@ fn report(rt: &impl Print, document: &mut Document, what: &str) -> Result<()> {
             Some(Item::Event(Event::Unlinked(name))) => show(rt, document, "  unlinked ", name)?,
             Some(Item::Event(Event::Freed(name))) => {
                 show(rt, document, "  freed ", name)?;
-                document.forget(name);
+                document.remove_row(name);
             }
             Some(_) => println!(rt; "  the collection was given up")?,
             None => break,
