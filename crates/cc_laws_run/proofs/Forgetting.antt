@@ -61,8 +61,8 @@ forgotten-doomed h s ds d = record {
   unmarked = d.unmarked;
   holder = d.holder;
   joint = d.joint;
-  noter = d.noter;
-  mapper = d.mapper;
+  noted_held = d.noted_held;
+  mapping_held = d.mapping_held;
   covered = d.covered;
 }
 
@@ -80,4 +80,5 @@ forget-spends h ds d = record {
   holder = d.holder;
   joint = d.joint;
   empty = d.empty;
+  unlinked = d.unlinked;
 }

@@ -44,12 +44,17 @@ pub mod TouchedSteps
 pub mod TouchedCascade
 pub mod TouchedCommands
 pub mod MissesLost
+pub mod GraphStays
+pub mod GivenNames
+pub mod GivenHeaps
+pub mod DoomedLess
 pub mod SpentViews
 pub mod SpentGone
 pub mod SpentUnits
 pub mod SpentAsks
 pub mod FirstCollection
 pub mod FollowedAsks
+pub mod FollowedBack
 pub mod WholeRuns
 pub mod Witnesses
 pub mod Face
