@@ -34,6 +34,15 @@ pub record Does (premise : Type 0) (change : Graph → Graph) (old new : Hosted)
   pub running : new.running ≡ old.running
   pub mark : new.mark ≡ old.mark
 
+-- A CALL HANDS A ROOT A NATIVE that is there, reached or not: it changes the graph so, with no premise. What the running collection
+-- can't miss it can't miss afterwards either, where it does not have that native.
+pub record Brings (brought : Option Name) (change : Graph → Graph) (old new : Hosted) : Type 0 where
+  pub stands : StandsAfter old.heaps.heap new.heaps.heap change
+  pub doomed : KeepsDoomedBut brought old.heaps.heap new.heaps.heap
+  pub keys : KeepsKeys old.heaps new.heaps
+  pub running : new.running ≡ old.running
+  pub mark : new.mark ≡ old.mark
+
 -- A CALL WAS REFUSED after it had begun: the graph stays as it is in any case
 pub record Tries (premise : Type 0) (old new : Hosted) : Type 0 where
   pub stands : StillStands old.heaps.heap new.heaps.heap
