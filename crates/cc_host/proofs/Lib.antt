@@ -1,3 +1,4 @@
+pub mod Referring
 pub mod KeptDoomed
 pub mod Keeping
 pub mod Spare
