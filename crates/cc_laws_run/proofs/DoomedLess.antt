@@ -45,19 +45,19 @@ doomed-some v s ds es d within holder joint = record {
 }
 
 module _ (h : Heap) (g : Graph) (w : IsWellFormed h) (well : IsWellMade g) (stands : StandsFor h g) (met : List Name) (ds : List Name) where
-  -- those that are left
+  -- the names that are left: those that may not be back
   abbrev pub not_back : List Name
   not_back = filter (λ x. not (may_be_back g met x)) ds
 
-  -- they were doomed,
+  -- a name that is left was one of the names
   pub not_back-were : (x : Name) → Among x not_back → Among x ds
   not_back-were x m = Among-filtered (λ x. not (may_be_back g met x)) x ds m
 
-  -- and none of them may be back,
+  -- no name that is left may be back
   pub not_back-out : (x : Name) → Among x not_back → ¬ (MayBeBack g met x)
   not_back-out x m b = false≢true (sym (ap not (back-test g met x b)) ∙ Among-passes (λ x. not (may_be_back g met x)) x ds m)
 
-  -- but all others may.
+  -- each of the names is left, or may be back
   pub not_back-cases : (x : Name) → Among x ds → Among x not_back ⊎ MayBeBack g met x
   not_back-cases x m = ⊎_elim (λ e. inr (test-back g met x e)) (λ e. inl (Among-filter (λ x. not (may_be_back g met x)) x ds m (ap not e)))
       (cases_Bool (may_be_back g met x))
@@ -79,14 +79,14 @@ module _ (h : Heap) (g : Graph) (w : IsWellFormed h) (well : IsWellMade g) (stan
   left-or_back x c = ⊎_elim (λ l. not_back-cases x l) (λ r. inr r) c
 
   module _ (beside : AreBeside g met (view h) ds) where
-    -- what is beside them is beside those that are left
+    -- what is beside the names is beside those that are left
     pub not_back-beside : AreBeside g met (view h) not_back
     not_back-beside = record {
       the_map = λ e m i. left-or_back e.the_map (beside.the_map e m (not_back-were e.value i));
       key = λ e m i. left-or_back e.key (beside.key e m (not_back-were e.value i));
     }
 
-    -- THOSE THAT ARE LEFT ARE DOOMED.
+    -- THE NAMES THAT ARE LEFT ARE DOOMED, where all were.
     pub not_back-doomed : (s : Snapshot) → IsDoomed (view h) s ds → IsDoomed (view h) s not_back
     not_back-doomed s d = doomed-some (view h) s ds not_back d not_back-were
         (λ x y m i. ⊎_elim (λ l. l) (λ b. absurd (not_back-out y i (edge-back h g w well stands met x y m b)))

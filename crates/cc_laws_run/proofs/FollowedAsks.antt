@@ -237,18 +237,18 @@ after_gc-runs m s r = any-runs m s (taken Gc) r refl
 abbrev pub Dooms : Machine → Type 0
 Dooms m = (m.snapshot ≡ None) × IsDoomed (view (with_empty_buffer m.heap)) (begun m.heap) (garbage m.heap)
 
--- so it does right after `gc`
+-- right after `gc` a collection that begins dooms what is garbage
 pub after_gc-dooms : (m : Machine) (s : State) → IsRunning m s → IsSuspectedNow m → Dooms (gc m).machine
 after_gc-dooms m s r suspected =
     let f = gc-collects m (running-going m s r suspected) in
     (f.4, subst (λ (h : Heap). IsDoomed (view (with_empty_buffer h)) (begun h) (garbage h)) (sym f.3) (collected-doomed f.0 f.1 f.2))
 
 module _ (m : Machine) (s : State) (r : IsRunning m s) (dooms : Dooms m) where
-  -- THE ASK THAT BEGINS A COLLECTION then makes one that can't miss what was lost,
+  -- THE ASK THAT BEGINS A COLLECTION that dooms garbage makes one that can't miss what was lost.
   pub begun-follows : (ask : Ask) → begins_one ask ≡ true → IsFollowed (lost m.heap) (first_units m ask).events (first_units m ask).progress (do_ask m ask).machine
   begun-follows ask e = begin-follows m s (lost m.heap) r dooms.0 (lost-doomed m.heap s.graph r.sound r.well_made r.stands dooms.1) ask e
 
-  -- AND IT CAN'T MISS IT under later asks that bring nothing back.
+  -- A COLLECTION THAT DOOMED GARBAGE CAN'T MISS WHAT WAS LOST, under later asks that bring nothing back.
   pub all-follow : (ask : Ask) (asks : List Ask) → begins_one ask ≡ true → IsTrue (list_all ask_in_range asks) → IsTrue (list_all brings_none_back asks) →
       let c = first_collection m (ask ∷ asks) in IsFollowed (lost m.heap) c.events c.progress (machine_after m (ask ∷ asks))
   all-follow ask asks e range none =

@@ -74,7 +74,7 @@ HasReached g met = (x : Name) → Reached g x → Among x met
 pub reached-listed : (g : Graph) → HasReached g (reached_names g)
 reached-listed g x d = has-among same_name same_name-exact (reached_names g) x ((reached-decided g x).1 d)
 
--- and what is in the list is reached
+-- what is in the list of reached names is reached
 pub listed-reached : (g : Graph) (x : Name) → Among x (reached_names g) → Reached g x
 listed-reached g x m = (reached-decided g x).0 (has-there same_name same_name-exact (reached_names g) x m)
 
@@ -82,14 +82,14 @@ listed-reached g x m = (reached-decided g x).0 (has-there same_name same_name-ex
 abbrev pub HasMet : State → List Ask → List Answer → List Name → Type 0
 HasMet s asks answers met = (x : Name) → Among x (met_over s asks answers) → Among x met
 
--- those of the state before the asks
+-- what is reached before asks is met under them
 pub met-first : (s : State) (asks : List Ask) (answers : List Answer) (met : List Name) → HasMet s asks answers met → HasReached s.graph met
 met-first s [] answers met all x d = all x (reached-listed s.graph x d)
 met-first s (ask ∷ asks) [] met all x d = all x (reached-listed s.graph x d)
 met-first s (ask ∷ asks) (a ∷ answers) met all x d =
     all x (Among-left x (reached_names s.graph) (met_over (next s ask a) asks answers) (reached-listed s.graph x d))
 
--- and those of the asks after the first
+-- what is met under later asks is met under all
 pub met-later : (s : State) (ask : Ask) (asks : List Ask) (a : Answer) (answers : List Answer) (met : List Name) →
     HasMet s (ask ∷ asks) (a ∷ answers) met → HasMet (next s ask a) asks answers met
 met-later s ask asks a answers met all x m = all x (Among-right x (reached_names s.graph) (met_over (next s ask a) asks answers) m)
@@ -106,7 +106,7 @@ asks-stay s (ask ∷ asks) [] met all x b = b
 asks-stay s (ask ∷ asks) (a ∷ answers) met all x b = asks-stay (next s ask a) asks answers met (met-later s ask asks a answers met all) x
     (ask-stays s ask a met (met-first s (ask ∷ asks) (a ∷ answers) met all) x b)
 
--- and where more was met
+-- what may be back may be back where more was met
 back-more : (g : Graph) (met more : List Name) → ((x : Name) → Among x met → Among x more) → HasReached g more → (x : Name) → MayBeBack g met x → MayBeBack g more x
 back-more g met more within reached = back-stays g g (KeepsBut-refl (Reached g) g) met more within reached
 
@@ -124,7 +124,7 @@ unit-entries h o answer = unit-cases h o answer (λ u. u.progress ≡ went_on �
     by_snapshot None e = refl
     by_snapshot (Some s) e = by_node s (first_untraversed s.nodes) e
 
--- so do units in a row
+-- units in a row that go on leave the entries
 units-entries : (n : ℕ) (m : Machine) → (units_done n (no_units m)).progress ≡ went_on → (units_done n (no_units m)).machine.heap.entries ≡ m.heap.entries
 units-entries n m = units_done-keep (λ d. d.progress ≡ went_on → d.machine.heap.entries ≡ m.heap.entries)
     (λ d e q f. unit-entries d.machine.heap d.machine.snapshot (next_answer d.machine.memory) f ∙ q e) n (no_units m) (λ e. refl)
@@ -133,23 +133,23 @@ units-entries n m = units_done-keep (λ d. d.progress ≡ went_on → d.machine.
 abbrev GaveBefore : List Name → Heap → Heap → Type 0
 GaveBefore ds old new = (e : Joint) → Among e.value ds → Among e (joints new.entries) → Among e (joints old.entries)
 
--- where entries stay
+-- where entries stay, what gives a name gave it before
 gave-same : (ds : List Name) (old new : Heap) → new.entries ≡ old.entries → GaveBefore ds old new
 gave-same ds old new same e i m = subst (λ es. Among e (joints es)) same m
 
--- under a command of the mutator
+-- a command of the mutator writes no entry that gives a doomed name
 mutate-gave : (m : Machine) (c : Command) (ds : List Name) → IsSound [] m.heap → KeepsReflectors ds → IsDoomedNow m ds → GaveBefore ds m.heap (mutate m c).machine.heap
 mutate-gave m c ds sound keeps d = mutate-cases m c (λ (u : Turn). GaveBefore ds m.heap u.machine.heap)
     (λ refusal e j i at. at)
     (λ e f j i at. at)
     (λ e memory j i at. (effects-spare d.0 ds m.heap c sound.well_formed keeps d.2).joints j i at)
 
--- suspects forgotten
+-- suspects forgotten leave the entries
 forget-gave : (h : Heap) (ds : List Name) → GaveBefore ds h (forgotten h)
 unfolding forgotten
 forget-gave h ds e i m = m
 
--- UNDER A COMMAND that leaves the collection running and brings nothing back
+-- WHAT GIVES A DOOMED NAME GAVE IT BEFORE a command that leaves the collection running and brings nothing back.
 class-gave : (m : Machine) (s : State) (c : Command) (ds : List Name) → IsRunning m s → IsTrue (in_range c) → KeepsReflectors ds → IsDoomedNow m ds →
     (k : Class) → class_of c ≡ k → brings_back k ≡ false → let n = (do_class m c k).machine in (first_units_of m n k).progress ≡ went_on → GaveBefore ds m.heap n.heap
 unfolding slice
@@ -216,7 +216,7 @@ module _ (m : Machine) (s : State) (c : Command) (ds met : List Name) (r : IsRun
     others = λ x j. inl j;
   }
 
-  -- where a weak register is read, those are left that may not be back
+  -- where a weak register is read, the names are left that may not be back
   read-shrinks : (d w : ℕ) → class_of c ≡ reads_weak d w → let n = (read_weak m d w).machine in let g = (next s (taken c) (read_weak m d w).answer).graph in
       IsRunning n (next s (taken c) (read_weak m d w).answer) → HasReached g met → Shrinks met ds [] went_on n g
   read-shrinks d w e ran later = record {
@@ -249,7 +249,7 @@ module _ (m : Machine) (s : State) (c : Command) (ds met : List Name) (r : IsRun
       room : d < length m.heap.native_registers
       room = omega (arith, read-register c d w e i, subst (λ (rs : Slots). bank_length ≤ length rs) (sym r.stands.native_registers) r.well_made.registers.0.enough)
 
-      -- what is brought back is met,
+      -- what a weak register gives is met
       noted-met : (o : Option Name) → noted m w ≡ o → (x : Name) → Among x (option_to_list o) → Among x met
       noted-met None q x j = absurd j
       noted-met (Some y) q x j =
@@ -258,14 +258,14 @@ module _ (m : Machine) (s : State) (c : Command) (ds met : List Name) (r : IsRun
           let there : Among y (contents g.native_registers) = subst (λ (rs : Slots). Among y (contents rs)) ran.stands.native_registers held in
           ⊎_elim (λ f. subst (λ z. Among z met) f (later y (root-reached g y (Among-left y (contents g.native_registers) (contents g.script_registers) there)))) (λ f. absurd f) j
 
-      -- so it is none of those that are left
+      -- what a weak register gives is none of those that are left
       untouched : IsUntouched left (noted m w)
       untouched y j l = not_back-out m.heap s.graph r.sound.well_formed r.well_made r.stands met ds y l (inl (given y (noted-met (noted m w) refl y j)))
 
       spares : Spares left (view m.heap) (view n.heap)
       spares = hold_native-spares now.doomed.0 left m.heap d (noted m w) untouched still
 
--- UNDER ANY ASK
+-- UNDER ANY ASK some of the names are left, and the others may be back.
 ask-shrinks : (m : Machine) (s : State) (ask : Ask) (ds met : List Name) → IsRunning m s → IsTrue (ask_in_range ask) → HasReached s.graph met →
     HasReached (next s ask (do_ask m ask).answer).graph met → CannotMissNow m s.graph met ds →
     Shrinks met ds (first_units m ask).events (first_units m ask).progress (do_ask m ask).machine (next s ask (do_ask m ask).answer).graph
@@ -292,11 +292,11 @@ module _ (met ds : List Name) (d later : UnitsDone) (n k : Machine) (g e : Graph
     (back : (x : Name) → MayBeBack g met x → MayBeBack e met x)
     (spend : (es : List Name) → KeepsReflectors es → IsSpent n.heap es → IsSpent k.heap es)
     (more : (es : List Name) → CannotMissNow n g met es → Shrinks met es later.events later.progress k e) where
-  -- those that are left, or may be back, are so later
+  -- names that are left, or may be back, are so later
   others-later : (x : Name) → Among x ds → Among x f.left ⊎ MayBeBack e met x
   others-later x j = ⊎_elim (λ l. inl l) (λ b. inr (back x b)) (f.others x j)
 
-  -- ONE ASK, AND LATER ONES
+  -- ONE ASK AND LATER ONES leave of the names what the later ones leave of what the first left.
   pub then-shrinks : let c = then_later d later in Shrinks met ds c.events c.progress k e
   then-shrinks = go d.progress refl
     where
@@ -369,7 +369,7 @@ asks-shrink m s (ask ∷ asks) ds met r range all now =
     (λ es keeps spent. asks-spend t.machine u asks es still both.1 keeps spent)
     (λ es later. asks-shrink t.machine u asks es met still both.1 rest later)
 
--- where they were beside what was met before
+-- the same for names that are beside what was met before the asks
 pub now-shrinks : (m : Machine) (s : State) (asks : List Ask) (ds met : List Name) → IsRunning m s → IsTrue (list_all ask_in_range asks) → CannotMissNow m s.graph met ds →
     let c = first_collection m asks in Shrinks (met_then met m s asks) ds c.events c.progress (machine_after m asks) (graph_then m s asks)
 now-shrinks m s asks ds met r range now = asks-shrink m s asks ds all r range (λ x i. Among-right x met (met_over s asks (turns m asks)) i) (record {
@@ -388,7 +388,7 @@ now-shrinks m s asks ds met r range now = asks-shrink m s asks ds all r range (�
     more = back-more s.graph met all (λ x i. Among-left x met (met_over s asks (turns m asks)) i)
         (met-first s asks (turns m asks) all (λ x i. Among-right x met (met_over s asks (turns m asks)) i))
 
--- what they come to misses none but what may be back
+-- where some of the names are left and the others may be back, none is missed but these
 pub shrunk-misses : (met : List Name) (m : Machine) (s : State) (asks : List Ask) (ds : List Name) →
     (let c = first_collection m asks in Shrinks (met_then met m s asks) ds c.events c.progress (machine_after m asks) (graph_then m s asks)) → MissesNone ds met m s asks
 shrunk-misses met m s asks ds f = record {
@@ -410,13 +410,13 @@ shrunk-misses met m s asks ds f = record {
     apart : (i k : ℕ) → native i ≡ reflector k → ⊥
     apart i k q = cc
 
--- where it ended, those that are left are spent
+-- where the collection ended, the names that are left are spent
 pub shrunk-spent : (met : List Name) (m : Machine) (asks : List Ask) (ds : List Name) (g : Graph) →
     (let c = first_collection m asks in Shrinks met ds c.events c.progress (machine_after m asks) g) → (first_collection m asks).progress ≡ at_end →
     (left : List Name) × AreLeftOf g met ds left × IsSpent (machine_after m asks).heap left
 shrunk-spent met m asks ds g f e = (f.left, record { were = f.were; others = f.others }, followed-spent m asks f.left f.followed e)
 
--- and a `gc` after them takes away what may not be back
+-- a `gc` after the asks takes away all names that may not be back
 pub shrunk-gone : (met : List Name) (m : Machine) (s : State) (asks : List Ask) (ds : List Name) (g : Graph) → IsRunning (machine_after m asks) s →
     (let c = first_collection m asks in Shrinks met ds c.events c.progress (machine_after m asks) g) →
     (first_collection m (asks ++ taken Gc ∷ [])).progress ≢ refused → (x : Name) → Among x ds → ¬ (MayBeBack g met x) →
@@ -425,7 +425,7 @@ shrunk-gone met m s asks ds g r f unrefused x i out = ⊎_elim (λ l. followed-g
 
 -- The ask that begins a collection
 
--- it leaves the entries, where the collection goes on
+-- a command that begins a collection leaves the entries, where that goes on
 has_units-entries : (m : Machine) (c : Command) (k : Class) → has_units k ≡ true → let n = (do_class m c k).machine in
     (first_units_of m n k).progress ≡ went_on → n.heap.entries ≡ m.heap.entries
 unfolding slice
@@ -439,7 +439,7 @@ begin-entries m (taken c) e p = has_units-entries m c (class_of c) e p
 begin-entries m _ e p = absurd (false≢true e)
 
 module _ (m : Machine) (s : State) (r : IsRunning m s) (dooms : Dooms m) (ask : Ask) (e : begins_one ask ≡ true) (met : List Name) where
-  -- what was lost is left by it,
+  -- all that was lost is left by the ask that begins the collection
   begun-shrinks : HasReached s.graph met → let d = first_units m ask in
       Shrinks met (lost m.heap) d.events d.progress (do_ask m ask).machine (next s ask (do_ask m ask).answer).graph
   begun-shrinks reached = record {
@@ -454,7 +454,7 @@ module _ (m : Machine) (s : State) (r : IsRunning m s) (dooms : Dooms m) (ask : 
     others = λ x j. inl j;
   }
 
-  -- AND WHAT MAY NOT BE BACK IS LEFT BY LATER ASKS.
+  -- WHAT WAS LOST AND MAY NOT BE BACK IS LEFT by that ask and later ones.
   pub all-shrink : (asks : List Ask) → IsTrue (list_all ask_in_range asks) → HasMet s (ask ∷ asks) (turns m (ask ∷ asks)) met →
       let c = first_collection m (ask ∷ asks) in Shrinks met (lost m.heap) c.events c.progress (machine_after m (ask ∷ asks)) (state_after s (ask ∷ asks) (turns m (ask ∷ asks))).graph
   all-shrink asks range all =
@@ -489,7 +489,7 @@ front-stays m s (y ∷ xs) ys met all x b =
     let t : Turn = do_ask m y in
     front-stays t.machine (next s y t.answer) xs ys met (met-later s y (xs ++ ys) t.answer (turns t.machine (xs ++ ys)) met all) x b
 
--- the state after asks and then others
+-- the state after asks in a row is that after the first, and then after the others
 pub state_after-append : (m : Machine) (s : State) (xs ys : List Ask) →
     state_after s (xs ++ ys) (turns m (xs ++ ys)) ≡ state_after (state_after s xs (turns m xs)) ys (turns (machine_after m xs) ys)
 state_after-append m s [] ys = refl

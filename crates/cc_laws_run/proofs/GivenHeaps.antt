@@ -128,7 +128,7 @@ module _ (h : Heap) (g : Graph) (w : IsWellFormed h) (well : IsWellMade g) (stan
       apart : (j k : ℕ) → object j ≡ reflector k → ⊥
       apart j k q = cc
 
-  -- and so is a key, and the delegate of one
+  -- a key that may be back is given, and so is the delegate of a key
   key-given : (e : Entry) → Among e g.entries → (j : Joint) → Gives e j → MayBeBack g met j.key → GivenFrom g met j.key
   key-given e at _ its_value b = ⊎_elim (λ l. l)
       (λ r. subst (GivenFrom g met) (sym r.1)

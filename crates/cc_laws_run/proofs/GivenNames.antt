@@ -21,11 +21,11 @@ use Rattle.cc_model.specs.Given.{GivenFrom, given, given_edge, given_value, give
 use Rattle.cc_laws_run.specs.Returning.{MayBeBack}
 
 module _ (g : Graph) (met : List Name) where
-  -- the list
+  -- what some names give, as a list
   abbrev pub given_names : List Name
   given_names = closure same_name (system met (all_edges g) (rules_of (joints g.entries)))
 
-  -- what is given is derived
+  -- what is given is derived by rules in a list
   given-derived : (x : Name) → GivenFrom g met x → Least (system met (all_edges g) (rules_of (joints g.entries))) x
   given-derived _ (given x m) = derive-root met (all_edges g) (rules_of (joints g.entries)) x m
   given-derived _ (given_edge x y d m) = derive-along met (all_edges g) (rules_of (joints g.entries)) x y
@@ -41,7 +41,7 @@ module _ (g : Graph) (met : List Name) where
   joint-given e at _ its_value a b = given_value e at a b
   joint-given e at _ (its_key d is) a b = given_key e d at is a b
 
-  -- and what is derived is given
+  -- what is derived by the rules is given
   derived-given : (x : Name) → Least (system met (all_edges g) (rules_of (joints g.entries))) x → GivenFrom g met x
   derived-given = derived-by_joints met (all_edges g) (joints g.entries) (GivenFrom g met) (λ x m. given x m) along
       (λ j m. let f = joint-cases g.entries j m in joint-given f.0 f.1 j f.2)
@@ -62,11 +62,11 @@ module _ (g : Graph) (met : List Name) where
   listed-given : (x : Name) → has same_name given_names x ≡ true → GivenFrom g met x
   listed-given x e = derived-given x ((closure-decides same_name same_name-exact (system met (all_edges g) (rules_of (joints g.entries))) x).0 e)
 
-  -- and what is given is in the list
+  -- what is given is in the list
   given-listed : (x : Name) → GivenFrom g met x → has same_name given_names x ≡ true
   given-listed x d = (closure-decides same_name same_name-exact (system met (all_edges g) (rules_of (joints g.entries))) x).1 (given-derived x d)
 
-  -- THE TEST TELLS IT,
+  -- WHAT PASSES THE TEST may be back.
   pub test-back : (x : Name) → may_be_back x ≡ true → MayBeBack g met x
   test-back x e = ⊎_elim (λ l. inl (listed-given x l)) (λ r. inr (of x r))
       (or_cases (has same_name given_names x) (list_any (λ k. has same_name given_names (native k)) (behind x)) e)
@@ -76,7 +76,7 @@ module _ (g : Graph) (met : List Name) where
       of (name.Script k) r = absurd (false≢true r)
       of (name.Reflector k) r = (k.0, refl, listed-given (native k.0) (⊎_elim (λ l. l) (λ n. absurd (false≢true n)) (or_cases (has same_name given_names (native k.0)) false r)))
 
-  -- and what may be back passes it.
+  -- WHAT MAY BE BACK passes the test.
   pub back-test : (x : Name) → MayBeBack g met x → may_be_back x ≡ true
   back-test x b = ⊎_elim
       (λ l. or_left (has same_name given_names x) (list_any (λ k. has same_name given_names (native k)) (behind x)) (given-listed x l))

@@ -41,25 +41,25 @@ pub record KeepsBut (P : Name → Type 0) (g e : Graph) : Type 0 where
   pub entries : (d : Entry) → Among d g.entries → Among d e.entries ⊎ (P d.the_map × P d.key)
 
 module _ (P : Name → Type 0) where
-  -- a graph has its own
+  -- a graph has all edges and entries of its own
   pub KeepsBut-refl : (g : Graph) → KeepsBut P g g
   KeepsBut-refl g = record { edges = λ x y m. inl m; entries = λ d m. inl m }
 
-  -- one change after another
+  -- two changes one after the other keep what each keeps
   KeepsBut-then : (g e f : Graph) → KeepsBut P g e → KeepsBut P e f → KeepsBut P g f
   KeepsBut-then g e f a b = record {
     edges = λ x y m. ⊎_elim (λ l. b.edges x y l) (λ r. inr r) (a.edges x y m);
     entries = λ d m. ⊎_elim (λ l. b.entries d l) (λ r. inr r) (a.entries d m);
   }
 
-  -- the same edges and the same entries
+  -- a graph with the same edges and the same entries keeps them all
   KeepsBut-same : (g e : Graph) → ((x : Name) → edges_of e x ≡ edges_of g x) → e.entries ≡ g.entries → KeepsBut P g e
   KeepsBut-same g e same entries = record {
     edges = λ x y m. inl (subst (Among y) (sym (same x)) m);
     entries = λ d m. inl (subst (Among d) (sym entries) m);
   }
 
-  -- a register written
+  -- a register written keeps all edges and entries
   KeepsBut-register : (g : Graph) (r : Reg) (x : Option Name) → KeepsBut P g (set_register g r x)
   KeepsBut-register g (N d) x = KeepsBut-same g (set_register g (N d) x) same refl
     where
@@ -90,7 +90,7 @@ module _ (P : Name → Type 0) where
           let t = shapes x s q in
           ⊎_elim (λ l. inl (subst (Among y) (sym (edges_of-shape e x ∙ ap (edges_of_some x) t.1)) l)) (λ r. inr r) (t.2 y m)
 
-  -- shapes changed at one object
+  -- where the shape of one object changes, all others keep their edges
   KeepsBut-changed : (g e : Graph) (z : Name) (f : Shape → Shape) → GraphChanges (changed_at z f) g e → e.entries ≡ g.entries →
       ((s : Shape) (y : Name) → Among y (edges_of_shape z s) → Among y (edges_of_shape z (f s)) ⊎ P z) → KeepsBut P g e
   KeepsBut-changed g e z f graph entries kept = KeepsBut-shapes g e entries
@@ -103,7 +103,7 @@ module _ (P : Name → Type 0) where
           subst (λ v. Among y (edges_of_shape v (f s)) ⊎ P v) (sym same) (kept s y (subst (λ v. Among y (edges_of_shape v s)) same m))
       go x s y m false q = inl m
 
-  -- a slot of what `P` holds of written
+  -- a slot written keeps the edges of all that `P` does not hold of, where it holds of the slot's object
   KeepsBut-slot : (g : Graph) (o : Option Name) (i : ℕ) (x : Option Name) → OfSome P o → KeepsBut P g (set_slot g o i x)
   KeepsBut-slot g None i x p = KeepsBut-refl g
   KeepsBut-slot g (Some (name.Native k)) i x p = KeepsBut-changed g (set_slot g (Some (name.Native k)) i x) (native k.0) (with_slot_written i x)
@@ -129,7 +129,7 @@ module _ (P : Name → Type 0) where
           ≡ option_map (with_slot_written i x) (option_map (λ slots. script_shape (Some slots) None) r)
       made r = grind arith
 
-  -- a reflector preserved
+  -- a reflector preserved adds an edge and keeps the others
   KeepsBut-preserve : (g : Graph) (o : Option Name) → KeepsBut P g (preserve g o)
   KeepsBut-preserve g (Some (name.Reflector k)) = KeepsBut-changed g (preserve g (Some (name.Reflector k))) (native k.0) with_preserved
       (GraphChanges-native g k.0 as_preserved with_preserved (λ n. refl) (λ n. refl))
@@ -144,11 +144,11 @@ module _ (P : Name → Type 0) where
       preserved y false m = absurd m
   KeepsBut-preserve g _ = KeepsBut-refl g
 
-  -- what had a shape has it still
+  -- where each object keeps its shape, edges stay
   KeepsBut-still : (g e : Graph) → e.entries ≡ g.entries → ((x : Name) (s : Shape) → shape_in g x ≡ Some s → shape_in e x ≡ Some s) → KeepsBut P g e
   KeepsBut-still g e entries still = KeepsBut-shapes g e entries (λ x s q. (s, still x s q, λ y m. inl m))
 
-  -- a reflector made
+  -- a reflector made leaves the edges that there were
   KeepsBut-wrapped : (g : Graph) (o : Option Name) → KeepsBut P g (wrapped g o)
   KeepsBut-wrapped g (Some (name.Native k)) = KeepsBut-still g (wrapped g (Some (name.Native k)))
       (ap (λ (e : Graph). e.entries) (set_native-is g k.0 (option_map as_wrapped (native_in g k.0)))) still
@@ -157,7 +157,7 @@ module _ (P : Name → Type 0) where
       still x s q = grind (arith, set_native-is, numbered-changed)
   KeepsBut-wrapped g _ = KeepsBut-refl g
 
-  -- an object made
+  -- an object made leaves the edges that there were
   KeepsBut-with_native : (g : Graph) (n : ℕ) → KeepsBut P g (with_native g n)
   KeepsBut-with_native g n = KeepsBut-still g (with_native g n) refl still
     where
@@ -170,17 +170,17 @@ module _ (P : Name → Type 0) where
       still : (x : Name) (s : Shape) → shape_in g x ≡ Some s → shape_in (with_script g o) x ≡ Some s
       still x s q = grind (arith, numbered-push_old)
 
-  -- an object made that a script register holds
+  -- a script object made that a register holds leaves the edges that there were
   KeepsBut-made : (g : Graph) (o : GraphScript) (d : ℕ) (x : Option Name) → KeepsBut P g (set_register (with_script g o) (S d) x)
   KeepsBut-made g o d x = KeepsBut-then g (with_script g o) (set_register (with_script g o) (S d) x) (KeepsBut-with_script g o) (KeepsBut-register (with_script g o) (S d) x)
 
-  -- a proxy made
+  -- a proxy made leaves the edges that there were
   KeepsBut-proxy : (g : Graph) (d : ℕ) (x : Option Name) → KeepsBut P g (with_proxy g d x)
   KeepsBut-proxy g d None = KeepsBut-refl g
   KeepsBut-proxy g d (Some x) = KeepsBut-then g (preserve g (Some x)) (with_proxy g d (Some x)) (KeepsBut-preserve g (Some x))
       (KeepsBut-made (preserve g (Some x)) (proxy x) d (Some (object (length g.scripts + 1))))
 
-  -- an entry of what `P` holds of written
+  -- an entry written keeps all other entries, where `P` holds of its map and its key
   KeepsBut-entry : (g : Graph) (m k v : Option Name) → OfSome P m → OfSome P k → KeepsBut P g (set_entry g m k v)
   KeepsBut-entry g None k v p q = KeepsBut-refl g
   KeepsBut-entry g (Some m) None v p q = KeepsBut-refl g
@@ -209,13 +209,13 @@ module _ (P : Name → Type 0) where
 
 -- Deeds
 
--- the registers' contents that a deed writes to
+-- `P` holds of the objects that a deed names and writes to
 abbrev WritesTo : (Name → Type 0) → Deed → Type 0
 WritesTo P (script_stored x i y) = OfSome P x
 WritesTo P (entry_written m k v) = OfSome P m × OfSome P k
 WritesTo P d = Unit {0}
 
--- they are reached
+-- what a command writes to is reached
 writes_to-reached : (g : Graph) (c : Command) → WritesTo (Reached g) (deed_of (objects_of g) c)
 unfolding deed_of
 writes_to-reached g (Put d i s) = register-reached g (S d)
@@ -258,7 +258,7 @@ done_to-keeps g (weak_written d x) w = KeepsBut-same (Reached g) g (set_weak g d
     same (name.Script k) = refl
     same (name.Reflector k) = refl
 
--- A STEP KEEPS them so, whatever has ended,
+-- A STEP OF THE GRAPH KEEPS all edges and entries but those of what is reached.
 step-keeps : (g : Graph) (c : Command) → KeepsBut (Reached g) g (step g c)
 unfolding changed
 step-keeps g c = go (refusal_of (objects_of g) c)
@@ -267,11 +267,12 @@ step-keeps g c = go (refusal_of (objects_of g) c)
     go None = done_to-keeps g (deed_of (objects_of g) c) (writes_to-reached g c)
     go (Some refusal) = KeepsBut-refl (Reached g) g
 
+-- a step beside ended names keeps them too: what these decide is a register alone
 step_of-keeps : (ended : List Name) (g : Graph) (c : Command) (k : Class) → KeepsBut (Reached g) g (step_of ended g c k)
 step_of-keeps ended g c (reads_weak d w) = KeepsBut-register (Reached g) g (N d) (noted_in ended g w)
 step_of-keeps ended g c _ = step-keeps g c
 
--- AND SO DOES EACH ASK, whatever is answered.
+-- EACH ASK KEEPS all edges and entries but those of what was reached before it, whatever is answered.
 pub ask-keeps : (s : State) (ask : Ask) (a : Answer) → KeepsBut (Reached s.graph) s.graph (next s ask a).graph
 ask-keeps s (taken c) a = go a.reply
   where
@@ -288,7 +289,7 @@ ask-keeps s _ a = KeepsBut-refl (Reached s.graph) s.graph
 
 module _ (g e : Graph) (k : KeepsBut (Reached g) g e) (met later : List Name) (more : (x : Name) → Among x met → Among x later)
     (reached : (x : Name) → Reached g x → Among x later) where
-  -- what was given is given later
+  -- what some names give they give later, with all that was reached
   pub given-stays : (x : Name) → GivenFrom g met x → GivenFrom e later x
   given-stays _ (given x m) = given x (more x m)
   given-stays _ (given_edge x y d m) = ⊎_elim

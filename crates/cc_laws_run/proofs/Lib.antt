@@ -6,6 +6,7 @@ pub mod Spoken
 pub mod CommandCases
 pub mod Answered
 pub mod RunsOn
+pub mod ReadingWeak
 pub mod Forgetting
 pub mod Unabandoned
 pub mod UnitsUse
@@ -17,10 +18,13 @@ pub mod InARow
 pub mod RefusedUnits
 pub mod FreedListed
 pub mod EachNamed
+pub mod EndedAfter
+pub mod EndedDeeds
 pub mod RunsOfNumbers
 pub mod UnitLawful
 pub mod HoldingUnits
 pub mod BesideUnits
+pub mod EndedUnits
 pub mod GivingUp
 pub mod UnitsLawful
 pub mod ScriptsLawful

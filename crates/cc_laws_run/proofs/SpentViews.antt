@@ -35,7 +35,7 @@ spent-left ds h k w l d = record {
 abbrev pub WasIn : Heap → HeapNative → Type 0
 WasIn h n = (p : HeapNative) × Among p h.natives × (p.number ≡ n.number) × (p.unlinked ≡ true → n.unlinked ≡ true)
 
--- so is one that is as it was, but for its count
+-- a native that is as it was, but for its count, was in these heaps, and is unlinked if it was
 pub WasIn-alike : (h : Heap) (n : HeapNative) → IsOf h n → WasIn h n
 WasIn-alike h n p = (p.0, p.1, ap (λ (u : HeapNative). u.number) p.2, λ e. sym (ap (λ (u : HeapNative). u.unlinked) p.2) ∙ e)
 

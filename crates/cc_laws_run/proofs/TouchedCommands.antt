@@ -115,7 +115,7 @@ without_entry-other es m k e i = ⊎_elim
     (λ t. inl (Among-filter (λ f. not (is_entry_of m k f)) e es i (ap not t)))
     (cases_Bool (is_entry_of m k e))
 
--- and so it does where one is set
+-- an entry of another map or another key stays where one is set
 pub with_entry-other : (es : List Entry) (m k : Name) (d : Option Name) (v : Name) (e : Entry) → Among e es → Among e (with_entry es m k d v) ⊎ ((e.the_map ≡ m) × (e.key ≡ k))
 with_entry-other [] m k d v e i = absurd i
 with_entry-other (f ∷ es) m k d v e i = go (with_entry-other es m k d v e) (is_entry_of m k f) refl i
@@ -352,13 +352,13 @@ next_object-undoomed s ds h w d m =
     (named-there h (object (h.scripts_made + 1)) (d.scripts (object (h.scripts_made + 1)) m refl))).1 in
     absurd (omega arith)
 
--- COMMANDS SPARE WHAT IS DOOMED,
+-- COMMANDS SPARE WHAT IS DOOMED.
 pub effects-spare : (s : Snapshot) (ds : List Name) (h : Heap) (c : Command) → IsWellFormed h → KeepsReflectors ds → IsDoomed (view h) s ds →
     Spares ds (view h) (view (effects h c).heap)
 effects-spare s ds h c w keeps d = (command-leaves ds h c w keeps (next_native-undoomed s ds h w d) (next_object-undoomed s ds h w d)
     (record { unregistered = d.unregistered; holder = d.holder; joint = d.joint })).spares
 
--- and so leave it doomed.
+-- COMMANDS LEAVE WHAT IS DOOMED.
 pub doomed-effects : (s : Snapshot) (ds : List Name) (h : Heap) (c : Command) → IsWellFormed h → KeepsReflectors ds → IsDoomed (view h) s ds →
     IsDoomed (view (effects h c).heap) s ds
 doomed-effects s ds h c w keeps d = doomed-spared s ds (view h) (view (effects h c).heap) (effects-spare s ds h c w keeps d) d

@@ -71,13 +71,13 @@ blanks-leave m [] b = refl
 blanks-leave m (taken Nothing ∷ blanks) b = blanks-leave m blanks b
 blanks-leave m (ask ∷ blanks) b = absurd (false≢true b)
 
--- they are in range
+-- lines that ask nothing are in range
 blanks-range : (blanks : List Ask) → IsTrue (list_all asks_nothing blanks) → IsTrue (list_all ask_in_range blanks)
 blanks-range [] b = refl
 blanks-range (taken Nothing ∷ blanks) b = blanks-range blanks b
 blanks-range (ask ∷ blanks) b = absurd (false≢true b)
 
--- asks of which all pass a test, and then others
+-- where asks pass a test, and then others do, all of them do
 list_all-append : (p : Ask → Bool) (xs ys : List Ask) → IsTrue (list_all p xs) → IsTrue (list_all p ys) → IsTrue (list_all p (xs ++ ys))
 list_all-append p [] ys a b = b
 list_all-append p (x ∷ xs) ys a b =
@@ -97,12 +97,12 @@ module _ (m : Machine) (s : State) (asks : List Ask) (ds : List Name) (r : IsRun
     pub asks-miss : MissesNone ds met m s asks
     asks-miss = shrunk-misses met m s asks ds (now-shrinks m s asks ds met r range now)
 
-    -- those that are left are spent where it ended
+    -- where the collection ended, the names that are left are spent
     pub asks-end : (first_collection m asks).progress ≡ at_end →
         (left : List Name) × AreLeftOf (graph_then m s asks) (met_then met m s asks) ds left × IsSpent (machine_after m asks).heap left
     asks-end e = shrunk-spent (met_then met m s asks) m asks ds (graph_then m s asks) (now-shrinks m s asks ds met r range now) e
 
-    -- and gone after a `gc`
+    -- after a `gc` those names are gone that may not be back
     pub asks-gone : (first_collection m (asks ++ taken Gc ∷ [])).progress ≢ refused → (x : Name) → Among x ds →
         ¬ (MayBeBack (graph_then m s asks) (met_then met m s asks) x) → ¬ (Among x (names_there (machine_after m (asks ++ taken Gc ∷ [])).heap))
     asks-gone u x i out = subst (λ (n : Machine). ¬ (Among x (names_there n.heap))) (sym (gc-after m asks))
@@ -114,11 +114,11 @@ module _ (m : Machine) (s : State) (asks : List Ask) (ds : List Name) (r : IsRun
     pub asks-miss_none : MissesNoneAtAll ds m asks
     asks-miss_none = followed-misses m asks ds (asks-follow m s asks ds r range none keeps d)
 
-    -- they are spent where it ended
+    -- where nothing came back, all names are spent where the collection ended
     pub asks-end_all : (first_collection m asks).progress ≡ at_end → IsSpent (machine_after m asks).heap ds
     asks-end_all e = followed-spent m asks ds (asks-follow m s asks ds r range none keeps d) e
 
-    -- and gone after a `gc`
+    -- where nothing came back, all names are gone after a `gc`
     pub asks-gone_all : (first_collection m (asks ++ taken Gc ∷ [])).progress ≢ refused → (x : Name) → Among x ds →
         ¬ (Among x (names_there (machine_after m (asks ++ taken Gc ∷ [])).heap))
     asks-gone_all u x i = subst (λ (n : Machine). ¬ (Among x (names_there n.heap))) (sym (gc-after m asks))
@@ -136,20 +136,20 @@ module _ (m : Machine) (s : State) (r : IsRunning m s) (dooms : Dooms m) (ask : 
   lost-shrinks : let c = first_collection m (ask ∷ asks) in Shrinks met_since (lost m.heap) c.events c.progress (machine_after m (ask ∷ asks)) (graph_then m s (ask ∷ asks))
   lost-shrinks = all-shrink m s r dooms ask begins met_since asks range (λ x i. i)
 
-  -- it misses none of that but what may be back
+  -- the collection misses none of what was lost but what may be back
   pub begun-misses : MissesNone (lost m.heap) [] m s (ask ∷ asks)
   begun-misses = shrunk-misses [] m s (ask ∷ asks) (lost m.heap) lost-shrinks
 
-  -- those that are left are spent where it ended
+  -- where it ended, what is left of what was lost is spent
   pub begun-end : (first_collection m (ask ∷ asks)).progress ≡ at_end →
       (left : List Name) × AreLeftOf (graph_then m s (ask ∷ asks)) met_since (lost m.heap) left × IsSpent (machine_after m (ask ∷ asks)).heap left
   begun-end e = shrunk-spent met_since m (ask ∷ asks) (lost m.heap) (graph_then m s (ask ∷ asks)) lost-shrinks e
 
-  -- the machine after it runs
+  -- the machine after the asks runs
   begun-run : IsRunning (machine_after m (ask ∷ asks)) (state_after s (ask ∷ asks) (turns m (ask ∷ asks)))
   begun-run = asks-run (do_ask m ask).machine (next s ask (do_ask m ask).answer) asks (begin-runs m s ask r begins) range
 
-  -- and what may not be back after a `gc` is gone then
+  -- what was lost and may not be back after the next `gc` is gone then
   pub begun-gone : let all = ask ∷ (asks ++ taken Gc ∷ []) in (first_collection m all).progress ≢ refused → (x : Name) → Among x (lost m.heap) →
       ¬ (MayBeBack (graph_then m s all) (met_over s all (turns m all)) x) → ¬ (Among x (names_there (machine_after m all).heap))
   begun-gone u x i out =
@@ -162,15 +162,15 @@ module _ (m : Machine) (s : State) (r : IsRunning m s) (dooms : Dooms m) (ask : 
       (λ b. out (front-stays m s (ask ∷ asks) (taken Gc ∷ []) met (λ y j. j) x b)))
 
   module _ (none : IsTrue (list_all brings_none_back asks)) where
-    -- where nothing comes back it misses nothing that was lost,
+    -- where nothing comes back, the collection misses nothing that was lost
     pub begun-misses_none : MissesNoneAtAll (lost m.heap) m (ask ∷ asks)
     begun-misses_none = followed-misses m (ask ∷ asks) (lost m.heap) (all-follow m s r dooms ask asks begins range none)
 
-    -- which is spent where it ended
+    -- where nothing comes back and it ended, all that was lost is spent
     pub begun-end_all : (first_collection m (ask ∷ asks)).progress ≡ at_end → IsSpent (machine_after m (ask ∷ asks)).heap (lost m.heap)
     begun-end_all e = followed-spent m (ask ∷ asks) (lost m.heap) (all-follow m s r dooms ask asks begins range none) e
 
-    -- and gone after the next `gc`
+    -- where nothing comes back, all that was lost is gone after the next `gc`
     pub begun-gone_all : let all = ask ∷ (asks ++ taken Gc ∷ []) in (first_collection m all).progress ≢ refused → (x : Name) → Among x (lost m.heap) →
         ¬ (Among x (names_there (machine_after m all).heap))
     begun-gone_all u x i = subst (λ (n : Machine). ¬ (Among x (names_there n.heap))) (sym (gc-after m (ask ∷ asks)))
@@ -192,7 +192,7 @@ module _ (limits : Allowance) (memory : List Bool) (before blanks : List Ask) (a
   abbrev earlier : List Ask
   earlier = before ++ taken Gc ∷ blanks
 
-  -- after them
+  -- after these asks the machine is that after the `gc`
   then_gc : machine_after (empty_machine limits memory) earlier ≡ (gc first).machine
   unfolding do_ask
   then_gc = machine_after-append (empty_machine limits memory) before (taken Gc ∷ blanks) ∙ blanks-leave (gc first).machine blanks b.between
@@ -201,11 +201,11 @@ module _ (limits : Allowance) (memory : List Bool) (before blanks : List Ask) (a
   abbrev start_of : Machine
   start_of = after_asks limits memory earlier
 
-  -- the machine runs there
+  -- the machine after the earlier asks runs
   start-runs : IsRunning start_of (state_by limits memory earlier)
   start-runs = run-runs limits memory earlier (list_all-append ask_in_range before (taken Gc ∷ blanks) b.before_it (blanks-range blanks b.between))
 
-  -- and a collection that begins dooms garbage
+  -- a collection that begins after the earlier asks dooms garbage
   start-dooms : Dooms start_of
   start-dooms = subst Dooms (sym then_gc) (after_gc-dooms first (state_after (start limits) before (plain_run limits memory before))
       (run-runs limits memory before b.before_it) (run-suspected limits memory before b.before_it))
@@ -224,6 +224,7 @@ module _ (limits : Allowance) (memory : List Bool) (before blanks : List Ask) (a
   graph-all : (later : List Ask) → graph_by limits memory earlier later ≡ graph_then start_of (state_by limits memory earlier) later
   graph-all later = ap (λ (s : State). s.graph) (state-all later)
 
+  -- the collection that begins then misses none of what was lost but what may be back
   misses : MissesNone (lost start_of.heap) [] start_of (state_by limits memory earlier) (ask ∷ asks)
   misses = begun-misses start_of (state_by limits memory earlier) start-runs start-dooms ask asks b.begins b.after_it
 
@@ -246,10 +247,11 @@ module _ (limits : Allowance) (memory : List Bool) (before blanks : List Ask) (a
   }
 
   module _ (none : IsTrue (list_all brings_none_back asks)) where
+    -- where nothing comes back, it misses nothing that was lost
     misses_none : MissesNoneAtAll (lost start_of.heap) start_of (ask ∷ asks)
     misses_none = begun-misses_none start_of (state_by limits memory earlier) start-runs start-dooms ask asks b.begins b.after_it none
 
-    -- AND NOTHING AT ALL where nothing comes back.
+    -- A COLLECTION AFTER `gc` MISSES NOTHING AT ALL where nothing comes back.
     pub run-misses_nothing_at_all : MissesNothingAtAll limits memory earlier (ask ∷ asks)
     run-misses_nothing_at_all = record {
       unlinked = λ e k i. misses_none.unlinks e k (native-lost start_of.heap k i);
