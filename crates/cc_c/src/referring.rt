@@ -53,12 +53,7 @@ pub extern "C" fn cc_weak_of(
 /// Whether the native of a weak reference has ended.
 #[unsafe(no_mangle)]
 #[tactic(auto, using(crate::proofs::Statuses::by_stop))]
-pub extern "C" fn cc_ended(
-    alloc: Global,
-    c: &mut Collector,
-    weak: &CWeak,
-    ended: &mut u32,
-) -> u32
+pub extern "C" fn cc_ended(alloc: Global, c: &mut Collector, weak: &CWeak, ended: &mut u32) -> u32
     ensures closed { c.old.handle.session ≡ None → result ≡ 1 }
     ensures stops { Reads c.old.handle.session (λ s. IsStatus (stop_weak s.host (to_weak weak.now)) result) }
     ensures answer { result ≡ 0 → Reads c.old.handle.session (λ s. ended.new ≡ flag (has_ended s.host (to_weak weak.now))) }

@@ -51,15 +51,6 @@ impl Document {
         })
     }
 
-    /// Makes an element, which a root holds until the next one is made. Its row is its number of the program's.
-    pub fn make(&mut self, title: &'static str) -> Result<Object, Stop> {
-        let element = self.session.new_native(MADE, LISTENER + 1)?;
-        let row = self.titles.insert(title).map_err(|_| Stop::NoMemory)?;
-        self.session.set_data(element, row as u64)?;
-        self.enter(title, element)?;
-        Ok(element)
-    }
-
     // The index has an element from then on.
     fn enter(&mut self, title: &'static str, element: Object) -> Result<(), Stop> {
         let element = self.session.weak(element)?;
@@ -71,10 +62,24 @@ impl Document {
     /// The first element with a title, which a root holds until the next one is made; none where there is none, and from the
     /// moment on where a collection took it.
     pub fn find(&mut self, title: &str) -> Result<Option<Object>, Stop> {
-        match self.index.iter().find(|entry| entry.title == title).copied() {
+        match self
+            .index
+            .iter()
+            .find(|entry| entry.title == title)
+            .copied()
+        {
             Some(entry) => self.session.upgrade_into(MADE, entry.element),
             None => Ok(None),
         }
+    }
+
+    /// Makes an element, which a root holds until the next one is made. Its row is its number of the program's.
+    pub fn make(&mut self, title: &'static str) -> Result<Object, Stop> {
+        let element = self.session.new_native(MADE, LISTENER + 1)?;
+        let row = self.titles.insert(title).map_err(|_| Stop::NoMemory)?;
+        self.session.set_data(element, row as u64)?;
+        self.enter(title, element)?;
+        Ok(element)
     }
 
     // The first place of an element's children that holds this.
