@@ -91,6 +91,10 @@ tables_made (suc n) r a b g = table_step n r a b (tables_made n r a b g)
 unfoldable pub with_tables : ℕ → Graph → Graph
 with_tables index g = if is_none (leaf_in g index) then tables_made 5 (register_for index) (index / (places * places) % places) (index / places % places) g else g
 
+-- and the first n of them
+abbrev pub some_tables : ℕ → ℕ → Graph → Graph
+some_tables n index g = tables_made n (register_for index) (index / (places * places) % places) (index / places % places) g
+
 -- A ROOT THAT HOLDS what a native register held, which is empty then
 unfoldable pub rooted_from : ℕ → ℕ → Name → Graph → Graph
 rooted_from r index x g = graph.set_register (graph.set_slot (with_tables index g) (leaf_in (with_tables index g) index) (slot_for index) (Some x)) (N r) None
@@ -99,9 +103,13 @@ rooted_from r index x g = graph.set_register (graph.set_slot (with_tables index 
 unfoldable pub brought_back : ℕ → Name → Graph → Graph
 brought_back index x g = rooted_from meanwhile index x (graph.set_register g (N meanwhile) (Some x))
 
--- and the first n of them
-abbrev pub some_tables : ℕ → ℕ → Graph → Graph
-some_tables n index g = tables_made n (register_for index) (index / (places * places) % places) (index / places % places) g
+-- WHAT LEFT IS TOLD, by two steps, each what left by it
+abbrev pub TellsInTwo : State → State → Type 0
+TellsInTwo old new = (s : State) × TellsFreed old.host s.host (told_all old.told) (told_all s.told) × TellsFreed s.host new.host (told_all s.told) (told_all new.told)
+
+-- and by three
+abbrev pub TellsInThree : State → State → Type 0
+TellsInThree old new = (s : State) × TellsFreed old.host s.host (told_all old.told) (told_all s.told) × TellsInTwo s new
 
 -- WHAT TABLES THAT ARE MADE COME TO
 

@@ -11,7 +11,7 @@ ghost use Rattle.cc_host.specs.Queues.{told_all};
 ghost use Rattle.cc_host.specs.Referring.{HasEnded, has_ended, referent, stop_upgrade, stop_weak, upgraded};
 ghost use Rattle.cc_host.specs.Stops.{IsStoppedBy, stop_native};
 ghost use Rattle.cc_session.specs.Sessions.{Aside, Enters, serial_at};
-ghost use Rattle.cc_session.specs.Roots.{brought_back, rooted_from};
+ghost use Rattle.cc_session.specs.Roots.{TellsInThree, TellsInTwo, brought_back, rooted_from};
 ghost use Rattle.cc_session.specs.Refusals.{IsRootRefused, stop_upgraded};
 
 use crate::root::Root;
@@ -107,6 +107,7 @@ impl Session {
         ensures mark { IfOk result (λ root. root.mark ≡ self.old.host.mark) }
         ensures none { OnErr result ((index : ℕ) → serial_at self.new.books index ≡ serial_at self.old.books index) }
         ensures given { self.new.books.given ≡ self.old.books.given }
+        ensures tells { TellsInTwo self.old self.new }
     {
         let root = self.root(x);
         self.empty(r);
@@ -129,6 +130,7 @@ impl Session {
         ensures serial { IfOk result (λ x. IfSome x (λ root. (root.serial ≡ self.old.books.last + 1) × (self.new.books.last ≡ root.serial))) }
         ensures mark { IfOk result (λ x. IfSome x (λ root. root.mark ≡ self.old.host.mark)) }
         ensures given { self.new.books.given ≡ self.old.books.given }
+        ensures tells { TellsInThree self.old self.new }
     {
         let Some(x) = self.bring(MEANWHILE, w)? else {
             return Ok(None);
