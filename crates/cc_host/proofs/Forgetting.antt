@@ -1,5 +1,5 @@
 -- SUSPECTS FORGOTTEN: what is doomed stays doomed, a collection that begins then takes what it would take, and each object is there.
-use Rattle.std.proofs.Common.{◌≡◌, ℕ, ◌==◌, ◌&&◌, true, not, List, [], ◌∷◌, ◌++◌, map, Option, Some, None, option_map, refl, sym, ◌∙◌, ap, subst, inl, inr, ◌⊎◌, ⊎_elim}
+use Rattle.std.proofs.Common.{◌≡◌, ℕ, ◌==◌, ◌&&◌, true, not, List, [], ◌++◌, map, Option, Some, None, option_map, refl, sym, ◌∙◌, ap, subst, ◌⊎◌, ⊎_elim}
 use Rattle.std.specs.List.{filter, flat_map}
 use Rattle.std.specs.Prelude.{◌↔◌, ◌+◌, find, length}
 use Rattle.std.proofs.lemmas.Bool.{false≢true}
@@ -38,7 +38,7 @@ use Rattle.cc_heaps.specs.Walking.{unwalked}
 use Rattle.cc_host.specs.Calls.{Always, Does, Forgets}
 use Rattle.cc_host.specs.Changes.{IsChange}
 use Rattle.cc_host.specs.Hosted.{is_found, is_name, spare}
-use Rattle.cc_host.specs.Missing.{KeepsDoomed, TakesGarbage}
+use Rattle.cc_host.specs.Missing.{KeepsDoomed}
 use Rattle.cc_host.specs.Stops.{first, stop_at, where_so}
 use Rattle.cc_host.specs.declared.object.Object.{Object}
 use Rattle.cc_host.specs.declared.stop.Stop.TheVariants.{Foreign, Gone}
@@ -56,8 +56,8 @@ forgotten-doomed h s ds keeps d = record {
   unmarked = d.unmarked;
   holder = d.holder;
   joint = d.joint;
-  noter = d.noter;
-  mapper = d.mapper;
+  noted_held = d.noted_held;
+  mapping_held = d.mapping_held;
   covered = d.covered;
 }
 
@@ -138,8 +138,8 @@ module _ (h : Heap) where
     unmarked = d.unmarked;
     holder = d.holder;
     joint = d.joint;
-    noter = d.noter;
-    mapper = d.mapper;
+    noted_held = d.noted_held;
+    mapping_held = d.mapping_held;
     covered = λ x m. from-stays x (d.covered x m) (garbage-unreached h x m);
   }
 
@@ -168,6 +168,11 @@ unwalked-stays v h same c m x = ap (λ f. first (where_so (not (x.mark == m)) Fo
 
 -- WHAT IT COMES TO in a host
 module _ (v w : Keyed) (c : Option Built) (m : ℕ) (is : w ≡ unwalked (changed_to v (forgotten v.heap))) (kept : KeepsAll v w) (still : StillStands v.heap w.heap) where
+  -- natives are what they were
+  natives : (forgotten v.heap).natives ≡ v.heap.natives
+  unfolding forgotten
+  natives = refl
+
   heap : w.heap ≡ forgotten v.heap
   heap = ap (λ (u : Keyed). u.heap) is
 
@@ -175,11 +180,6 @@ module _ (v w : Keyed) (c : Option Built) (m : ℕ) (is : w ≡ unwalked (change
   registers : register w.heap (N spare) ≡ register v.heap (N spare)
   unfolding forgotten
   registers = ap (λ (u : Heap). register u (N spare)) heap
-
-  -- natives are what they were
-  natives : (forgotten v.heap).natives ≡ v.heap.natives
-  unfolding forgotten
-  natives = refl
 
   doomed : KeepsDoomed v.heap w.heap
   doomed = subst (KeepsDoomed v.heap) (sym heap) (forgotten-doomed v.heap)

@@ -16,6 +16,7 @@ pub mod Reading
 pub mod Stopping
 pub mod Collecting
 pub mod Forgetting
+pub mod Beside
 pub mod Taking
 pub mod Telling
 pub mod Rooted

@@ -15,7 +15,9 @@ use Rattle.cc_heaps.specs.Keyed.{Keyed, IsInOrder, counts_of, number_at, the_num
 use Rattle.cc_heaps.specs.Changes.{native_name}
 use Rattle.cc_heaps.specs.Standing.{IsReached, MayBeHeld}
 use Rattle.cc_heaps.proofs.Calls.{number-named}
-use Rattle.cc_host.specs.Hosted.{is_name, is_usable_at}
+use Rattle.cc_host.specs.declared.object.Object.{Object}
+use Rattle.cc_host.specs.Hosted.{Hosted, is_name, is_usable_at}
+use Rattle.cc_host.specs.Stops.{stop_at}
 
 -- What is reached may be held.
 pub reached-held : (h : Heap) (x : Option Name) → IsReached h x → MayBeHeld h x
@@ -58,3 +60,7 @@ pub key-held : (v : Keyed) (owned : List ℕ) → IsInOrder owned v → (key : N
 key-held v owned o key number e =
     let t = found-there v key.0 number e in
     subst (λ x. MayBeHeld v.heap (option_map native x)) (sym t.0) (inr (found-held v owned o key.0 number.0 t.0 t.1))
+
+-- A native at which no call stops is found at its key.
+pub found-native : (h : Hosted) (x : Object) (number : NativeNo) → x.name ≡ name.Native number → stop_at h x ≡ None → is_usable_at h.heaps x.key number ≡ true
+found-native h x number is none = grind (arith, is, none)

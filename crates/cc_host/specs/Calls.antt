@@ -16,7 +16,7 @@ use Rattle.cc_heaps.specs.Leaving.{NoneCame, TellsWhatIsFreed}
 use Rattle.cc_laws_told.specs.Told.{objects}
 use Rattle.cc_heaps.specs.Standing.{StandsAfter, StillStands}
 use Rattle.cc_host.specs.Hosted.{Hosted}
-use Rattle.cc_host.specs.Missing.{KeepsDoomed, TakesGarbage}
+use Rattle.cc_host.specs.Missing.{KeepsDoomed, KeepsDoomedBut, TakesGarbage}
 use Rattle.cc_host.specs.Stops.{stop_at}
 use Rattle.cc_host.specs.declared.object.Object.{Object}
 

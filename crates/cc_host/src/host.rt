@@ -127,6 +127,7 @@ impl Host {
         ensures live { IfOk result (λ key. IsSome (number_at self.now.heaps key.0)) }
         ensures usable { IfOk result (λ key. MayBeHeld self.now.heaps.heap (native_name self.now.heaps (Some key))) }
     {
+        let _ = &self.heaps;
         self.look(x)?;
         match x.name {
             Name::Native(_) => Ok(NKey(x.key)),

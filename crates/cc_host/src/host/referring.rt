@@ -16,17 +16,7 @@ use crate::object::Object;
 use crate::stop::Stop;
 use crate::weak::Weak;
 use cc_model::Notices;
-use cc_names::{NKey, Name, NativeNo, RegNo};
-
-// The number of a native; 0, which none has, of what is no native.
-fn number_of(name: Name) -> NativeNo
-    ensures { (k : NativeNo) → name ≡ Name.Native k → result ≡ k }
-{
-    match name {
-        Name::Native(number) => number,
-        Name::Script(_) | Name::Reflector(_) => NativeNo(0),
-    }
-}
+use cc_names::{NKey, Name, RegNo};
 
 impl Host {
     /// A weak reference to a native: it keeps nothing alive.
@@ -37,12 +27,15 @@ impl Host {
         ensures of { IfOk result (λ w. referent w ≡ x) }
         ensures there { IfOk result (λ w. has_ended self.now w ≡ false) }
     {
-        let key = self.native(x)?;
-        Ok(Weak {
-            number: number_of(x.name),
-            key,
-            mark: x.mark,
-        })
+        self.look(x)?;
+        match x.name {
+            Name::Native(number) => Ok(Weak {
+                number,
+                key: NKey(x.key),
+                mark: x.mark,
+            }),
+            Name::Script(_) | Name::Reflector(_) => Err(Stop::Kind),
+        }
     }
 
     // Where the native of a weak reference stands; none where it has ended.
@@ -52,6 +45,7 @@ impl Host {
         ensures usable { MayBeHeld self.now.heaps.heap (native_name self.now.heaps result) }
         ensures none { result ≡ None ↔ HasEnded self.now w }
     {
+        let _ = &self.heaps;
         if self.found_native(w.key, w.number) {
             Some(w.key)
         } else {

@@ -6,8 +6,8 @@ use Rattle.cc_host.proofs.Keeping.{hosted, change-keeps}
 use Rattle.cc_host.proofs.Forgetting.{forgotten-change, forgotten-does, forgotten-forgets, forgotten-none_came}
 use Rattle.cc_host.proofs.host.Host.forget.Goals as goal
 
-pub forget-requires-clause-order : goal.forget-requires-clause-order
-forget-requires-clause-order c = ([], c.self.invariant.runs.order)
+pub forget-requires : goal.forget-requires
+forget-requires c = record { order = ([], c.self.invariant.runs.order) }
 
 pub invariant_of-self : goal.invariant_of-self
 invariant_of-self c =
