@@ -1,7 +1,7 @@
 -- SUSPECTS FORGOTTEN: what is doomed stays doomed, a collection that begins then takes what it would take, and each object is there.
-use Rattle.std.proofs.Common.{◌≡◌, ℕ, ◌==◌, true, not, List, [], ◌++◌, map, Option, Some, None, option_map, refl, sym, ◌∙◌, ap, subst, ◌⊎◌, ⊎_elim}
+use Rattle.std.proofs.Common.{◌≡◌, ℕ, ◌==◌, ◌&&◌, true, not, List, [], ◌++◌, map, Option, Some, None, option_map, refl, sym, ◌∙◌, ap, subst, ◌⊎◌, ⊎_elim}
 use Rattle.std.specs.List.{filter, flat_map}
-use Rattle.std.specs.Prelude.{◌↔◌, ◌+◌, length}
+use Rattle.std.specs.Prelude.{◌↔◌, ◌+◌, find, length}
 use Rattle.std.proofs.lemmas.Bool.{false≢true}
 use Rattle.cc_lists.specs.Members.{Among, has}
 use Rattle.cc_lists.specs.Least.{Least, system}
@@ -15,7 +15,7 @@ use Rattle.cc_names.specs.declared.register.Reg.TheVariants.{N}
 use Rattle.cc_names.specs.Names.{native, same_name}
 use Rattle.cc_names.proofs.NameTests.{same_name-exact}
 use Rattle.cc_model.specs.Entries.{rules_of}
-use Rattle.cc_model.specs.Heap.{Heap, Buffered, register}
+use Rattle.cc_model.specs.Heap.{Heap, HeapNative, Buffered, register}
 use Rattle.cc_model.specs.Skipping.{IsSkippable, forgotten}
 use Rattle.cc_model.specs.Snapshot.{Node, node_names}
 use Rattle.cc_model.specs.Suspected.{is_unreached}
@@ -29,19 +29,21 @@ use Rattle.cc_script.specs.Objects as objects
 use Rattle.cc_script.proofs.Keys.{object_at-map}
 use Rattle.cc_names.specs.declared.kind.Walked.TheVariants.{Out}
 use Rattle.cc_builder.specs.Building.{Built}
-use Rattle.cc_heaps.specs.Keyed.{Keyed, changed_to}
+use Rattle.cc_counted.specs.Counts.{unlinked_at, unlinked_of}
+use Rattle.cc_heaps.specs.Keyed.{Keyed, changed_to, counts_of, number_at, the_number}
 use Rattle.cc_heaps.specs.Keeping.{KeepsAll}
 use Rattle.cc_heaps.specs.Leaving.{NoneCame}
 use Rattle.cc_heaps.specs.Standing.{StillStands}
 use Rattle.cc_heaps.specs.Walking.{unwalked}
 use Rattle.cc_host.specs.Calls.{Always, Does, Forgets}
 use Rattle.cc_host.specs.Changes.{IsChange}
-use Rattle.cc_host.specs.Hosted.{is_name, name_found, spare}
+use Rattle.cc_host.specs.Hosted.{is_found, is_name, spare}
 use Rattle.cc_host.specs.Missing.{KeepsDoomed}
 use Rattle.cc_host.specs.Stops.{first, stop_at, where_so}
 use Rattle.cc_host.specs.declared.object.Object.{Object}
 use Rattle.cc_host.specs.declared.stop.Stop.TheVariants.{Foreign, Gone}
 use Rattle.cc_host.proofs.Keeping.{hosted}
+use Rattle.cc_host.proofs.Referring.{unlinked-of}
 
 -- THE BUFFER HAS THE NAMES THAT IT HAD, and all but marks is as it was. So what is doomed stays so.
 pub forgotten-doomed : (h : Heap) → KeepsDoomed h (forgotten h)
@@ -54,8 +56,8 @@ forgotten-doomed h s ds keeps d = record {
   unmarked = d.unmarked;
   holder = d.holder;
   joint = d.joint;
-  noter = d.noter;
-  mapper = d.mapper;
+  noted_held = d.noted_held;
+  mapping_held = d.mapping_held;
   covered = d.covered;
 }
 
@@ -136,8 +138,8 @@ module _ (h : Heap) where
     unmarked = d.unmarked;
     holder = d.holder;
     joint = d.joint;
-    noter = d.noter;
-    mapper = d.mapper;
+    noted_held = d.noted_held;
+    mapping_held = d.mapping_held;
     covered = λ x m. from-stays x (d.covered x m) (garbage-unreached h x m);
   }
 
@@ -152,17 +154,25 @@ name-unwalked os key = ap (option_map (λ (o : OfScript). o.name)) (object_at-ma
     go (Some o) = refl
 
 -- EACH OBJECT IS THERE THAT WAS THERE, and no other, where no walk goes on and the heaps have the same natives and script objects.
-unwalked-stays : (v : Keyed) (h : Heap) (c : Option Built) (m : ℕ) (x : Object) → stop_at (hosted (unwalked (changed_to v h)) c m) x ≡ stop_at (hosted v c m) x
-unwalked-stays v h c m x =
-    ap (λ f. first (where_so (not (x.mark == m)) Foreign) (where_so (not (is_name x.name f)) Gone)) (go x.name)
+unwalked-stays : (v : Keyed) (h : Heap) → h.natives ≡ v.heap.natives → (c : Option Built) (m : ℕ) (x : Object) → stop_at (hosted (unwalked (changed_to v h)) c m) x ≡ stop_at (hosted v c m) x
+unwalked-stays v h same c m x = ap (λ f. first (where_so (not (x.mark == m)) Foreign) (where_so (not f) Gone)) (go x.name)
   where
-    go : (y : Name) → name_found (hosted (unwalked (changed_to v h)) c m) (record x { name = y }) ≡ name_found (hosted v c m) (record x { name = y })
-    go (name.Native k) = refl
-    go (name.Script k) = name-unwalked v.scripts x.key
-    go (name.Reflector k) = name-unwalked v.scripts x.key
+    flag : unlinked_of (counts_of (unwalked (changed_to v h))) x.key ≡ unlinked_of (counts_of v) x.key
+    flag = unlinked-of (unwalked (changed_to v h)) x.key
+        ∙ (ap (λ (ns : List HeapNative). unlinked_at (find (λ (n : HeapNative). n.number == the_number v x.key) ns)) same ∙ sym (unlinked-of v x.key))
+
+    go : (y : Name) → is_found (hosted (unwalked (changed_to v h)) c m) (record x { name = y }) ≡ is_found (hosted v c m) (record x { name = y })
+    go (name.Native k) = ap (λ b. is_name (name.Native k) (option_map native (number_at v x.key)) && not b) flag
+    go (name.Script k) = ap (is_name (name.Script k)) (name-unwalked v.scripts x.key)
+    go (name.Reflector k) = ap (is_name (name.Reflector k)) (name-unwalked v.scripts x.key)
 
 -- WHAT IT COMES TO in a host
 module _ (v w : Keyed) (c : Option Built) (m : ℕ) (is : w ≡ unwalked (changed_to v (forgotten v.heap))) (kept : KeepsAll v w) (still : StillStands v.heap w.heap) where
+  -- natives are what they were
+  natives : (forgotten v.heap).natives ≡ v.heap.natives
+  unfolding forgotten
+  natives = refl
+
   heap : w.heap ≡ forgotten v.heap
   heap = ap (λ (u : Keyed). u.heap) is
 
@@ -191,7 +201,7 @@ module _ (v w : Keyed) (c : Option Built) (m : ℕ) (is : w ≡ unwalked (change
     heap = heap;
     count = count;
     exactly = exactly;
-    stays = λ x. ap (λ (u : Keyed). stop_at (hosted u c m) x) is ∙ unwalked-stays v (forgotten v.heap) c m x;
+    stays = λ x. ap (λ (u : Keyed). stop_at (hosted u c m) x) is ∙ unwalked-stays v (forgotten v.heap) natives c m x;
     begins = λ t. record {
       idle = t.idle;
       garbage_doomed = subst (λ (u : Heap). IsDoomed (view (with_empty_buffer u)) (begun u) (garbage u)) (sym heap) (forgotten-garbage v.heap t.garbage_doomed);

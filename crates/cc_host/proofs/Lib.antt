@@ -1,3 +1,4 @@
+pub mod Referring
 pub mod KeptDoomed
 pub mod Keeping
 pub mod Spare
@@ -15,6 +16,7 @@ pub mod Reading
 pub mod Stopping
 pub mod Collecting
 pub mod Forgetting
+pub mod Beside
 pub mod Taking
 pub mod Telling
 pub mod Rooted

@@ -16,7 +16,7 @@ use Rattle.cc_heaps.specs.Leaving.{NoneCame, TellsWhatIsFreed}
 use Rattle.cc_laws_told.specs.Told.{objects}
 use Rattle.cc_heaps.specs.Standing.{StandsAfter, StillStands}
 use Rattle.cc_host.specs.Hosted.{Hosted}
-use Rattle.cc_host.specs.Missing.{KeepsDoomed, TakesGarbage}
+use Rattle.cc_host.specs.Missing.{KeepsDoomed, KeepsDoomedBut, TakesGarbage}
 use Rattle.cc_host.specs.Stops.{stop_at}
 use Rattle.cc_host.specs.declared.object.Object.{Object}
 
@@ -30,6 +30,15 @@ Always = Unit {0}
 pub record Does (premise : Type 0) (change : Graph → Graph) (old new : Hosted) : Type 0 where
   pub stands : premise → StandsAfter old.heaps.heap new.heaps.heap change
   pub doomed : premise → KeepsDoomed old.heaps.heap new.heaps.heap
+  pub keys : KeepsKeys old.heaps new.heaps
+  pub running : new.running ≡ old.running
+  pub mark : new.mark ≡ old.mark
+
+-- A CALL HANDS A ROOT A NATIVE that is there, reached or not: it changes the graph so, with no premise. What the running collection
+-- can't miss it can't miss afterwards either, where it does not have that native.
+pub record Brings (brought : Option Name) (change : Graph → Graph) (old new : Hosted) : Type 0 where
+  pub stands : StandsAfter old.heaps.heap new.heaps.heap change
+  pub doomed : KeepsDoomedBut brought old.heaps.heap new.heaps.heap
   pub keys : KeepsKeys old.heaps new.heaps
   pub running : new.running ≡ old.running
   pub mark : new.mark ≡ old.mark

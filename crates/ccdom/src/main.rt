@@ -57,6 +57,16 @@ fn explain(rt: &impl Print, document: &mut Document, menu: Object) -> Result<()>
     Ok(())
 }
 
+/// Looks an element up by its title, and lets it go again.
+fn look_up(rt: &impl Print, document: &mut Document, title: &str) -> Result<()> {
+    match document.find(title)? {
+        Some(element) => show(rt, document, "the index finds ", element.name)?,
+        None => println!(rt; "the index finds no {title}")?,
+    }
+    document.let_go()?;
+    Ok(())
+}
+
 /// A page with a text and a menu of two entries. The menu listens for its second entry, which has private data on the menu, and
 /// of which another world has a proxy. The page's root, the page and the menu.
 fn build(document: &mut Document) -> Result<(Root, Object, Object)> {
@@ -93,7 +103,9 @@ fn remove_menu(rt: &impl Print, document: &mut Document, page: Object, menu: Obj
     document.session.set_script_root(PROXY, None)?;
     report(rt, document, "the other world let its proxy go")?;
     explain(rt, document, menu)?;
-    go_on(rt, document, page)
+    go_on(rt, document, page)?;
+    look_up(rt, document, "menu")?;
+    look_up(rt, document, "text")
 }
 
 fn run(rt: &impl Print, document: &mut Document) -> Result<()> {

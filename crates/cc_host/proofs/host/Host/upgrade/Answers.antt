@@ -1,0 +1,9 @@
+use Rattle.std.proofs.Common.{subst}
+use Rattle.cc_host.proofs.Keeping.{change-keeps}
+use Rattle.cc_heaps.specs.Leaving.{NoneCame}
+use Rattle.cc_host.specs.Hosted.{Hosted}
+use Rattle.cc_host.proofs.host.Host.upgrade.Goals as goal
+
+pub invariant_of-self : goal.invariant_of-self
+invariant_of-self g c =
+    change-keeps c.self.inside.heaps c.root_native.new.heaps c.self.inside.collector c.self.inside.mark c.root_native.ensures.change c.self.invariant
