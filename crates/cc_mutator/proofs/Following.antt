@@ -71,7 +71,7 @@ reflector-unlisted h names k listed none = go (has same_name names (reflector k)
         ⊎_elim (λ m. absurd (unnamed m)) (λ m. absurd (has_reflector-none h k none m)) (Among-append (reflector k) (native_names h) (script_names h) there)
 
 -- a command of the mutator does a deed, or reads a weak register
-mutator-cases : (P : Class → Type 0) (k : Class) → is_mutator k ≡ true → P does → ((d w : ℕ) → P (reads_weak d w)) → P k
+pub mutator-cases : (P : Class → Type 0) (k : Class) → is_mutator k ≡ true → P does → ((d w : ℕ) → P (reads_weak d w)) → P k
 mutator-cases P does e deed reads = deed
 mutator-cases P (reads_weak d w) e deed reads = reads d w
 mutator-cases P _ e deed reads = absurd (false≢true e)
