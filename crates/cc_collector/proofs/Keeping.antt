@@ -30,7 +30,7 @@ use Rattle.cc_heaps.proofs.KeysKept.{KeepsKeys-same, KeepsKeys-changed, KeepsKey
 use Rattle.cc_heaps.proofs.Kept.{kept-alone}
 use Rattle.cc_builder.specs.Building.{Built, IsNodeUnit, snapshot_of}
 use Rattle.cc_unlink.specs.Whites.{whites_of, AreWhiteIn}
-use Rattle.cc_collector.specs.Kept.{RunsIn, GoesOn, machine_of, running_snapshot}
+use Rattle.cc_collector.specs.Kept.{RunsIn, GoesOn, running_snapshot}
 use Rattle.cc_collector.specs.Units.{Keeps, HasDoneUnit}
 
 -- Units one after the other

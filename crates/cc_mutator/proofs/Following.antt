@@ -1,6 +1,6 @@
 -- WHAT FOLLOWS WHERE A COMMAND IS ANSWERED, by the laws: the reply is the graph's, the heaps go on standing for the graph,
 -- snapshots stay fresh, colours keep their invariant, and counts stay small.
-use Rattle.std.proofs.Common.{◌≡◌, ◌≢◌, ℕ, Bool, true, false, List, ◌++◌, Option, Some, None, IsTrue, refl, sym, ◌∙◌, ap, subst, inl, inr, ◌⊎◌, ⊎_elim, arith, ◌≤◌, slice_index_or}
+use Rattle.std.proofs.Common.{◌≡◌, ◌≢◌, ℕ, Bool, true, false, List, ◌++◌, Option, Some, None, IsTrue, refl, sym, ◌∙◌, ap, subst, inl, inr, ◌⊎◌, ⊎_elim, arith, slice_index_or}
 use Rattle.std.specs.List.{filter}
 use Rattle.std.proofs.lemmas.Bool.{false≢true, true≢false}
 use Rattle.cc_lists.specs.Members.{Among, has}

@@ -1,10 +1,10 @@
 -- WHAT A WEAK REGISTER NOTES is what the graph's gives, and may be held; no command of the mutator brings a native back.
-use Rattle.std.proofs.Common.{◌≡◌, ◌≢◌, ℕ, ◌≤◌, ◌<◌, Bool, true, false, not, List, [], ◌∷◌, map, length, if◌then◌else◌, Option, Some, None, IsTrue, refl, sym, ◌∙◌, ap, subst, ⊎_elim, arith, option_and_then, option_map, slice_index_or}
+use Rattle.std.proofs.Common.{◌≡◌, ◌≢◌, ℕ, ◌≤◌, ◌<◌, false, List, length, if◌then◌else◌, Option, Some, None, IsTrue, refl, sym, ◌∙◌, ap, subst, ⊎_elim, arith, option_and_then, option_map, slice_index_or}
 use Rattle.std.proofs.lemmas.Bool.{cases_Bool, and_parts, ltb-true}
-use Rattle.cc_lists.specs.Members.{Among, has}
+use Rattle.cc_lists.specs.Members.{Among}
 use Rattle.cc_lists.proofs.Members.{Among-map, Among-map_cases}
 use Rattle.cc_names.specs.declared.name.Name.{Name}
-use Rattle.cc_names.specs.Names.{native, same_name}
+use Rattle.cc_names.specs.Names.{native}
 use Rattle.cc_model.specs.declared.command.Command.{Command}
 use Rattle.cc_names.specs.declared.number.NKey.{NKey}
 use Rattle.cc_names.specs.declared.number.NativeNo.{NativeNo}
@@ -19,7 +19,7 @@ use Rattle.cc_model.specs.Ranges.{in_range, is_register, is_weak_register}
 use Rattle.cc_model.specs.Checks.{Objects, refusal_of}
 use Rattle.cc_model.specs.Deeds.{deed_of}
 use Rattle.cc_model.specs.Effects.{done_in, effects, hold_native, takes_memory}
-use Rattle.cc_model.specs.Heap.{Heap, HeapNative, native_at, objects_of}
+use Rattle.cc_model.specs.Heap.{Heap, HeapNative, objects_of}
 use Rattle.cc_model.specs.Lawful.{State, unless_ended, noted_in}
 use Rattle.cc_model.specs.Given.{is_usable, MayComeBack}
 use Rattle.cc_model.specs.View.{view, counted}

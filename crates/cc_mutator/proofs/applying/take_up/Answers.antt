@@ -1,6 +1,5 @@
 use Rattle.std.proofs.Common.{ap}
 use Rattle.cc_model.specs.Mutating.{is_deed}
-use Rattle.cc_mutator.proofs.Carrying.{taken-beside}
 use Rattle.cc_mutator.proofs.WeakRead.{applied-deed}
 use Rattle.cc_mutator.proofs.applying.take_up.Goals as goal
 
