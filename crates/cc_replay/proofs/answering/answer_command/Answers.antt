@@ -28,6 +28,9 @@ returns-in-Nothing-clause-counts g c = counts_few c.args.heaps.now c.args.collec
 pub returns-in-Version2-clause-counts : goal.returns-in-Version2-clause-counts
 returns-in-Version2-clause-counts g c = counts_few c.args.heaps.now c.args.collector.now c.requires.runs
 
+pub returns-in-Forget-clause-counts : goal.returns-in-Forget-clause-counts
+returns-in-Forget-clause-counts g c = counts_few c.answer_forget.new.heaps c.args.collector.now c.answer_forget.ensures.runs
+
 pub returns-in-Why-clause-counts : goal.returns-in-Why-clause-counts
 returns-in-Why-clause-counts g c = counts_few c.args.heaps.now c.args.collector.now c.requires.runs
 
@@ -45,9 +48,6 @@ returns-in-Gc-clause-counts g c = counts_few c.answer_gc.new.heaps c.answer_gc.n
 
 pub returns-in_default : goal.returns-in_default
 returns-in_default g c = search (counts_few)
-
-pub returns-in-Forget-clause-counts : goal.returns-in-Forget-clause-counts
-returns-in-Forget-clause-counts g c = counts_few c.answer_forget.new.heaps c.args.collector.now c.answer_forget.ensures.runs
 
 -- weak registers go on holding keys
 pub returns-in-Slice-clause-keys : goal.returns-in-Slice-clause-keys

@@ -1,4 +1,4 @@
-use Rattle.std.proofs.Common.{refl, ap}
+use Rattle.std.proofs.Common.{[], refl, ap}
 use Rattle.cc_heaps.specs.Keyed.{Keyed}
 use Rattle.cc_collector.proofs.GoingOn.{RunsIn-kept}
 use Rattle.cc_replay.specs.Beside.{machine_beside}
@@ -7,7 +7,7 @@ use Rattle.cc_replay.proofs.Replying.{answered-forget}
 use Rattle.cc_replay.proofs.answering.answer_forget.Goals as goal
 
 pub forget-requires : goal.forget-requires
-forget-requires g c = (_, c.requires.runs.order)
+forget-requires g c = record { order = ([], c.requires.runs.order) }
 
 pub returns-clause-answered : goal.returns-clause-answered
 returns-clause-answered g c = λ weak.
@@ -20,7 +20,7 @@ returns-clause-noted g c = noted-forget c.args.heaps.now c.forget.new.heaps c.fo
 
 -- what loses its mark may do so between units
 pub returns-clause-runs : goal.returns-clause-runs
-returns-clause-runs g c = search (RunsIn-kept)
+returns-clause-runs g c = RunsIn-kept c.args.heaps.now c.forget.new.heaps c.args.collector.now c.requires.runs c.forget.ensures.kept
 
 pub returns-clause-remembers : goal.returns-clause-remembers
 returns-clause-remembers g c = c.forget.ensures.kept.suspected
