@@ -54,4 +54,5 @@ module _ (v w : Keyed) (keys : KeepsKeys v w) where
 
 -- SUSPECTS THAT CAN BE SKIPPED lose their mark
 pub noted-forget : (v w : Keyed) → KeepsKeys v w → w.heap ≡ forgotten v.heap → KeepsNoted v w
+unfolding forgotten
 noted-forget v w keys e = noted-same v w keys (ap native_names e) (ap (λ (h : Heap). h.natives_made) e)

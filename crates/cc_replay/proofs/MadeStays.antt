@@ -10,7 +10,7 @@ use Rattle.cc_model.specs.Colours.{marked}
 use Rattle.cc_model.specs.Sweep.{unmarked, without_dead_entries, without_script, let_native_go, sweep_one, sweep_each, sweep, sweeps, rounds, collect_scripts}
 use Rattle.cc_model.specs.Snapshot.{Snapshot}
 use Rattle.cc_model.specs.Units.{first_untraversed}
-use Rattle.cc_model.specs.End.{root_each, empty_slot, empty_each, slots_now, unlink, unlink_each, unroot_each, take_away, give_back, Progress, went_on, at_end, refused, may_be_refused, heap_given_back, abandoned, node_or_end, granted, unit}
+use Rattle.cc_model.specs.End.{root_each, empty_slot, empty_each, slots_now, unlink, unlink_each, unroot_each, take_away, give_back, Progress, went_on, at_end, refused, may_be_refused, heap_given_back, abandoned, node_or_end, granted, UnitDone, unit}
 use Rattle.cc_model.specs.Collecting.{Machine, UnitsDone, no_units, one_unit, units_done, enough_units, to_the_end, finish_running, slice, starting_anew, unless_stopped, collect, then_scripts, gc}
 use Rattle.cc_laws_heap.proofs.Face.{Leaves-let_go, Leaves-take_up}
 
@@ -66,6 +66,10 @@ give_back-made (k ∷ ks) h = go (give_back-made ks (suspect h k)) (give_back-ma
     go back left true = back
     go back left false = left
 
+-- a unit, by whether it is refused
+abbrev unit_by : Heap → Option Snapshot → Bool → UnitDone
+unit_by h s b = elim b [ true ↦ abandoned h s | false ↦ granted h s ]
+
 -- A UNIT
 unit-made : (h : Heap) (s : Option Snapshot) (memory : Bool) → MadeAsMany h (unit h s memory).heap
 unfolding unit
@@ -83,9 +87,13 @@ unit-made h s memory = go (may_be_refused h s && not memory)
     done None = refl
     done (Some s) = walked s (first_untraversed s.nodes)
 
-    go : (b : Bool) → MadeAsMany h (elim b [ true ↦ abandoned h s | false ↦ granted h s ]).heap
+    go : (b : Bool) → MadeAsMany h (unit_by h s b).heap
     go true = dropped s
     go false = done s
+
+-- the units that are left, by what the last one came to
+abbrev units_by : ℕ → UnitsDone → Progress → UnitsDone
+units_by n d p = elim p [ went_on ↦ units_done n (one_unit d.machine d.events) | at_end ↦ d | refused ↦ d ]
 
 -- several units
 units_done-made : (n : ℕ) (d : UnitsDone) → MadeAsMany d.machine.heap (units_done n d).machine.heap
@@ -94,7 +102,7 @@ units_done-made zero d = refl
 units_done-made (suc n) d = go (units_done-made n (one_unit d.machine d.events)) d.progress
   where
     go : MadeAsMany (one_unit d.machine d.events).machine.heap (units_done n (one_unit d.machine d.events)).machine.heap → (p : Progress) →
-        MadeAsMany d.machine.heap (elim p [ went_on ↦ units_done n (one_unit d.machine d.events) | at_end ↦ d | refused ↦ d ]).machine.heap
+        MadeAsMany d.machine.heap (units_by n d p).machine.heap
     go more went_on = more ∙ unit-made d.machine.heap d.machine.snapshot _
     go more at_end = refl
     go more refused = refl
@@ -104,19 +112,27 @@ pub slice-made : (n : ℕ) (m : Machine) → MadeAsMany m.heap (slice n m).machi
 unfolding slice
 slice-made n m = units_done-made n (no_units m)
 
+-- a collection brought to its end, where one runs
+abbrev finish_by : Machine → Bool → UnitsDone
+finish_by m b = elim b [ true ↦ to_the_end (no_units m) | false ↦ no_units m ]
+
 -- a running collection brought to its end
 finish-made : (m : Machine) → MadeAsMany m.heap (finish_running m).machine.heap
 finish-made m = go (is_some m.snapshot)
   where
-    go : (b : Bool) → MadeAsMany m.heap (elim b [ true ↦ to_the_end (no_units m) | false ↦ no_units m ]).machine.heap
+    go : (b : Bool) → MadeAsMany m.heap (finish_by m b).machine.heap
     go true = units_done-made (enough_units m) (no_units m)
     go false = refl
+
+-- a collection begun after others, unless these were refused
+abbrev stopped_by : UnitsDone → Progress → UnitsDone
+stopped_by d p = elim p [ refused ↦ d | went_on ↦ to_the_end (starting_anew d) | at_end ↦ to_the_end (starting_anew d) ]
 
 -- a collection begun after it
 stopped-made : (d : UnitsDone) → MadeAsMany d.machine.heap (unless_stopped d).machine.heap
 stopped-made d = go d.progress
   where
-    go : (p : Progress) → MadeAsMany d.machine.heap (elim p [ refused ↦ d | went_on ↦ to_the_end (starting_anew d) | at_end ↦ to_the_end (starting_anew d) ]).machine.heap
+    go : (p : Progress) → MadeAsMany d.machine.heap (stopped_by d p).machine.heap
     go went_on = units_done-made (enough_units d.machine) (starting_anew d)
     go at_end = units_done-made (enough_units d.machine) (starting_anew d)
     go refused = refl
@@ -149,6 +165,10 @@ marked-made : (h : Heap) → MadeAsMany h (marked h)
 unfolding marked
 marked-made h = refl
 
+-- the rounds that are left, by whether the last one swept something
+abbrev rounds_by : ℕ → Outcome → Bool → Outcome
+rounds_by n o b = elim b [ true ↦ rounds n (after o.events (sweep (marked o.heap))) | false ↦ after o.events (sweep (marked o.heap)) ]
+
 -- rounds of marking and sweeping
 rounds-made : (n : ℕ) (o : Outcome) → MadeAsMany o.heap (rounds n o).heap
 unfolding rounds
@@ -156,7 +176,7 @@ rounds-made zero o = refl
 rounds-made (suc n) o = go (rounds-made n (after o.events (sweep (marked o.heap)))) (sweeps (marked o.heap))
   where
     go : MadeAsMany (sweep (marked o.heap)).heap (rounds n (after o.events (sweep (marked o.heap)))).heap → (b : Bool) →
-        MadeAsMany o.heap (elim b [ true ↦ rounds n (after o.events (sweep (marked o.heap))) | false ↦ after o.events (sweep (marked o.heap)) ]).heap
+        MadeAsMany o.heap (rounds_by n o b).heap
     go more true = more ∙ (sweep-made (marked o.heap) ∙ marked-made o.heap)
     go more false = sweep-made (marked o.heap) ∙ marked-made o.heap
 
