@@ -1,18 +1,16 @@
 -- THE STATE BESIDE A HOST'S MACHINE: a graph that the heaps stand for, with weak registers that note nothing, as the machine's do; and the
 -- natives that have ended, by the heaps.
-use Rattle.std.proofs.Common.{◌≡◌, ℕ, zero, suc, ◌≤◌, ◌+◌, Bool, true, false, not, List, [], ◌∷◌, None, option_map, refl, sym, ◌∙◌, ap, subst, inl, inr, ◌⊎◌, ⊎_elim, arith}
-use Rattle.std.specs.Prelude.{replicate}
+use Rattle.std.proofs.Common.{◌≡◌, ℕ, zero, suc, ◌≤◌, Bool, not, List, [], ◌∷◌, length, option_map, refl, sym, ◌∙◌, ap, inl, inr, ◌⊎◌, ⊎_elim, arith}
 use Rattle.std.specs.List.{filter}
 use Rattle.std.proofs.lemmas.Bool.{cases_Bool}
-use Rattle.std.proofs.lemmas.List.{length-replicate}
 use Rattle.cc_lists.specs.Members.{Among, has}
 use Rattle.cc_lists.proofs.Members.{Among-filter, Among-filtered, Among-passes, has-among, has-there}
 use Rattle.cc_names.specs.declared.name.Name.{Name}
 use Rattle.cc_names.specs.declared.name.Name.TheVariants as name
-use Rattle.cc_names.specs.Names.{native, same_name}
+use Rattle.cc_names.specs.Names.{native, number_of, same_name}
 use Rattle.cc_names.specs.Sizes.{weak_length}
 use Rattle.cc_names.proofs.NameTests.{same_name-exact}
-use Rattle.cc_model.specs.Slots.{Slots, contents, empty_slots}
+use Rattle.cc_model.specs.Slots.{contents, empty_slots}
 use Rattle.cc_model.specs.Graph.{Graph}
 use Rattle.cc_model.specs.Given.{Given, is_usable}
 use Rattle.cc_model.specs.Ended.{EndedAgrees}
@@ -32,13 +30,18 @@ none-noted : (n : ℕ) (x : Name) → ¬ (Among x (contents (empty_slots n)))
 none-noted zero x m = m
 none-noted (suc n) x m = none-noted n x m
 
+-- They are as many.
+many : (n : ℕ) → length (empty_slots n) ≡ n
+many zero = refl
+many (suc n) = ap suc (many n)
+
 -- the graph with weak registers that note nothing
 abbrev pub unnoted : Graph → Graph
 unnoted g = with_weak g (empty_slots weak_length)
 
 -- Such a graph is well made where the graph is.
 pub unnoted-made : (g : Graph) → IsWellMade g → IsWellMade (unnoted g)
-unnoted-made g w = IsWellMade-weak g (empty_slots weak_length) w (length-replicate weak_length None) (λ x m. absurd (none-noted weak_length x m))
+unnoted-made g w = IsWellMade-weak g (empty_slots weak_length) w (many weak_length) (λ x m. absurd (none-noted weak_length x m))
 
 -- Objects have the same shapes there.
 unnoted-shapes : (g : Graph) (x : Name) → shape_in (unnoted g) x ≡ option_map (unchanged x) (shape_in g x)
@@ -62,7 +65,7 @@ unnoted-stands h g w m s = follows-stands (Given h g) h (unnoted g) w (unnoted-m
 -- The natives that have ended
 
 -- the names of the first n natives
-first_natives : ℕ → List Name
+abbrev first_natives : ℕ → List Name
 first_natives zero = []
 first_natives (suc n) = native (suc n) ∷ first_natives n
 
@@ -75,14 +78,14 @@ first-among (suc n) k a b = ⊎_elim (λ (e : suc n ≡ k). inl (ap native e)) (
 
 first-few : (n k : ℕ) → Among (native k) (first_natives n) → k ≤ n
 first-few zero k m = absurd m
-first-few (suc n) k m = ⊎_elim (λ (e : native (suc n) ≡ native k). let f : suc n ≡ k = cc in omega (arith, f)) (λ r. let l = first-few n k r in omega (arith, l)) m
+first-few (suc n) k m = ⊎_elim (λ (e : native (suc n) ≡ native k). let f : suc n ≡ k = ap number_of e in omega (arith, f)) (λ r. let l = first-few n k r in omega (arith, l)) m
 
 -- whether one of the heaps has ended
 abbrev has_ended_in : Heap → Name → Bool
 has_ended_in h x = not (is_usable h x)
 
 -- the natives that have ended, by the heaps
-pub ended_natives : Heap → List Name
+abbrev pub ended_natives : Heap → List Name
 ended_natives h = filter (has_ended_in h) (first_natives h.natives_made)
 
 -- THEY AGREE with the heaps.

@@ -1,5 +1,5 @@
 use Rattle.std.proofs.Common.{[], ◌∙◌, sym, subst}
-use Rattle.cc_host.specs.Hosted.{Hosted, IsKept}
+use Rattle.cc_host.specs.Hosted.{IsKept}
 use Rattle.cc_host.proofs.Referring.{key-held}
 use Rattle.cc_host.proofs.host.Host.followed.Goals as goal
 

@@ -1,5 +1,5 @@
-use Rattle.std.proofs.Common.{[], ◌∙◌, sym, subst}
-use Rattle.cc_host.specs.Hosted.{Hosted, IsKept}
+use Rattle.std.proofs.Common.{[], subst}
+use Rattle.cc_host.specs.Hosted.{IsKept}
 use Rattle.cc_host.specs.Stops.{stop_at}
 use Rattle.cc_host.proofs.Referring.{found-native, key-held}
 use Rattle.cc_host.proofs.Stopping.{passed}
