@@ -1,8 +1,8 @@
 -- WHAT FOLLOWS FROM AN ENTRY SET OR TAKEN OUT: the heaps stand for the graph in which it is, the colour invariant stays, every
 -- snapshot that was fresh is fresh where neither key nor value is gray, and no unreached native is forgotten.
-use Rattle.cc_heaps.proofs.ReflectingWritten.{handed-reached}
+use Rattle.cc_heaps.proofs.ReflectingWritten.{handed-given}
 use Rattle.cc_lists.proofs.Held.{option_and_then-found}
-use Rattle.cc_laws_heap.proofs.Face.{AreColoured-from_view, Follows-set_entry, Grows, Grows-change_native, HasColourInvariant-from, IsHeldBlack, IsMadeEntry-grows, IsWellMade-change_native, IsWellMade-entries, KeepsNative-preserved, MadeScript, OfSome, SameScripts, SameScripts-coloured, delegate-stands, entries_of-set, follows-stands, in-reached, option_map-found, script-behind, stands-follows, with_entry-cases, without_entry-sound}
+use Rattle.cc_laws_heap.proofs.Face.{AreColoured-from_view, Follows-set_entry, Grows, Grows-change_native, HasColourInvariant-from, IsHeldBlack, IsMadeEntry-grows, IsWellMade-change_native, IsWellMade-entries, KeepsNative-preserved, MadeScript, OfSome, Reached-given, SameScripts, SameScripts-coloured, delegate-stands, entries_of-set, follows-stands, in-reached, option_map-found, script-behind, stands-follows, with_entry-cases, without_entry-sound}
 use Rattle.std.proofs.Common.{◌≡◌, ℕ, not, List, Option, Some, None, refl, sym, ◌∙◌, ap, subst, inl, ⊎_elim, arith, option_map}
 use Rattle.std.specs.Prelude.{IfSome, IsTrue}
 use Rattle.std.specs.Option.{option_and_then}
@@ -12,11 +12,11 @@ use Rattle.cc_lists.proofs.Filtering.{count_by-filter-le}
 use Rattle.cc_names.specs.declared.name.Name.{Name}
 use Rattle.cc_names.specs.declared.name.Name.TheVariants as name
 use Rattle.cc_names.specs.declared.kind.Kind.TheVariants.{Map}
-use Rattle.cc_names.specs.Names.{object, is_script}
+use Rattle.cc_names.specs.Names.{native, object, is_script}
 use Rattle.cc_model.specs.Entries.{Entry, entry, is_entry_of, with_entry, without_entry}
 use Rattle.cc_model.specs.Graph as graph
 use Rattle.cc_model.specs.Graph.{Graph, GraphNative, GraphScript, plain_object, weak_map, as_preserved, delegate_in, native_in, script_in}
-use Rattle.cc_model.specs.Reached.{Reached}
+use Rattle.cc_model.specs.Given.{Given}
 use Rattle.cc_model.specs.WellMade.{IsWellMade, IsMadeEntry, was_made}
 use Rattle.cc_model.specs.Heap.{Heap, delegate_at, preserve}
 use Rattle.cc_model.proofs.Joints.{joint-cases, gives-joint}
@@ -78,9 +78,9 @@ module _ {owned : List ℕ} (h : Heap) (m k : Name) (s : IsSound owned h) where
         let key = in-reached h g s.well_formed w t k b in
         let made = there-made h g k s.well_formed t at in (
           well,
-          follows-stands (Reached g) (set_entry h (Some m) (Some k) v) (graph.set_entry g (Some m) (Some k) v) after.well_formed well
-              (Follows-set_entry (Reached g) h g (Some m) (Some k) v (in-reached h g s.well_formed w t m a) key
-              (script-behind g (Some k) made key) (handed-reached h g v s.well_formed w t c)
+          follows-stands (Given h g) (set_entry h (Some m) (Some k) v) (graph.set_entry g (Some m) (Some k) v) after.well_formed well
+              (Follows-set_entry (Given h g) h g (Some m) (Some k) v (Reached-given h g m (in-reached h g s.well_formed w t m a)) (Reached-given h g k key)
+              (λ j e. Reached-given h g (native j) (script-behind g (Some k) made key j e)) (handed-given h g v s.well_formed w t c)
               (delegate-stands h g t k (and_parts (is_script k) (was_made g k) made).0 key) w.one_entry (stands-follows h g s.well_formed t)),
         )
 

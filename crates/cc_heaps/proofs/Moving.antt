@@ -15,7 +15,7 @@ use Rattle.cc_model.specs.Places.{places_of_native}
 use Rattle.cc_model.proofs.Places.{contents-last}
 use Rattle.cc_model.specs.Graph as graph
 use Rattle.cc_model.specs.Graph.{Graph}
-use Rattle.cc_model.specs.Reached.{Reached}
+use Rattle.cc_model.specs.Given.{Given}
 use Rattle.cc_model.specs.Heap.{Heap, HeapNative, Outcome, native_at, set_slot, change_native, with_native_slot}
 use Rattle.cc_model.specs.Cascade.{let_go}
 use Rattle.cc_model.specs.End.{slots_now}
@@ -42,7 +42,7 @@ use Rattle.cc_heaps.proofs.LeftWith.{key_left-there}
 use Rattle.cc_heaps.proofs.SlotsHeld.{has-slot}
 use Rattle.cc_heaps.proofs.StandingAfter.{StandsAfter-from, handed-made}
 use Rattle.cc_heaps.proofs.MarksKept.{marks-same, marks-then}
-use Rattle.cc_heaps.proofs.ReflectingWritten.{handed-reached}
+use Rattle.cc_heaps.proofs.ReflectingWritten.{handed-given}
 
 -- a script object is exposed, where no native is what is touched
 pub touched-exposed : (h : Heap) (x : Option Name) → numbers_of x ≡ [] → exposed h x ≡ touched h x
@@ -127,12 +127,12 @@ module _ (h : Heap) (k i m j : ℕ) (to : i < length (slots_now (native_at h k))
         IsWellMade-change_native emptied k (graph.with_slot i x) (λ n e. e)
         (IsWellMade-change_native g m (graph.with_slot j None) (λ n e. e) w (KeepsNative-slot g m j None tt))
         (KeepsNative-slot emptied k i x (OfSome-then (Made g) (Made emptied) more.made x (handed-made h g s.well_formed w f x (x-reached q)))))
-        (λ g w f d. Follows-left (Reached g) (set_slot t (Some (native k)) i x) (moved_in h k i m j).heap (graph.move_slot g (Some (native k)) i (Some (native m)) j x)
+        (λ g w f d. Follows-left (Given h g) (set_slot t (Some (native k)) i x) (moved_in h k i m j).heap (graph.move_slot g (Some (native k)) i (Some (native m)) j x)
         (Leaves-let_go (set_slot t (Some (native k)) i x) (slot_held t k i))
-        (Follows-slot (Reached g) t (graph.set_slot g (Some (native m)) j None) (Some (native k)) i x
-        (handed-reached h g (Some (native k)) s.well_formed w f p) (handed-reached h g x s.well_formed w f (x-reached q)) (λ l n e. absurd (cc))
-        (Follows-slot (Reached g) (touched h x) g (Some (native m)) j None (handed-reached h g (Some (native m)) s.well_formed w f q) tt (λ l n e. absurd (cc))
-        (Follows-left (Reached g) h (touched h x) g (Leaves-touched h x) d))))
+        (Follows-slot (Given h g) t (graph.set_slot g (Some (native m)) j None) (Some (native k)) i x
+        (handed-given h g (Some (native k)) s.well_formed w f p) (handed-given h g x s.well_formed w f (x-reached q)) (λ l n e. absurd (cc))
+        (Follows-slot (Given h g) (touched h x) g (Some (native m)) j None (handed-given h g (Some (native m)) s.well_formed w f q) tt (λ l n e. absurd (cc))
+        (Follows-left (Given h g) h (touched h x) g (Leaves-touched h x) d))))
 
 -- The heaps with their keys
 

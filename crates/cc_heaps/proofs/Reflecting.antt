@@ -1,7 +1,7 @@
--- THE REFLECTOR OF A REACHED NATIVE, as far as it is in the heaps: they follow the graph over what is reached and the
--- reflector. Preserved it is reached, and else it is blank.
+-- THE REFLECTOR OF A REACHED NATIVE, as far as it is in the heaps: they follow the graph over what is given and the
+-- reflector. Preserved it is given, and else it is blank.
 use Rattle.cc_lists.proofs.Held.{option_and_then-found}
-use Rattle.cc_laws_heap.proofs.Face.{Follows, Follows-made, IsIn, IsMade, IsOfNone, delegate_in-shape, shape_in-reflector, Made, MadeScript, OfSome, contents-empty_none, further_of, option_map-found, stands-follows}
+use Rattle.cc_laws_heap.proofs.Face.{Follows, Follows-made, IsIn, IsMade, IsOfNone, delegate_in-shape, shape_in-reflector, Made, MadeScript, OfSome, Reached-given, contents-empty_none, further_of, option_map-found, stands-follows}
 use Rattle.std.proofs.Common.{arith, ◌≡◌, ℕ, true, false, [], ◌∷◌, Option, Some, None, refl, sym, ◌∙◌, ap, subst, inl, inr, ◌⊎◌, ⊎_elim}
 use Rattle.std.proofs.lemmas.Bool.{cases_Bool}
 use Rattle.cc_lists.specs.Members.{Among}
@@ -13,6 +13,7 @@ use Rattle.cc_model.specs.Slots.{Slots, contents, empty_slots, reflector_slots}
 use Rattle.cc_model.specs.Entries.{Entry}
 use Rattle.cc_model.specs.Graph.{Graph}
 use Rattle.cc_model.specs.Reached.{Reached}
+use Rattle.cc_model.specs.Given.{Given}
 use Rattle.cc_model.specs.WellMade.{IsWellMade}
 use Rattle.cc_model.specs.Heap.{Heap, HeapScript}
 use Rattle.cc_model.specs.WellFormed.{IsWellFormed, FitsName, script_names}
@@ -44,13 +45,17 @@ abbrev blank_shape : Shape
 blank_shape = script_shape (Some (empty_slots reflector_slots)) None
 
 module _ (h : Heap) (g : Graph) (k : ℕ) (w : IsWellFormed h) (m : IsWellMade g) (s : StandsFor h g) (there : Among (reflector k) (script_names h)) (d : Reached g (native k)) where
-  -- the heaps follow the graph over what is reached
-  follows : Follows (Reached g) h g
+  -- the native is given
+  native-given : Given h g (native k)
+  native-given = Reached-given h g (native k) d
+
+  -- the heaps follow the graph over what is given
+  follows : Follows (Given h g) h g
   follows = stands-follows h g w s
 
   -- the native as it is in both
   kept : IsKept h g (native k)
-  kept = s.reached (native k) d
+  kept = s.given (native k) native-given
 
   -- the reflector as it is in the heaps
   own : (o : HeapScript) × Among o h.scripts × (o.name ≡ reflector k)
@@ -60,9 +65,9 @@ module _ (h : Heap) (g : Graph) (k : ℕ) (w : IsWellFormed h) (m : IsWellMade g
   own-made : shape_in g (reflector k) ≡ Some (shape_of_held_script own.0)
   own-made = ap (shape_in g) (sym own.2) ∙ follows.objects.scripts own.0 own.1
 
-  -- a preserved reflector is reached
-  preserved-reached : kept.shape.preserved ≡ true → Reached g (reflector k)
-  preserved-reached p = follows.closed.edges (native k) (reflector k) kept.shape d kept.made
+  -- a preserved reflector is given
+  preserved-given : kept.shape.preserved ≡ true → Given h g (reflector k)
+  preserved-given p = follows.closed.edges (native k) (reflector k) kept.shape native-given kept.made
       (Among-right (reflector k) (contents (slots_of kept.shape.slots)) (further_of (native k) kept.shape)
       (subst (λ b. Among (reflector k) (elim b [ true ↦ reflector k ∷ [] | false ↦ [] ])) (sym p) (inl refl)))
     where
@@ -85,7 +90,7 @@ module _ (h : Heap) (g : Graph) (k : ℕ) (w : IsWellFormed h) (m : IsWellMade g
       (blank p).2 e.key f.0 f.1 f.2
 
   -- so it is as if it were made alike in both
-  as_made : kept.shape.preserved ≡ false → IsMade (Reached g) h h g g (reflector k) blank_shape
+  as_made : kept.shape.preserved ≡ false → IsMade (Given h g) h h g g (reflector k) blank_shape
   as_made p = record {
     natives = λ n i. inl i;
     scripts = λ o i. inl i;
@@ -94,7 +99,7 @@ module _ (h : Heap) (g : Graph) (k : ℕ) (w : IsWellFormed h) (m : IsWellMade g
     before = λ t e. (same t (sym e ∙ (blank p).0), refl);
     targets = λ y i. ⊎_elim
         (λ a. absurd (contents-empty_none reflector_slots y a))
-        (λ r. ⊎_elim (λ q. subst (Reached g) q d) (λ q. absurd q) r)
+        (λ r. ⊎_elim (λ q. subst (Given h g) q native-given) (λ q. absurd q) r)
         (Among-append y (contents (empty_slots reflector_slots)) (native k ∷ []) i);
     no_entry = λ e i. (λ q. apart (sym (m.entries e i).the_map.1 ∙ q), (blank p).1 e i, not_delegate p e i);
     no_delegate = (blank p).2;
@@ -116,7 +121,7 @@ module _ (h : Heap) (g : Graph) (k : ℕ) (w : IsWellFormed h) (m : IsWellMade g
   -- THE HEAPS FOLLOW THE GRAPH over the native and its reflector: whatever follows from that, follows.
   pub Follows-reflector : (Q : Type 0) → ((P : Name → Type 0) → P (native k) → P (reflector k) → Follows P h g → Q) → Q
   Follows-reflector Q f = ⊎_elim
-      (λ p. f (Reached g) d (preserved-reached p) follows)
-      (λ p. f (λ z. Reached g z ⊎ (reflector k ≡ z)) (inl d) (inr refl)
-      (Follows-made (Reached g) h h g g (reflector k) blank_shape (as_made p) follows))
+      (λ p. f (Given h g) native-given (preserved-given p) follows)
+      (λ p. f (λ z. Given h g z ⊎ (reflector k ≡ z)) (inl native-given) (inr refl)
+      (Follows-made (Given h g) h h g g (reflector k) blank_shape (as_made p) follows))
       (cases_Bool kept.shape.preserved)

@@ -2,7 +2,7 @@
 -- graph is well made; the changed heaps follow it, and are well formed, so they stand for it.
 use Rattle.cc_heaps.proofs.ObjectsKept.{there-named}
 use Rattle.cc_heaps.proofs.Reflecting.{held-made, shape-made}
-use Rattle.std.proofs.Common.{arith, ◌≡◌, ℕ, ◌<◌, ◌≤◌, true, List, length, get_or, Option, Some, None, refl, sym, ap, subst, inl}
+use Rattle.std.proofs.Common.{arith, ◌≡◌, ℕ, ◌<◌, ◌≤◌, true, List, length, get_or, Option, Some, None, refl, sym, ap, subst, inl, ⊎_elim}
 use Rattle.std.specs.Prelude.{IsTrue}
 use Rattle.std.proofs.lemmas.Bool.{false≢true, lt-leb}
 use Rattle.cc_names.specs.declared.name.Name.{Name}
@@ -20,6 +20,7 @@ use Rattle.cc_model.specs.Deeds.{deed_of}
 use Rattle.cc_model.specs.Graph as graph
 use Rattle.cc_model.specs.Graph.{Graph, GraphNative, GraphScript, native_in, script_in, step}
 use Rattle.cc_model.specs.Reached.{Reached}
+use Rattle.cc_model.specs.Given.{Given}
 use Rattle.cc_model.specs.WellMade.{IsWellMade}
 use Rattle.cc_model.specs.Heap.{Heap, objects_of, native_at, set_slot}
 use Rattle.cc_model.specs.Cascade.{take_up}
@@ -28,7 +29,7 @@ use Rattle.cc_model.specs.Effects.{done_in, effects, hold_native, hold_script, m
 use Rattle.cc_model.specs.WellFormed.{IsWellFormed, native_names, script_names}
 use Rattle.cc_model.specs.StandsFor.{StandsFor}
 use Rattle.cc_laws_heap.specs.Sound.{IsSound}
-use Rattle.cc_laws_heap.proofs.Face.{Follows, Follows-hold, Follows-left, Follows-slot, IsIn, IsWellMade-change_native, IsWellMade-native_register, KeepsNative-slot, Leaves-let_go, Leaves-take_up, Made, MadeNative, MadeScript, MayBeDone, MayBeDoneTo, OfSome, OfSome-then, done-stands, follows-stands, make_proxy-sound, proxy-follows, proxy-well, script-behind, stands-follows}
+use Rattle.cc_laws_heap.proofs.Face.{Follows, Follows-hold, Follows-left, Follows-slot, HasBehind, IsGivenNative, IsIn, IsWellMade-change_native, IsWellMade-native_register, KeepsNative-slot, Leaves-let_go, Leaves-take_up, Made, MadeNative, MadeScript, MayBeDone, MayBeDoneTo, OfSome, OfSome-then, Reached-given, done-stands, follows-stands, hold-stands, hold-well, in-reached, make_proxy-sound, proxy-follows, proxy-well, script-behind, stands-follows, stands-reached, usable-given}
 use Rattle.cc_laws_snapshot.proofs.Face.{native-name_of}
 use Rattle.cc_counted.specs.declared.held.Held.{Held}
 use Rattle.cc_script.specs.Objects.{is_there, name_at}
@@ -38,54 +39,54 @@ use Rattle.cc_heaps.specs.declared.heaps.to_make.ToMake.{ToMake}
 use Rattle.cc_heaps.specs.declared.heaps.to_make.ToMake.TheVariants.{Plain, Map, Proxy}
 use Rattle.cc_names.specs.Allowance.{Allowance}
 use Rattle.cc_heaps.specs.Changes.{native_name, script_name, held_name, stored_in}
-use Rattle.cc_heaps.specs.Standing.{IsReached, IsReachedOrReflects, MayHold, StandsAfter}
+use Rattle.cc_heaps.specs.Standing.{IsReached, IsReachedOrReflects, MayBeHeld, MayHold, StandsAfter}
 use Rattle.cc_heaps.proofs.Content.{native-in}
 use Rattle.cc_heaps.proofs.Following.{made_by, proxy-made, name_at-there, script_name-there}
-use Rattle.cc_heaps.proofs.ReflectingWritten.{held_script-stands, slot_written-stands, handed-reached}
+use Rattle.cc_heaps.proofs.ReflectingWritten.{held_script-stands, slot_written-stands, handed-given, handed-reached}
 
 -- What was made
 
 module _ (h : Heap) (g : Graph) (w : IsWellFormed h) (m : IsWellMade g) (s : StandsFor h g) where
   -- what is handed in was made
   pub handed-made : (x : Option Name) → IsReached h x → OfSome (Made g) x
-  handed-made x r = OfSome-then (Reached g) (Made g) (λ y d. let k = s.reached y d in shape-made g y k.shape k.made) x (handed-reached h g x w m s r)
+  handed-made x r = OfSome-then (Reached g) (Made g) (λ y d. let k = stands-reached h g s y d in shape-made g y k.shape k.made) x (handed-reached h g x w m s r)
 
-  -- a native, where it is that of one that is there
-  native-made : (x : Option Name) → IsIn (native_names h) x → IsReached h x → OfSome (MadeNative g) x
-  native-made None there r = tt
-  native-made (Some x) there r = named x (native-name_of h x (there x (inl refl))) (handed-made (Some x) r)
-    where
-      named : (y : Name) → is_native y ≡ true → Made g y → MadeNative g y
-      named (name.Native k) e d = d
-      named (name.Script k) e d = absurd (false≢true e)
-      named (name.Reflector k) e d = absurd (false≢true e)
+-- What may be held is a native that is given
+handed-native : (h : Heap) (g : Graph) (w : IsWellFormed h) (m : IsWellMade g) (s : StandsFor h g) (x : Option Name) → IsIn (native_names h) x → MayBeHeld h x → IsGivenNative h g x
+handed-native h g w m s None there r = tt
+handed-native h g w m s (Some x) there r = (native-name_of h x (there x (inl refl)), ⊎_elim (λ d. Reached-given h g x (in-reached h g w m s x d)) (usable-given h g x) r)
+
+-- What is reached may be held.
+pub reached-may_be_held : (h : Heap) (x : Option Name) → IsReached h x → MayBeHeld h x
+reached-may_be_held h None r = tt
+reached-may_be_held h (Some x) r = inl r
 
 -- Changes of the heaps
 
 -- WELL FORMED HEAPS THAT FOLLOW what a change makes of each graph stand for it.
 pub StandsAfter-from : (h k : Heap) (change : Graph → Graph) → IsWellFormed h → IsWellFormed k →
     ((g : Graph) → IsWellMade g → StandsFor h g → IsWellMade (change g)) →
-    ((g : Graph) → IsWellMade g → StandsFor h g → Follows (Reached g) h g → Follows (Reached g) k (change g)) → StandsAfter h k change
+    ((g : Graph) → IsWellMade g → StandsFor h g → Follows (Given h g) h g → Follows (Given h g) k (change g)) → StandsAfter h k change
 StandsAfter-from h k change early late well follows g m s =
-    (well g m s, follows-stands (Reached g) k (change g) late (well g m s) (follows g m s (stands-follows h g early s)))
+    (well g m s, follows-stands (Given h g) k (change g) late (well g m s) (follows g m s (stands-follows h g early s)))
+
+-- A native register is written.
+hold_native-stands : {owned : List ℕ} (h : Heap) (d : ℕ) (x : Option Name) → IsSound owned h → d < length h.native_registers → IsIn (native_names h) x → MayBeHeld h x →
+    StandsAfter h (hold_native h d x).heap (λ g. graph.set_register g (N d) x)
+hold_native-stands h d x s place there r g m t =
+    let given = handed-native h g s.well_formed m t x there r in
+    (hold-well h g d x s m t place given, hold-stands h g d x s m t place given)
 
 module _ (h : Heap) (w : IsWellFormed h) where
-  -- A native register is written.
-  hold_native-stands : (d : ℕ) (x : Option Name) → IsIn (native_names h) x → IsReached h x → IsWellFormed (hold_native h d x).heap →
-      StandsAfter h (hold_native h d x).heap (λ g. graph.set_register g (N d) x)
-  hold_native-stands d x there r late = StandsAfter-from h (hold_native h d x).heap (λ g. graph.set_register g (N d) x) w late
-      (λ g m s. IsWellMade-native_register g d x m (native-made h g w m s x there r))
-      (λ g m s t. Follows-hold (Reached g) h g d x x refl (handed-reached h g x w m s r) t)
-
   -- A slot of a native is written.
   stored_in-stands : (k i : ℕ) (x : Option Name) → IsReached h (Some (native k)) → IsReached h x → IsWellFormed (stored_in h k i x).heap →
       StandsAfter h (stored_in h k i x).heap (λ g. graph.set_slot g (Some (native k)) i x)
   stored_in-stands k i x held r late = StandsAfter-from h (stored_in h k i x).heap (λ g. graph.set_slot g (Some (native k)) i x) w late
       (λ g m s. IsWellMade-change_native g k (graph.with_slot i x) (λ n e. e) m (KeepsNative-slot g k i x (handed-made h g w m s x r)))
-      (λ g m s t. Follows-left (Reached g) (set_slot (take_up h x) (Some (native k)) i x) (stored_in h k i x).heap (graph.set_slot g (Some (native k)) i x)
+      (λ g m s t. Follows-left (Given h g) (set_slot (take_up h x) (Some (native k)) i x) (stored_in h k i x).heap (graph.set_slot g (Some (native k)) i x)
       (Leaves-let_go (set_slot (take_up h x) (Some (native k)) i x) (get_or (slots_now (native_at (take_up h x) k)) i None))
-      (Follows-slot (Reached g) (take_up h x) g (Some (native k)) i x (handed-reached h g (Some (native k)) w m s held) (handed-reached h g x w m s r)
-      (λ j a e. absurd (cc)) (Follows-left (Reached g) h (take_up h x) g (Leaves-take_up h x) t)))
+      (Follows-slot (Given h g) (take_up h x) g (Some (native k)) i x (handed-given h g (Some (native k)) w m s held) (handed-given h g x w m s r)
+      (λ j a e. absurd (cc)) (Follows-left (Given h g) h (take_up h x) g (Leaves-take_up h x) t)))
 
 -- A command that is not refused, where what it comes to may be done.
 command-stands_after : {owned : List ℕ} (h : Heap) (c : Command) → IsSound owned h → refusal_of (objects_of h) c ≡ None → MayBeDone h (deed_of (objects_of h) c) →
@@ -112,7 +113,8 @@ make_proxy-stands : {owned : List ℕ} (h : Heap) (d : ℕ) (x : Option Name) �
     StandsAfter h (make_proxy h d x) (λ g. graph.with_proxy g d x)
 make_proxy-stands {owned} h d x s allowed there r g m t = (
   well,
-  proxy-follows h g s.well_formed m t d x reached (script-behind g x made reached) made (StandsFor (make_proxy h d x) (graph.with_proxy g d x))
+  proxy-follows h g s.well_formed m t d x (OfSome-then (Reached g) (Given h g) (Reached-given h g) x reached)
+      (OfSome-then (HasBehind (Reached g)) (HasBehind (Given h g)) (λ y b j e. Reached-given h g (native j) (b j e)) x (script-behind g x made reached)) made (StandsFor (make_proxy h d x) (graph.with_proxy g d x))
       (λ P f. follows-stands P (make_proxy h d x) (graph.with_proxy g d x) (make_proxy-sound owned h d x there allowed s).well_formed well f),
 )
   where
@@ -152,10 +154,10 @@ module _ {owned : List ℕ} (v w : Keyed) (o : IsInOrder owned v) (p : IsInOrder
   changed-stands k change e f = subst (λ l. StandsAfter v.heap l change) (sym e) (f (subst IsWellFormed e p.sound.well_formed))
 
   -- A native register is written with what is at a key.
-  pub native_register-stands : (d : ℕ) (x : Option NKey) → w ≡ left_with v (hold_native v.heap d (native_name v x)).heap → IsReached v.heap (native_name v x) →
-      StandsAfter v.heap w.heap (λ g. graph.set_register g (N d) (native_name v x))
-  native_register-stands d x e r = changed-stands (hold_native v.heap d (native_name v x)).heap (λ g. graph.set_register g (N d) (native_name v x))
-      (ap (λ (u : Keyed). u.heap) e) (hold_native-stands v.heap o.sound.well_formed d (native_name v x) (native-in owned v x o) r)
+  pub native_register-stands : (d : ℕ) (x : Option NKey) → d < length v.heap.native_registers → w ≡ left_with v (hold_native v.heap d (native_name v x)).heap →
+      MayBeHeld v.heap (native_name v x) → StandsAfter v.heap w.heap (λ g. graph.set_register g (N d) (native_name v x))
+  native_register-stands d x place e r = subst (λ k. StandsAfter v.heap k (λ g. graph.set_register g (N d) (native_name v x))) (sym (ap (λ (u : Keyed). u.heap) e))
+      (hold_native-stands v.heap d (native_name v x) o.sound place (native-in owned v x o) r)
 
   -- A script register is written.
   pub script_register-stands : (d : ℕ) (x : Option SKey) → w.heap ≡ hold_script v.heap d (script_name v x) → IsReachedOrReflects v.heap (script_name v x) →

@@ -1,11 +1,11 @@
 -- HEAPS GO ON STANDING FOR THE SAME GRAPHS, and the colours stay as they should be: where something changes that no graph
 -- sees, where references are taken and given up, and where what no register reaches is unlinked.
-use Rattle.std.proofs.Common.{arith, ◌≡◌, ℕ, Bool, List, [], ◌∷◌, Option, Some, None, refl, sym, subst, inl, IsSome, MatchOption}
+use Rattle.std.proofs.Common.{arith, ◌≡◌, ℕ, Bool, List, [], ◌∷◌, Option, Some, None, refl, sym, ◌∙◌, subst, inl, IsSome, MatchOption}
 use Rattle.cc_lists.specs.Members.{Among}
 use Rattle.cc_names.specs.declared.name.Name.{Name}
 use Rattle.cc_names.specs.declared.number.NKey.{NKey}
 use Rattle.cc_names.specs.Names.{native}
-use Rattle.cc_model.specs.Reached.{Reached}
+use Rattle.cc_model.specs.Given.{Given}
 use Rattle.cc_model.specs.Heap.{Heap, Buffered, buffered_as}
 use Rattle.cc_model.specs.View.{view, ReachedIn}
 use Rattle.cc_model.specs.Cascade.{add_ref, cascade}
@@ -15,6 +15,7 @@ use Rattle.cc_model.specs.Colours.{HasColourInvariant}
 use Rattle.cc_model.specs.WellFormed.{IsWellFormed, native_names}
 use Rattle.cc_model.specs.StandsFor.{shape_at}
 use Rattle.cc_laws_heap.specs.Sound.{IsSound}
+use Rattle.cc_laws_heap.specs.Apart.{AreApart}
 use Rattle.cc_laws_heap.specs.Freeing.{SameBeside}
 use Rattle.cc_laws_heap.proofs.Face.{AreColoured-from_view, Follows-left, HasColourInvariant-from, HoldsTheSame-add_ref, Leaves, Leaves-exposed, add_ref-sound, add_ref-stands, cascade-frees, cascade-sound, cascade-stands, exposed-sound, follows-stands, reached-in, stands-follows, unlink-keeps, unlink-stands}
 use Rattle.cc_heaps.specs.Keyed.{Keyed, IsInOrder, changed_to, number_at, the_number}
@@ -30,7 +31,7 @@ pub record GoesOn (h k : Heap) : Type 0 where
 
 -- objects that keep their names and shapes, or are left out
 StillStands-left : (h k : Heap) → IsWellFormed h → IsWellFormed k → Leaves h k → StillStands h k
-StillStands-left h k w v l g m s = follows-stands (Reached g) k g v m (Follows-left (Reached g) h k g l (stands-follows h g w s))
+StillStands-left h k w v l g m s = follows-stands (Given h g) k g v m (Follows-left (Given h g) h k g l (stands-follows h g w s))
 
 -- Something is exposed.
 pub exposed-still : {owned : List ℕ} (h : Heap) (x : Option Name) → IsSound owned h → StillStands h (exposed h x)
@@ -47,7 +48,23 @@ module _ (h : Heap) (buffer : List Buffered) where
 
   -- The buffer changes.
   pub buffer-goes_on : GoesOn h (record h { buffer = buffer })
-  buffer-goes_on = grind (arith, shape_at-buffer)
+  buffer-goes_on = record {
+    stands = λ g m s. record {
+      native_registers = s.native_registers;
+      script_registers = s.script_registers;
+      limits = s.limits;
+      natives_made = s.natives_made;
+      scripts_made = s.scripts_made;
+      natives = s.natives;
+      scripts = s.scripts;
+      given = λ x d. let k = s.given x d in record { shape = k.shape; made = k.made; there = shape_at-buffer x ∙ k.there };
+      values = s.values;
+      spent = s.spent;
+      entries = s.entries;
+      blank = s.blank;
+    };
+    colours = λ c. record { black_to_black = c.black_to_black; held_black = c.held_black; none_white = c.none_white };
+  }
 
 -- a native and its mark
 abbrev pub Front : Type 0
@@ -89,9 +106,9 @@ cascade-goes_on owned h k s = record {
 }
 
 module _ (owned : List ℕ) (h : Heap) (k : ℕ) (s : IsSound (k ∷ owned) h) where
-  -- A native that no register reaches is unlinked.
-  pub unlink-still : ¬ (ReachedIn (view h) (native k)) → StillStands h (unlink h k).heap
-  unlink-still d g m t = unlink-stands (k ∷ owned) h g k s (inl refl) m t (λ r. d (reached-in h g s.well_formed m t (native k) r))
+  -- A native that is apart is unlinked.
+  pub unlink-still : AreApart h (k ∷ []) → StillStands h (unlink h k).heap
+  unlink-still apart g m t = unlink-stands (k ∷ owned) h g k s (inl refl) m t apart
 
   -- Any that is unlinked leaves the colours.
   pub unlink-colours : HasColourInvariant (view h) → HasColourInvariant (view (unlink h k).heap)

@@ -1,11 +1,12 @@
 -- WHAT A CHANGE PROMISES: of the graph that the heaps stand for, of snapshots, of suspicion and of colours.
-use Rattle.std.specs.Prelude.{◌≡◌, ◌⊎◌, true, ℕ, List, Option, Some, None}
+use Rattle.std.specs.Prelude.{◌≡◌, ◌⊎◌, IsTrue, true, ℕ, List, Option, Some, None}
 use Rattle.cc_names.specs.declared.name.Name.{Name}
 use Rattle.cc_names.specs.declared.name.Name.TheVariants as name
 use Rattle.cc_names.specs.Names.{native}
 use Rattle.cc_model.specs.Graph.{Graph}
 use Rattle.cc_model.specs.WellMade.{IsWellMade}
 use Rattle.cc_model.specs.Heap.{Heap, HeapNative, native_at}
+use Rattle.cc_model.specs.Given.{is_usable}
 use Rattle.cc_model.specs.View.{view, ReachedIn}
 use Rattle.cc_model.specs.StandsFor.{StandsFor}
 use Rattle.cc_model.specs.Colours.{HasColourInvariant}
@@ -18,7 +19,12 @@ abbrev pub IsReached : Heap → Option Name → Type 0
 IsReached h None = Unit {0}
 IsReached h (Some x) = ReachedIn (view h) x
 
--- or it is the reflector of a native that is reached
+-- or it is a native of the heaps that was not unlinked, as a weak reference may bring back
+abbrev pub MayBeHeld : Heap → Option Name → Type 0
+MayBeHeld h None = Unit {0}
+MayBeHeld h (Some x) = ReachedIn (view h) x ⊎ IsTrue (is_usable h x)
+
+-- what is handed in is reached, or it is the reflector of a native that is reached
 abbrev pub IsReachedOrReflects : Heap → Option Name → Type 0
 IsReachedOrReflects h None = Unit {0}
 IsReachedOrReflects h (Some (name.Native k)) = ReachedIn (view h) (name.Native k)

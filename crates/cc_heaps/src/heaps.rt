@@ -1,17 +1,17 @@
 //! The heaps: their fields, what registers hold, and what a collection does to natives.
 ghost use Rattle.std.specs.Prelude.{◌≡◌, ◌<◌, ℕ, List, [], ◌∷◌, IsSome, IfOk, MatchOption, replicate, None};
 ghost use Rattle.cc_names.specs.declared.register.Reg.TheVariants.{N as n_register, S as s_register};
-ghost use Rattle.cc_names.specs.Names.{native};
 ghost use Rattle.cc_names.specs.Sizes.{bank_length};
 ghost use Rattle.cc_model.specs.Heap.{empty_heap, register, suspect, buffered_as};
 ghost use Rattle.cc_model.specs.Cascade.{add_ref, cascade};
 ghost use Rattle.cc_model.specs.Colours.{HasColourInvariant};
 ghost use Rattle.cc_model.specs.End.{unlink};
-ghost use Rattle.cc_model.specs.View.{view, ReachedIn};
+ghost use Rattle.cc_model.specs.View.{view};
 ghost use Rattle.cc_model.specs.StandsFor.{StandsFor};
 ghost use Rattle.cc_model.specs.Suspected.{IsSuspected};
 ghost use Rattle.cc_model.specs.Telling.{TellsEvents};
 ghost use Rattle.cc_model.specs.Graph as graph;
+ghost use Rattle.cc_laws_heap.specs.Apart.{AreApart};
 ghost use Rattle.cc_heaps.specs.Keyed.{IsInOrder, counts_of, number_at, the_number, changed_to, left_with};
 ghost use Rattle.cc_heaps.specs.Changes.{IsNativeThere, IsScriptThere, native_name, script_name};
 ghost use Rattle.cc_heaps.specs.Standing.{StillStands};
@@ -172,13 +172,16 @@ impl Heaps {
     }
 
     /// Tells that a native is unlinked, and empties its slots. The caller owns a reference to it.
+    ///
+    /// The heaps go on standing for the graph where the native is apart: the registers and the other natives of the heaps do not
+    /// lead to it. Of several that are apart together only, the others lead to each: the end of a collection says it of them all.
     pub fn unlink<N: Notices>(&mut self, key: NKey, out: &mut N)
         requires live { IsSome (number_at self.old key.0) }
         requires owned { (owned : List ℕ) × IsInOrder (the_number self.old key.0 ∷ owned) self.old }
         ensures heap { self.new ≡ left_with self.old (unlink self.old.heap (the_number self.old key.0)).heap }
         ensures told { TellsEvents (N.telling out.old) (N.telling out.new) (unlink self.old.heap (the_number self.old key.0)).events }
         ensures kept { KeepsHeaps (the_number self.old key.0 ∷ []) (the_number self.old key.0 ∷ []) self.old self.new }
-        ensures stands { ¬ (ReachedIn (view self.old.heap) (native (the_number self.old key.0))) → StillStands self.old.heap self.new.heap }
+        ensures stands { AreApart self.old.heap (the_number self.old key.0 ∷ []) → StillStands self.old.heap self.new.heap }
     {
         self.counted.unlink(key, out);
     }

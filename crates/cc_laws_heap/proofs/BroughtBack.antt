@@ -57,7 +57,7 @@ usable-native h (name.Native k) e = go (native_at h k.0) refl e
 usable-native h (name.Script k) e = absurd (false≢true e)
 usable-native h (name.Reflector k) e = absurd (false≢true e)
 
--- it is given
+-- what is usable is given
 pub usable-given : (h : Heap) (g : Graph) (x : Name) → is_usable h x ≡ true → Given h g x
 usable-given h g x e = let f = usable-native h x e in subst (Given h g) f.3 (living-given h g f.0 f.1 f.2)
 
@@ -88,7 +88,7 @@ given-made h g (Some (name.Native k)) s u =
 given-made h g (Some (name.Script k)) s u = absurd (false≢true u.0)
 given-made h g (Some (name.Reflector k)) s u = absurd (false≢true u.0)
 
--- and is there
+-- a native that is given is there
 given-there : (h : Heap) (g : Graph) (x : Option Name) → IsWellFormed h → StandsFor h g → IsGivenNative h g x → IsIn (native_names h) x
 given-there h g None w s u = λ y i. absurd i
 given-there h g (Some (name.Native k)) w s u = λ y i. ⊎_elim
@@ -100,13 +100,13 @@ given-there h g (Some (name.Reflector k)) w s u = absurd (false≢true u.0)
 
 -- A register holds it
 
--- THE HEAPS ARE SOUND where a native register holds a native that is there from then on, or nothing,
+-- THE HEAPS ARE SOUND where a native register holds a native that is there from then on, or nothing.
 pub hold-sound : {owned : List ℕ} (h : Heap) (d : ℕ) (x : Option Name) → IsSound owned h → d < length h.native_registers → IsIn (native_names h) x →
     IsSound owned (hold_native h d x).heap
 unfolding done_in
 hold-sound h d x s place there = done_in-sound h (native_held d x) s (place, there)
 
--- and their colours stay.
+-- THE COLOUR INVARIANT STAYS where a native register holds a native that is there from then on, or nothing.
 pub hold-invariant : {owned : List ℕ} (h : Heap) (d : ℕ) (x : Option Name) → IsSound owned h → HasColourInvariant (view h) → d < length h.native_registers → IsIn (native_names h) x →
     HasColourInvariant (view (hold_native h d x).heap)
 unfolding done_in
@@ -115,11 +115,11 @@ hold-invariant h d x s c place there = HasColourInvariant-from (hold_native h d 
 
 module _ {owned : List ℕ} (h : Heap) (g : Graph) (d : ℕ) (x : Option Name) (s : IsSound owned h) (m : IsWellMade g) (t : StandsFor h g)
     (place : d < length h.native_registers) (u : IsGivenNative h g x) where
-  -- the graph is well made
+  -- the graph is well made then
   pub hold-well : IsWellMade (set_register g (N d) x)
   hold-well = IsWellMade-native_register g d x m (given-made h g x t u)
 
-  -- they are sound
+  -- the heaps are well formed then
   formed : IsWellFormed (hold_native h d x).heap
   formed = (hold-sound h d x s place (given-there h g x s.well_formed t u)).well_formed
 

@@ -224,7 +224,7 @@ empty-unreached limits _ (edge x y d i) = empty-unreached limits x d
 empty-unreached limits _ (value e i a b) = i
 empty-unreached limits _ (key e d i q a b) = i
 
--- nor is anything given
+-- nothing is given by the empty heaps and the empty graph
 empty-ungiven : (limits : Allowance) (x : Name) → Given (empty_heap limits) (empty_graph limits) x → ⊥
 empty-ungiven limits x d = empty-unreached limits x (given_from-reached (empty_graph limits) x
     (given_from-grows (empty_graph limits) (roots_of (empty_graph limits) ++ []) (roots_of (empty_graph limits))

@@ -25,7 +25,7 @@ pub use Rattle.cc_laws_heap.proofs.Freed.{TakesOut}
 pub use Rattle.cc_laws_heap.proofs.FreedNames.{FreesNames-left}
 pub use Rattle.cc_laws_heap.proofs.Given.{Reached-given, living-given, living-named, named-living}
 pub use Rattle.cc_laws_heap.proofs.GiveUp.{IsBalanced-give_up_each, living-one, lower_native}
-pub use Rattle.cc_laws_heap.proofs.GraphCommands.{KeepsReflector-slot, proxy-well, step-well}
+pub use Rattle.cc_laws_heap.proofs.GraphCommands.{KeepsReflector-slot, proxy-well, step-well, step_with-well}
 pub use Rattle.cc_laws_heap.proofs.GraphLeads.{graph-within}
 pub use Rattle.cc_laws_heap.proofs.GraphParts.{Grows, IsMadeEntry-grows, IsWellMade-entries, is_some-found, with_natives}
 pub use Rattle.cc_laws_heap.proofs.GraphReads.{Made, MadeNative, MadeScript, native_register-made}
@@ -56,7 +56,7 @@ pub use Rattle.cc_laws_heap.proofs.NativesKeepScripts.{SameScripts, SameScripts-
 pub use Rattle.cc_laws_heap.proofs.Numbered.{change_numbered, numbered-change, numbered-change_other, numbered-next, numbered-push, numbered-push_old}
 pub use Rattle.cc_laws_heap.proofs.Owning.{IsCounted-add_ref, IsIn, add_ref-sound, let_go-sound, take_up-sound, times-numbers_of}
 pub use Rattle.cc_laws_heap.proofs.ReachedAlike.{given-in, given-there, in-given, in-reached, reached-in, reached-there}
-pub use Rattle.cc_laws_heap.proofs.ReachedReads.{native_of-reached, script-behind}
+pub use Rattle.cc_laws_heap.proofs.ReachedReads.{HasBehind, native_of-reached, script-behind}
 pub use Rattle.cc_laws_heap.proofs.References.{native-there, refs_to-removed, refs_to-slot, refs_to-there, times-among, times-append, times-cons, times-cons_other, times-cons_same, times-natives_in, times-some}
 pub use Rattle.cc_laws_heap.proofs.RepliesAlike.{delegate-stands, objects-stand, refusal_of-alike, reply_if_taken-alike}
 pub use Rattle.cc_laws_heap.proofs.Rising.{IsRising-filter, IsRising-once}

@@ -92,11 +92,11 @@ given_from-within P g xs c starts _ (given_edge x y d i) = go (given_from-within
 given_from-within P g xs c starts _ (given_value e i a b) = c.entries e i (given_from-within P g xs c starts e.the_map a) (given_from-within P g xs c starts e.key b)
 given_from-within P g xs c starts _ (given_key e d i q a b) = c.keys e d i q (given_from-within P g xs c starts e.the_map a) (given_from-within P g xs c starts d b)
 
--- it holds of what the registers have
+-- `P` holds of what the registers have, where it is closed
 pub roots-within : (P : Name → Type 0) (g : Graph) → IsClosed P g → (x : Name) → Among x (roots_of g) → P x
 roots-within P g c x m = ⊎_elim (c.native_registers x) (c.script_registers x) (Among-append x (contents g.native_registers) (contents g.script_registers) m)
 
--- so it holds of what is given
+-- `P` holds of what is given, where the heaps follow the graph over it
 pub given-within : (P : Name → Type 0) (h : Heap) (g : Graph) → Follows P h g → (x : Name) → Given h g x → P x
 given-within P h g f = given_from-within P g (roots_of g ++ living_names h) f.closed
     (λ x m. ⊎_elim

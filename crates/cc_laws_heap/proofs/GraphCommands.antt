@@ -1,17 +1,21 @@
 -- EACH COMMAND LEAVES A GRAPH WELL MADE: what it puts into a register, a slot or an entry was made.
-use Rattle.std.proofs.Common.{◌≡◌, ℕ, ◌+◌, ◌<◌, true, not, [], ◌∷◌, ◌++◌, length, set, Option, Some, None, is_none, is_some, option_map, refl, sym, subst, ⊎_elim, arith}
+use Rattle.std.proofs.Common.{◌≡◌, ℕ, ◌+◌, ◌<◌, Bool, true, false, not, List, [], ◌∷◌, ◌++◌, length, set, Option, Some, None, is_none, is_some, option_map, slice_index_or, refl, sym, subst, ⊎_elim, arith}
 use Rattle.std.specs.Prelude.{IsTrue}
+use Rattle.std.specs.Option.{option_and_then}
 use Rattle.std.proofs.lemmas.Bool.{false≢true}
+use Rattle.cc_lists.specs.Members.{has}
 use Rattle.cc_lists.proofs.Members.{Among-filtered}
 use Rattle.cc_lists.proofs.Filtering.{count_by-filter-le}
 use Rattle.cc_names.specs.Allowance.{Allowance}
 use Rattle.cc_names.specs.declared.name.Name.{Name}
 use Rattle.cc_names.specs.declared.name.Name.TheVariants as name
 use Rattle.cc_names.specs.declared.register.Reg.TheVariants.{N, S}
-use Rattle.cc_names.specs.Names.{native, object}
+use Rattle.cc_names.specs.Names.{native, object, same_name}
 use Rattle.cc_model.specs.declared.command.Command.{Command}
 use Rattle.cc_model.specs.declared.item.Refusal.{Refusal}
 use Rattle.cc_model.specs.Ranges.{in_range}
+use Rattle.cc_model.specs.Mutating.{Class, reads_weak, class_of}
+use Rattle.cc_model.specs.Lawful.{unless_ended, noted_in, step_of, step_with}
 use Rattle.cc_model.specs.Slots.{Slots, empty_slots}
 use Rattle.cc_model.specs.Entries.{entry, is_entry_of, with_entry, without_entry}
 use Rattle.cc_model.specs.Checks.{slot_at, reflector_of, is_map_in, refusal_of}
@@ -20,7 +24,7 @@ use Rattle.cc_model.specs.Deeds.{Deed, nothing_done, native_made, plain_made, ma
 use Rattle.cc_model.specs.WellMade.{IsWellMade, IsMadeEntry}
 use Rattle.cc_laws_heap.proofs.Taken.{IsTaken, IsTaken-from}
 use Rattle.cc_laws_heap.proofs.MayBeDoneTo.{MayBeDoneTo, may_be_done_to}
-use Rattle.cc_laws_heap.proofs.Holds.{OfSome, OfSome-then}
+use Rattle.cc_laws_heap.proofs.Holds.{OfSome, OfSome-then, contents-at}
 use Rattle.cc_laws_heap.proofs.Numbered.{numbered-nothing, numbered-push, numbered-change}
 use Rattle.cc_laws_heap.proofs.EntryLists.{with_entry-cases, entries_of-set}
 use Rattle.cc_laws_heap.proofs.GraphParts.{ScriptFits, is_some-found, was_made-native, was_made-script, was_made-reflector, reflector-made, Grows, is_made_native-grows, is_made_script-grows, IsMadeEntry-grows, IsWellMade-entries}
@@ -178,6 +182,26 @@ module _ (g : Graph) (w : IsWellMade g) where
       go : (o : Option Refusal) → refusal_of (objects_of g) c ≡ o → IsWellMade (unless_refused o g (changed g c))
       go None e = changed-well c r (IsTaken-from (objects_of g) c e)
       go (Some refusal) e = w
+
+  -- what a weak register gives was made
+  noted-made : (ended : List Name) (n : ℕ) → OfSome (MadeNative g) (noted_in ended g n)
+  noted-made ended n = unless (slice_index_or g.weak_registers n None) (contents-at (MadeNative g) g.weak_registers n w.weak_registers)
+    where
+      one : (x : Name) (b : Bool) → MadeNative g x → OfSome (MadeNative g) (elim b [ true ↦ None | false ↦ Some x ])
+      one x true m = tt
+      one x false m = m
+
+      unless : (o : Option Name) → OfSome (MadeNative g) o → OfSome (MadeNative g) (option_and_then (unless_ended ended) o)
+      unless None m = tt
+      unless (Some x) m = one x (has same_name ended x) m
+
+  -- A STEP BESIDE THE ENDED NAMES leaves it well made, too.
+  pub step_with-well : (ended : List Name) (c : Command) → IsTrue (in_range c) → IsWellMade (step_with ended g c)
+  step_with-well ended c r = of_class (class_of c)
+    where
+      of_class : (k : Class) → IsWellMade (step_of ended g c k)
+      of_class (reads_weak d n) = IsWellMade-native_register g d (noted_in ended g n) w (noted-made ended n)
+      of_class _ = step-well c r
 
 -- The empty graph
 

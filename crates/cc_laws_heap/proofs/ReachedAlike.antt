@@ -64,7 +64,7 @@ module _ (h : Heap) (g : Graph) (w : IsWellFormed h) (m : IsWellMade g) (s : Sta
     led-given : (x : Name) → GivenFrom g xs x → Given h g x
     led-given = given_from-grows g xs (roots_of g ++ living_names h) starts
 
-    -- WHAT GIVEN NAMES LEAD TO in the graph they lead to in the heaps,
+    -- WHAT GIVEN NAMES LEAD TO in the graph they lead to in the heaps.
     pub given_from-in : (x : Name) → GivenFrom g xs x → LedFrom (view h) xs x
     given_from-in _ (given x i) = derive-root xs (view h).edges (rules_of (joints h.entries)) x i
     given_from-in _ (given_edge x y d i) =
@@ -82,7 +82,7 @@ module _ (h : Heap) (g : Graph) (w : IsWellFormed h) (m : IsWellMade g) (s : Sta
         (derive-joint xs (view h).edges (joints h.entries) (joint f.0.the_map d f.0.key) (delegate-joint h.entries f.0 d f.1 (same_delegate e i f.0 f.1 f.3 ∙ q))
         (subst (LedFrom (view h) xs) (sym f.2) (given_from-in e.the_map a)) (given_from-in d b))
 
-    -- and what they lead to in the heaps they lead to in the graph.
+    -- What given names lead to in the heaps they lead to in the graph.
     pub in-given_from : (x : Name) → LedFrom (view h) xs x → GivenFrom g xs x
     in-given_from = derived-by_joints xs (view h).edges (joints h.entries) (GivenFrom g xs) (λ x i. given x i) along jointly
       where
@@ -109,19 +109,19 @@ module _ (h : Heap) (g : Graph) (w : IsWellFormed h) (m : IsWellMade g) (s : Sta
   root-given : (x : Name) → Among x (roots_of g) → Given h g x
   root-given x i = given x (Among-left x (roots_of g) (living_names h) i)
 
-  -- WHAT IS GIVEN is what the registers, and natives of the heaps that were not unlinked, lead to in the heaps,
+  -- WHAT IS GIVEN is what the registers, and natives of the heaps that were not unlinked, lead to in the heaps.
   pub given-in : (x : Name) → Given h g x → LedFrom (view h) ((view h).registers ++ living_names h) x
   given-in x d = subst (λ ys. LedFrom (view h) (ys ++ living_names h) x) (sym roots-same)
       (given_from-in (roots_of g ++ living_names h) (λ y i. given y i) x d)
 
-  -- and there is nothing else.
+  -- What the registers, and natives of the heaps that were not unlinked, lead to in the heaps is given.
   pub in-given : (x : Name) → LedFrom (view h) ((view h).registers ++ living_names h) x → Given h g x
   in-given x d = in-given_from (roots_of g ++ living_names h) (λ y i. given y i) x (subst (λ ys. LedFrom (view h) (ys ++ living_names h) x) roots-same d)
 
-  -- WHAT IS REACHED in the graph is reached there,
+  -- WHAT IS REACHED in the graph is reached in the heaps.
   pub reached-in : (x : Name) → Reached g x → ReachedIn (view h) x
   reached-in x d = subst (λ ys. LedFrom (view h) ys x) (sym roots-same) (given_from-in (roots_of g) root-given x (reached-given_from g (roots_of g) (λ y i. i) x d))
 
-  -- and what is reached there is reached in the graph.
+  -- What is reached in the heaps is reached in the graph.
   pub in-reached : (x : Name) → ReachedIn (view h) x → Reached g x
   in-reached x d = given_from-reached g x (in-given_from (roots_of g) root-given x (subst (λ ys. LedFrom (view h) ys x) roots-same d))

@@ -40,7 +40,7 @@ uncounted-name m n e = ap (λ (u : HeapNative). native u.number) e
 uncounted-shape : (m n : HeapNative) → uncounted m ≡ uncounted n → shape_of_held_native m ≡ shape_of_held_native n
 uncounted-shape m n e = grind arith
 
--- both were unlinked, or neither
+-- natives that are the same but for their counts were both unlinked, or neither
 pub uncounted-flag : (m n : HeapNative) → uncounted m ≡ uncounted n → m.unlinked ≡ n.unlinked
 uncounted-flag m n e = ap (λ (u : HeapNative). u.unlinked) e
 

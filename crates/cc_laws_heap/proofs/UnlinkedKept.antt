@@ -45,28 +45,28 @@ WasThere h n = (m : HeapNative) × Among m h.natives × (m.number ≡ n.number) 
 abbrev pub KeepUnlinked : Heap → Heap → Type 0
 KeepUnlinked h k = (n : HeapNative) → Among n k.natives → WasThere h n
 
--- heaps whose natives are the same
+-- heaps left as they are keep whether each native was unlinked
 pub KeepUnlinked-refl : (h : Heap) → KeepUnlinked h h
 KeepUnlinked-refl h n i = (n, i, refl, refl)
 
--- one change after another
+-- two changes that keep whether each native was unlinked keep it one after the other
 pub KeepUnlinked-then : (h j k : Heap) → KeepUnlinked h j → KeepUnlinked j k → KeepUnlinked h k
 KeepUnlinked-then h j k a b n i =
     let m = b n i in
     let l = a m.0 m.1 in
     (l.0, l.1, l.2 ∙ m.2, l.3 ∙ m.3)
 
--- what changes in heaps that follow a graph leaves it
+-- a change of shapes keeps whether each native was unlinked
 KeepUnlinked-changes : (f : Change) (h k : Heap) → HeapChanges f h k → KeepUnlinked h k
 KeepUnlinked-changes f h k c n i = let m = c.natives n i in (m.0, m.1, m.2, m.4)
 
--- so do counts
+-- a change of counts keeps whether each native was unlinked
 KeepUnlinked-counts : (h k : Heap) → ((n : HeapNative) → Among n k.natives → IsOf h n) → KeepUnlinked h k
 KeepUnlinked-counts h k of n i =
     let m = of n i in
     (m.0, m.1, ap (λ (u : HeapNative). u.number) m.2, ap (λ (u : HeapNative). u.unlinked) m.2)
 
--- a native changed, but for its number and for this
+-- a change of a native that leaves its number, and whether it was unlinked, keeps that of each
 pub KeepUnlinked-change_native : (h : Heap) (k : ℕ) (f : HeapNative → HeapNative) → KeepsNumber f → ((n : HeapNative) → (f n).unlinked ≡ n.unlinked) → KeepUnlinked h (change_native h k f)
 KeepUnlinked-change_native h k f number same n i =
     let m = Among-map_cases (λ (n : HeapNative). if n.number == k then f n else n) h.natives n i in
@@ -130,12 +130,12 @@ pub hold-unlinked : (h : Heap) (d : ℕ) (x : Option Name) → KeepUnlinked h (h
 unfolding hold_native
 hold-unlinked h d x = KeepUnlinked-then h (take_up h x) (put_in_register (take_up h x) d x).heap (KeepUnlinked-take_up h x) (put-unlinked (take_up h x) d x)
 
--- so does a slot
+-- a slot of a native holds something else
 store-unlinked : (h : Heap) (d i : ℕ) (x : Option Name) → KeepUnlinked h (store_native h d i x).heap
 unfolding store_native
 store-unlinked h d i x = KeepUnlinked-then h (take_up h x) (put_in_slot (take_up h x) d i x).heap (KeepUnlinked-take_up h x) (put_in_slot-unlinked (take_up h x) d i x)
 
--- something goes from slot to slot
+-- what a slot of a native holds goes into another
 move-unlinked : (h : Heap) (d i s j : ℕ) → KeepUnlinked h (move_slot h d i s j).heap
 unfolding move_slot
 move-unlinked h d i s j =
@@ -154,12 +154,12 @@ wrapped-unlinked h (Some (name.Native k)) = go (has_reflector h k.0)
     go false = KeepUnlinked-add_ref (effects.with_script h (reflector k.0) Reflector reflector_slots None) k.0
 wrapped-unlinked h _ = KeepUnlinked-refl h
 
--- a proxy made
+-- a proxy is made
 proxy-unlinked : (h : Heap) (d : ℕ) (x : Option Name) → KeepUnlinked h (effects.make_proxy h d x)
 proxy-unlinked h d None = KeepUnlinked-refl h
 proxy-unlinked h d (Some x) = KeepUnlinked-preserve h (Some x)
 
--- an entry set or taken out
+-- an entry is set or taken out
 entry-unlinked : (h : Heap) (m k v : Option Name) → KeepUnlinked h (effects.set_entry h m k v)
 entry-unlinked h (Some m) (Some k) (Some v) = KeepUnlinked-preserve h (Some k)
 entry-unlinked h (Some m) (Some k) None = KeepUnlinked-refl h
@@ -197,11 +197,11 @@ done_in-unlinked h (weak_written w x) n i = inl (KeepUnlinked-refl h n i)
 
 -- Script collections
 
--- A SWEEP LEAVES IT,
+-- A SWEEP KEEPS whether each native was unlinked.
 pub sweep-unlinked : {owned : List ℕ} (h : Heap) → IsSound owned h → KeepUnlinked h (sweep h).heap
 sweep-unlinked h s = KeepUnlinked-counts h (sweep h).heap (sweep-natives h s)
 
--- and so does a script collection.
+-- A SCRIPT COLLECTION KEEPS whether each native was unlinked.
 pub collect_scripts-unlinked : {owned : List ℕ} (h : Heap) → IsSound owned h → KeepUnlinked h (collect_scripts h).heap
 collect_scripts-unlinked h s = collecting-keeps (λ o. KeepUnlinked h o.heap)
     (λ o c a. KeepUnlinked-then h o.heap (sweep (marked o.heap)).heap a (KeepUnlinked-counts o.heap (sweep (marked o.heap)).heap (round-natives o.heap c)))
@@ -209,10 +209,11 @@ collect_scripts-unlinked h s = collecting-keeps (λ o. KeepUnlinked h o.heap)
 
 -- Units of a collection
 
--- a begin and an abandonment leave natives
+-- the begin of a collection empties the buffer, and keeps whether each native was unlinked
 pub empty_buffer-unlinked : (h : Heap) → KeepUnlinked h (with_empty_buffer h)
 empty_buffer-unlinked h = KeepUnlinked-refl h
 
+-- candidates given back leave the natives as they are
 give_back-natives : (ks : List ℕ) (h : Heap) → (give_back ks h).natives ≡ h.natives
 give_back-natives [] h = refl
 give_back-natives (k ∷ ks) h = go (λ g. give_back-natives ks g) (is_some (native_at h k))
@@ -221,10 +222,11 @@ give_back-natives (k ∷ ks) h = go (λ g. give_back-natives ks g) (is_some (nat
     go ih true = ih (suspect h k)
     go ih false = ih h
 
+-- an abandonment keeps whether each native was unlinked
 pub give_back-unlinked : (ks : List ℕ) (h : Heap) → KeepUnlinked h (give_back ks h)
 give_back-unlinked ks h n i = KeepUnlinked-refl h n (subst (Among n) (give_back-natives ks h) i)
 
--- THE END OF A COLLECTION unlinks the natives that it takes, and leaves it of the others.
+-- THE END OF A COLLECTION unlinks the natives that it takes; each other native is unlinked or not as it was.
 pub take_away-unlinked : (h : Heap) (ks : List ℕ) → IsSound [] h → ((k : ℕ) → Among k ks → Among (native k) (native_names h)) → (n : HeapNative) → Among n (take_away ks h).heap.natives →
     (Among n.number ks × (n.unlinked ≡ true)) ⊎ ((¬ (Among n.number ks)) × WasThere h n)
 take_away-unlinked h ks s there n i =
@@ -247,7 +249,7 @@ unlinked-kept h k j m n d keep made e f = ⊎_elim
     (λ new. absurd (omega (arith, made, new.0, native_at-number k j n f)))
     (keep n (native_at-there k j n f))
 
--- What was found nowhere before was made.
+-- A native found at a number that had been made before was there, unlinked or not as it is.
 pub found-before : (h k : Heap) (j : ℕ) (n : HeapNative) → HasDistinctNumbers h → ((p : HeapNative) → Among p k.natives → WasThereOrMade h p) → j ≤ h.natives_made →
     native_at k j ≡ Some n → (m : HeapNative) × (native_at h j ≡ Some m) × (m.unlinked ≡ n.unlinked)
 found-before h k j n d keep made f = ⊎_elim
@@ -263,7 +265,7 @@ usable-found o p m n e f u = grind arith
 usable-none : (o p : Option HeapNative) → o ≡ None → is_usable_native o || false ≡ (is_usable_native p || false) && is_some o
 usable-none o p e = grind arith
 
--- SO A NATIVE IS USABLE where it was, and is there still.
+-- A NATIVE IS USABLE where it was, and is there still.
 pub usable-kept : (h k : Heap) (j : ℕ) → HasDistinctNumbers h → ((p : HeapNative) → Among p k.natives → WasThereOrMade h p) → j ≤ h.natives_made →
     is_usable k (native j) ≡ (is_usable h (native j) && is_some (native_at k j))
 usable-kept h k j d keep made = go (native_at k j) refl

@@ -1,5 +1,5 @@
 //! Laws of the graph: heaps that stand for one answer as it does, and go on standing for it.
-ghost use Rattle.std.specs.Prelude.{◌≡◌, ◌↔◌, ◌<◌, ℕ, IsTrue, [], length, Option, None};
+ghost use Rattle.std.specs.Prelude.{◌≡◌, ◌↔◌, ◌<◌, ℕ, IsTrue, List, [], length, Option, None};
 ghost use Rattle.cc_lists.specs.Members.{Among};
 ghost use Rattle.cc_names.specs.Allowance.{Allowance};
 ghost use Rattle.cc_names.specs.declared.name.Name.{Name};
@@ -10,6 +10,7 @@ ghost use Rattle.cc_model.specs.Ranges.{in_range};
 ghost use Rattle.cc_model.specs.Checks.{refusal_of, reply_if_taken};
 ghost use Rattle.cc_model.specs.Graph as graph;
 ghost use Rattle.cc_model.specs.Graph.{Graph, empty_graph, set_register, step};
+ghost use Rattle.cc_model.specs.Lawful.{step_with};
 ghost use Rattle.cc_model.specs.WellMade.{IsWellMade};
 ghost use Rattle.cc_model.specs.Reached.{Reached};
 ghost use Rattle.cc_model.specs.Given.{Given, is_usable, MayComeBack};
@@ -30,10 +31,12 @@ pub fn replies_agree()
         reply_if_taken (heap.objects_of h) c ≡ reply_if_taken (graph.objects_of g) c }
 {}
 
-/// A graph that commands made is well made: every name that it mentions was made.
+/// A graph that commands made is well made: every name that it mentions was made. This does not hang on the names that have
+/// ended, by which a weak register gives what it notes, or nothing.
 pub fn graphs_are_well_made()
     ensures start { (limits : Allowance) → IsWellMade (empty_graph limits) }
     ensures step { (g : Graph) (c : Command) → IsWellMade g → IsTrue (in_range c) → IsWellMade (step g c) }
+    ensures beside_ended { (ended : List Name) (g : Graph) (c : Command) → IsWellMade g → IsTrue (in_range c) → IsWellMade (step_with ended g c) }
 {}
 
 /// Where the heaps stand for a graph, an object of the heaps is reached in the graph exactly where it is

@@ -25,7 +25,7 @@ use Rattle.cc_laws_snapshot.proofs.NativesHeld.{hold_native-gentle, store_native
 use Rattle.cc_laws_snapshot.proofs.MovesGentle.{move_slot-gentle}
 
 -- WHAT IS DONE IS GENTLE.
-done_in-gentle : {owned : List ℕ} (h : Heap) (d : Deed) → IsSound owned h → IsColoured h → MayBeDone h d → AreGentle h (done_in h d).heap
+pub done_in-gentle : {owned : List ℕ} (h : Heap) (d : Deed) → IsSound owned h → IsColoured h → MayBeDone h d → AreGentle h (done_in h d).heap
 unfolding done_in
 done_in-gentle h nothing_done s c m = AreGentle-refl h
 done_in-gentle {owned} h (native_made d n) s c m = make_native-gentle owned h d n m.register m.few m.room s

@@ -2,7 +2,7 @@
 pub use Rattle.cc_laws_snapshot.proofs.Beginning.{begun-fresh, node-cases}
 pub use Rattle.cc_laws_snapshot.proofs.BufferMarks.{marked-buffer, suspect-keeps_purple, suspect-purple}
 pub use Rattle.cc_laws_snapshot.proofs.CascadesGentle.{let_go-caught, let_go-gentle}
-pub use Rattle.cc_laws_snapshot.proofs.CommandsGentle.{done_in-fresh, effects-fresh}
+pub use Rattle.cc_laws_snapshot.proofs.CommandsGentle.{done_in-fresh, done_in-gentle, effects-fresh}
 pub use Rattle.cc_laws_snapshot.proofs.CommandsLoyal.{done_in-loyal, stored-loyal}
 pub use Rattle.cc_laws_snapshot.proofs.CommandsSuspected.{effects-suspected}
 pub use Rattle.cc_laws_snapshot.proofs.EndSuspected.{end-suspected}

@@ -72,7 +72,7 @@ fresh-more made v buffer purple more = fresh-by made made v (with_buffer buffer 
     more (λ u c m l. absurd l) (λ u c m i. more u i))
     (record { black = λ x m. m; white = refl; held = λ x m i. inl m })
 
--- So while more natives wait: who waits no more stands in the buffer.
+-- A snapshot that is fresh stays so while other natives wait, where who waits no more stands in the buffer.
 pub buffered_wait-fresh : (h : Heap) (s : Snapshot) (ks js : List ℕ) → ((k : ℕ) → Among k ks → Among k js ⊎ Among (native k) (view h).buffer) →
     IsFreshCounting ks h s → IsFreshCounting js h s
 buffered_wait-fresh h s ks js more = fresh-more h.natives_made (counting ks (view h)) (counting js (view h)).buffer (counting js (view h)).purple
@@ -85,7 +85,7 @@ buffered_wait-fresh h s ks js more = fresh-more h.natives_made (counting ks (vie
     (more f.0 f.1)))
     (Among-append u (view h).buffer (map native ks) m)) s
 
--- Where all that waited wait, none needs to stand there.
+-- A snapshot that is fresh stays so while more natives wait.
 pub more_wait-fresh : (h : Heap) (s : Snapshot) (ks js : List ℕ) → ((k : ℕ) → Among k ks → Among k js) → IsFreshCounting ks h s → IsFreshCounting js h s
 more_wait-fresh h s ks js more = buffered_wait-fresh h s ks js (λ k m. inl (more k m))
 

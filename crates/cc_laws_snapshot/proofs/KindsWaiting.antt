@@ -66,7 +66,7 @@ waiting-suspected h g candidates js early early_purple w named edge held marked 
 
 -- Who waits
 
--- More may wait: who waits no more is reached.
+-- Natives stay suspected while others wait, where who waits no more is reached.
 pub reached_wait-suspected : (h : Heap) (candidates ks js : List ℕ) → IsWellFormed h → ((k : ℕ) → Among k ks → Among k js ⊎ ReachedIn (view h) (native k)) →
     IsSuspectedCounting ks h candidates → IsSuspectedCounting js h candidates
 reached_wait-suspected h candidates ks js w more =
@@ -172,7 +172,7 @@ slot_written_waiting-suspected h candidates n k i x others w found =
         waits-marked js g j (Among-right j (numbers_of old) others (subst (λ l. Among l others) (ap number_of f.2) f.1)))
         (Among-append (native j) (view h).purple (map native others) m)
 
--- And while nothing else waits.
+-- A slot of a native is written, and nothing else waits: what it held waits.
 pub slot_written-suspected : (h : Heap) (candidates : List ℕ) (n : HeapNative) (k i : ℕ) (x : Option Name) → IsWellFormed h → native_at h k ≡ Some n →
     IsSuspectedIn h candidates → IsSuspectedCounting (numbers_of (slice_index_or n.slots i None)) (change_native h k (with_native_slot i x)) candidates
 slot_written-suspected h candidates n k i x w found s =

@@ -114,7 +114,7 @@ slot_written_waiting-fresh h s n k i x others w found room taken pale = fresh-by
         let held : Among (native f.0.number) (option_to_list old) = subst (λ v. Among v (option_to_list old)) (sym f.2) l in
         (f.0.number, f.2, Among-flat_map natives_in (native f.0.number) f.0.number (option_to_list old) held (inl refl))
 
--- And while nothing else waits.
+-- A slot of a native is written, and nothing else waits: what it held waits.
 pub slot_written-fresh : (h : Heap) (s : Snapshot) (n : HeapNative) (k i : ℕ) (x : Option Name) → IsWellFormed h → native_at h k ≡ Some n →
     i < length n.slots → IsInBuffer (view h) x → IsNotGrayIn (view h) x →
     IsFreshIn h s → IsFreshCounting (numbers_of (slice_index_or n.slots i None)) (change_native h k (with_native_slot i x)) s

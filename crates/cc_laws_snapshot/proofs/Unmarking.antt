@@ -100,7 +100,7 @@ without_mark-number k b = go (b.number == k)
     go true = refl
     go false = refl
 
--- it loses its mark alone
+-- native k alone loses its mark
 without_mark-cases : (k : ℕ) (b : Buffered) → (b.number ≡ k) ⊎ ((without_mark k b).purple ≡ b.purple)
 without_mark-cases k b = go (b.number == k) refl
   where
@@ -149,7 +149,7 @@ skippable-decided h x = closure-decides same_name same_name-exact (skip_rules h)
 
 -- The suspects forgotten
 
--- a native keeps its number
+-- a native without its mark, where it is among some names, keeps its number
 unmarked_among-number : (names : List Name) (b : Buffered) → (unmarked_among names b).number ≡ b.number
 unmarked_among-number names b = go (b.purple && has same_name names (buffered b))
   where
@@ -157,7 +157,7 @@ unmarked_among-number names b = go (b.purple && has same_name names (buffered b)
     go true = refl
     go false = refl
 
--- it loses its mark where it is named,
+-- a purple native keeps its mark, or it is among the names
 unmarked_among-either : (names : List Name) (b : Buffered) → b.purple ≡ true →
     ((unmarked_among names b).purple ≡ true) ⊎ (has same_name names (buffered b) ≡ true)
 unmarked_among-either names b p = go (has same_name names (buffered b)) refl
@@ -166,7 +166,7 @@ unmarked_among-either names b p = go (has same_name names (buffered b)) refl
     go true e = inr refl
     go false e = inl (rw p refl)
 
--- and nowhere else.
+-- a native that is purple afterwards was so, and is not among the names
 unmarked_among-kept : (names : List Name) (b : Buffered) → (unmarked_among names b).purple ≡ true →
     (b.purple ≡ true) × (¬ (has same_name names (buffered b) ≡ true))
 unmarked_among-kept names b p = go b.purple (has same_name names (buffered b)) refl refl p

@@ -1,1 +1,1 @@
-mod Noting
+pub mod Noting

@@ -15,7 +15,7 @@ use Rattle.cc_names.specs.declared.number.NKey.{NKey}
 use Rattle.cc_names.specs.Names.{native}
 use Rattle.cc_model.specs.Slots.{Slots, empty_slots}
 use Rattle.cc_model.specs.Heap.{Heap, HeapNative, native_at}
-use Rattle.cc_model.specs.Run.{is_usable}
+use Rattle.cc_model.specs.Given.{is_usable}
 use Rattle.cc_model.specs.WellFormed.{native_names}
 use Rattle.cc_counted.specs.Counts.{heap_of, unlinked_at, unlinked_of}
 use Rattle.cc_heaps.specs.Keyed.{Keyed, IsInOrder, counts_of, number_at}

@@ -7,7 +7,7 @@ use Rattle.cc_names.specs.declared.number.NativeNo.{NativeNo}
 use Rattle.cc_names.specs.Names.{native}
 use Rattle.cc_model.specs.Slots.{Slots}
 use Rattle.cc_model.specs.Heap.{Heap}
-use Rattle.cc_model.specs.Run.{is_usable}
+use Rattle.cc_model.specs.Given.{is_usable}
 use Rattle.cc_model.specs.WellFormed.{native_names}
 use Rattle.cc_counted.specs.Counts.{unlinked_of}
 use Rattle.cc_heaps.specs.Keyed.{Keyed, counts_of, number_at}

@@ -13,7 +13,7 @@ ghost use Rattle.cc_laws_heap.specs.Sound.{numbers_of};
 ghost use Rattle.cc_counted.specs.Counts.{key_left, slots_of};
 ghost use Rattle.cc_heaps.specs.Keyed.{IsInOrder, counts_of, number_at, the_number, changed_to, left_with};
 ghost use Rattle.cc_heaps.specs.Changes.{IsNativeThere, IsThere, KeepsKeys, held_name, moved_in, native_name, slot_held, stored_in, taken_from, IsBlackHeld};
-ghost use Rattle.cc_heaps.specs.Standing.{IsReached, StandsAfter};
+ghost use Rattle.cc_heaps.specs.Standing.{IsReached, MayBeHeld, StandsAfter};
 ghost use Rattle.cc_heaps.specs.Few.{AreOwnedOnce};
 ghost use Rattle.cc_heaps.specs.Marks.{KeepsMarks};
 ghost use Rattle.cc_heaps.specs.Keeping.{KeepsAll, KeepsAllIf, KeepsAllIfReached};
@@ -112,7 +112,8 @@ impl Heaps {
     /// Register `r` holds a native from then on, or nothing.
     ///
     /// The new reference is taken first, then the register is written, then what it held is given up with all that it
-    /// deletes. Takes no memory.
+    /// deletes. Takes no memory. The heaps stand for the graph with the register written where what comes in is reached, or was
+    /// not unlinked: then it is whole, whether something reaches it or not.
     pub fn set_native_reg<N: Notices>(&mut self, r: RegNo, content: Option<NKey>, out: &mut N)
         requires within { r < length self.old.heap.native_registers }
         requires order { (owned : List ℕ) × IsInOrder owned self.old × AreOwnedOnce owned }
@@ -122,7 +123,7 @@ impl Heaps {
             (hold_native self.old.heap r (native_name self.old content)).events }
         ensures tells { TellsWhatIsFreed self.old.heap self.new.heap (N.telling out.old) (N.telling out.new) }
         ensures kept { KeepsAll self.old self.new }
-        ensures stands { IsReached self.old.heap (native_name self.old content) →
+        ensures stands { MayBeHeld self.old.heap (native_name self.old content) →
             StandsAfter self.old.heap self.new.heap (λ g. graph.set_register g (n_register r) (native_name self.old content)) }
     {
         self.take_up(Held::of_native(content));

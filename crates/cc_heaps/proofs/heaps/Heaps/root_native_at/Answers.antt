@@ -13,6 +13,7 @@ use Rattle.cc_heaps.specs.Standing.{IsReached, StandsAfter}
 use Rattle.cc_heaps.proofs.Kept.{KeepsAll-same}
 use Rattle.cc_heaps.proofs.Leaving.{nothing-told}
 use Rattle.cc_heaps.proofs.Lengthened.{has-place, kept-longer, order-longer, reached-longer, stands-longer, tells-longer}
+use Rattle.cc_heaps.proofs.StandingAfter.{reached-may_be_held}
 use Rattle.cc_heaps.proofs.heaps.Heaps.root_native_at.Goals as goal
 
 -- a bank may be as long
@@ -63,8 +64,8 @@ returns-clause-stands g c = λ reached.
     let same : native_name mid c.args.content ≡ native_name v c.args.content = ap (λ (u : Keyed). native_name u c.args.content) is in
     stands-longer v mid w of_natives (c.args.place + 1) room is c.requires.order.1.sound.well_formed (λ e. graph.set_register e (N c.args.place) (native_name v c.args.content))
     (subst (λ x. StandsAfter mid.heap w.heap (λ e. graph.set_register e (N c.args.place) x)) same
-    (c.set_native_reg.ensures.stands (subst (IsReached mid.heap) (sym same)
-    (reached-longer v mid w of_natives (c.args.place + 1) room is (native_name v c.args.content) reached))))
+    (c.set_native_reg.ensures.stands (reached-may_be_held mid.heap (native_name mid c.args.content) (subst (IsReached mid.heap) (sym same)
+    (reached-longer v mid w of_natives (c.args.place + 1) room is (native_name v c.args.content) reached)))))
 
 -- no memory: the heaps are as they were
 

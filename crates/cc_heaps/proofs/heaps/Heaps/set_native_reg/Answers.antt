@@ -84,7 +84,7 @@ returns-clause-kept g c = record {
 pub returns-clause-stands : goal.returns-clause-stands
 returns-clause-stands g c =
     let f = c.requires.order in
-    native_register-stands c.args.self.now c.put_in_register.new.self f.1 ((returns-clause-kept g c).order f.0 f.1) c.args.r c.args.content (returns-clause-heap g c)
+    native_register-stands c.args.self.now c.put_in_register.new.self f.1 ((returns-clause-kept g c).order f.0 f.1) c.args.r c.args.content c.requires.within (returns-clause-heap g c)
 
 pub returns-clause-tells : goal.returns-clause-tells
 returns-clause-tells g c =
