@@ -115,6 +115,22 @@ def live_chain(size):
     return Shape(build, ["collect"], 0, 0)
 
 
+def suspects_forgotten(size):
+    """The live chain, whose natives are suspects: they are forgotten, each with its mark taken, and the collection behind that has
+    no candidate."""
+    build, _ = chain(size)
+    return Shape(["version 2"] + build, ["forget", "collect"], 0, 0)
+
+
+def script_chain_walked(size):
+    """A chain of script objects whose last a register holds: suspects are forgotten, of which there is none, so the time is that of
+    the walk over script objects."""
+    lines = ["script s1 1"]
+    for _ in range(1, size):
+        lines += ["script s2 1", "put s2 0 s1", "copy s1 s2"]
+    return Shape(["version 2"] + lines + ["drop s2"], ["forget"], 0, 0, times=8)
+
+
 def script_ring(size):
     """One ring of script objects, which nothing holds: one script collection sweeps it."""
     lines = ["script s0 1", "copy s1 s0"]
@@ -264,6 +280,8 @@ SHAPES = [
     ("chain from a cycle, collected", chain_from_pair),
     ("live chain, traversed", live_chain),
     ("live chain, a unit at a time", live_chain_in_slices),
+    ("live chain, its suspects forgotten", suspects_forgotten),
+    ("chain of script objects, walked to forget", script_chain_walked),
     ("ring of script objects, swept", script_ring),
     ("ring through reflectors, collected and swept", reflector_ring),
     ("chain of entries, marked", entry_chain),

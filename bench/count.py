@@ -8,7 +8,7 @@ Build the program first (it stays as crates/ccreplay/out/ccreplay), and then nam
     bench/count.py [SIZE ..]
 
 CCREPLAY names another program. FUNCTIONS=1 also prints what each function took, where it is one instruction an object or
-more. ALL=1 counts every shape of bench.py, and not these four. LIVE are the numbers of natives beside which a slice is
+more. ALL=1 counts every shape of bench.py, and not these six. LIVE are the numbers of natives beside which a slice is
 counted (1000,10000,100000 if left out; none where empty).
 
 A row has the instructions of a script's second part, for each object: those of the whole script less those of its first
@@ -23,10 +23,15 @@ import subprocess
 import sys
 import tempfile
 
-from bench import PROGRAM, SHAPES as EVERY_SHAPE, chain, live_chain, mapping_chain, mapping_chain_backwards, ring
+from bench import (
+    PROGRAM, SHAPES as EVERY_SHAPE, chain, live_chain, mapping_chain, mapping_chain_backwards, ring, script_chain_walked,
+    suspects_forgotten,
+)
 
 SHAPES = [
     ("a chain of natives that lives, collected", live_chain),
+    ("the same, its suspects forgotten before", suspects_forgotten),
+    ("a chain of script objects, walked to forget", script_chain_walked),
     ("a ring, collected", ring),
     ("a chain of entries, scanned", mapping_chain),
     ("the same, set against its order", mapping_chain_backwards),

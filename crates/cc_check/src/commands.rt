@@ -65,7 +65,7 @@ pub(crate) fn leaves_graph(command: Command) -> bool
     ensures { IsTrue result → (g : graph.Graph) → step g command ≡ g }
 {
     match command {
-        Command::Slice(_) | Command::Collect | Command::Gc => true,
+        Command::Forget | Command::Slice(_) | Command::Collect | Command::Gc => true,
         _ => false,
     }
 }

@@ -8,3 +8,4 @@ mod part_1;
 mod part_2;
 mod part_3;
 mod part_4;
+mod part_5;

@@ -59,3 +59,4 @@ pub mod Leaving
 pub mod Moving
 pub mod Lengthened
 pub mod Walking
+pub mod Unmarking

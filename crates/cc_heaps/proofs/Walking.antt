@@ -4,6 +4,8 @@ use Rattle.std.specs.Prelude.{IfNone, IfSome, IsSome, IsTrue, MatchOption}
 use Rattle.std.specs.Option.{is_some}
 use Rattle.std.proofs.lemmas.List.{length-map, map-id}
 use Rattle.cc_lists.specs.Members.{Among}
+use Rattle.cc_lists.proofs.Filtering.{find-passes}
+use Rattle.cc_lists.proofs.Held.{find-renamed}
 use Rattle.cc_lists.proofs.ListWrites.{count_by-kept_map, each-map, map-agree}
 use Rattle.cc_names.specs.declared.kind.Walked.{Walked}
 use Rattle.cc_names.specs.declared.kind.Walked.TheVariants.{Out, Waiting, Given}
@@ -268,3 +270,22 @@ module _ (p : Inside) (l : IsLinked p) where
         kept = w.kept;
         linked = w.linked;
       })
+
+-- HOW ANOTHER STANDS THEN, and the one that was changed
+module _ (objects : List Object) (key : ℕ) (change : Walked → Walked) where
+  -- each script object stands as it did, but for the one at the key
+  pub walked-changed : (q : ℕ) → walked_at (change_object objects key (restated change)) q ≡ option_map (at_key key change) (object_at objects q)
+  walked-changed q =
+      ap (λ os. walked_at os q) (stated-at objects key change)
+      ∙ find-renamed (stated (at_key key change)) (λ (o : Object). o.key == q) (λ (o : Object). o.key == q) (λ (o : Object). o.walked) (at_key key change) (λ o. refl) (λ o. refl) objects
+
+  -- the one at the key, where there is one
+  pub state-changed : IsTrue (is_there objects key) → state_or_out (walked_at (change_object objects key (restated change)) key) ≡ change (state_or_out (walked_at objects key))
+  state-changed there = ap state_or_out (walked-changed key) ∙ go (object_at objects key) refl there
+    where
+      go : (o : Option Object) → object_at objects key ≡ o → IsTrue (is_some o) →
+          state_or_out (option_map (at_key key change) o) ≡ change (state_or_out (option_map (λ (p : Object). p.walked) o))
+      go None e t = absurd (cc)
+      go (Some o) e t =
+          let found : (o.key == key) ≡ true = find-passes (λ (p : Object). p.key == key) objects o e in
+          ap (λ b. if b then change o.walked else o.walked) found

@@ -1,11 +1,13 @@
 //! The heaps: their fields, what registers hold, and what a collection does to natives.
-ghost use Rattle.std.specs.Prelude.{◌≡◌, ◌<◌, ℕ, List, [], ◌∷◌, IsSome, IfOk, MatchOption, replicate, None};
+ghost use Rattle.std.specs.Prelude.{◌≡◌, ◌<◌, ℕ, List, [], ◌∷◌, IsSome, IfOk, MatchOption, replicate, None, Some};
 ghost use Rattle.cc_names.specs.declared.register.Reg.TheVariants.{N as n_register, S as s_register};
+ghost use Rattle.cc_names.specs.Names.{native};
 ghost use Rattle.cc_names.specs.Sizes.{bank_length};
 ghost use Rattle.cc_model.specs.Heap.{empty_heap, register, suspect, buffered_as};
 ghost use Rattle.cc_model.specs.Cascade.{add_ref, cascade};
 ghost use Rattle.cc_model.specs.Colours.{HasColourInvariant};
 ghost use Rattle.cc_model.specs.End.{unlink};
+ghost use Rattle.cc_model.specs.Skipping.{unmarked};
 ghost use Rattle.cc_model.specs.View.{view};
 ghost use Rattle.cc_model.specs.StandsFor.{StandsFor};
 ghost use Rattle.cc_model.specs.Suspected.{IsSuspected};
@@ -14,9 +16,9 @@ ghost use Rattle.cc_model.specs.Graph as graph;
 ghost use Rattle.cc_laws_heap.specs.Apart.{AreApart};
 ghost use Rattle.cc_heaps.specs.Keyed.{IsInOrder, counts_of, number_at, the_number, changed_to, left_with};
 ghost use Rattle.cc_heaps.specs.Changes.{IsNativeThere, IsScriptThere, native_name, script_name};
-ghost use Rattle.cc_heaps.specs.Standing.{StillStands};
+ghost use Rattle.cc_heaps.specs.Standing.{IsReached, StillStands};
 ghost use Rattle.cc_heaps.specs.Few.{IsNotOwned};
-ghost use Rattle.cc_heaps.specs.Keeping.{KeepsAll, KeepsHeaps};
+ghost use Rattle.cc_heaps.specs.Keeping.{KeepsAll, KeepsAllIfReached, KeepsHeaps};
 ghost use Rattle.cc_heaps.specs.Leaving.{TellsWhatIsFreed};
 
 mod census;
@@ -207,5 +209,20 @@ impl Heaps {
         ensures stands { StillStands self.old.heap self.new.heap }
     {
         self.counted.give_back(key);
+    }
+
+    /// A native of the buffer loses the purple mark, and keeps its place; nothing where it is not in the buffer.
+    ///
+    /// No native is forgotten where this one is reached.
+    pub fn unmark(&mut self, key: NKey)
+        requires live { IsSome (number_at self.old key.0) }
+        requires owned { (owned : List ℕ) × IsInOrder owned self.old }
+        ensures heap { self.new ≡ changed_to self.old (unmarked self.old.heap (the_number self.old key.0)) }
+        ensures kept { KeepsAllIfReached (IsReached self.old.heap (Some (native (the_number self.old key.0)))) self.old self.new }
+        ensures stands { StillStands self.old.heap self.new.heap }
+    {
+        if self.counted.in_buffer(key) {
+            self.counted.touch(key);
+        }
     }
 }

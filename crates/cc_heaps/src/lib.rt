@@ -25,7 +25,8 @@
 //! (`KeepsObjects`); `sweep` takes these out.
 //!
 //! Some promises need more of what is handed in. A snapshot stays fresh where what is stored is black
-//! (`KeepsAllIfBlack`). No native is forgotten where the native that is written into is reached (`KeepsAllIfReached`).
+//! (`KeepsAllIfBlack`). No native is forgotten where the native that is written into, or loses its mark, is reached
+//! (`KeepsAllIfReached`).
 //! `stands` asks that what is handed in is reached from the registers (`IsReached`), or reflects what is
 //! (`IsReachedOrReflects`), and of a reflector whose slot is written that it is preserved (`MayHold`). The clause says
 //! so; the call itself does not ask for it, but for `store_script`, which takes a black object alone.

@@ -127,9 +127,9 @@ module _ (h : Heap) where
     preserve-doomed x p = doomed-by h (preserve h x) (λ ds keeps a. leaves-preserve ds h h x (out ds h a x p) (behind-out ds h a w x p) (leaves-refl ds h a))
 
     -- an entry set or taken out
-    pub set_entry-doomed : (m k v : Option Name) → IsReached h k → IsReached h v → KeepsDoomed h (set_entry h m k v)
-    set_entry-doomed m k v p q = doomed-by h (set_entry h m k v) (λ ds keeps a.
-        leaves-set_entry ds h h m k v (out ds h a k p) (behind-out ds h a w k p) (out ds h a v q) (leaves-refl ds h a))
+    pub set_entry-doomed : (m k v : Option Name) → IsReached h m → IsReached h k → IsReached h v → KeepsDoomed h (set_entry h m k v)
+    set_entry-doomed m k v n p q = doomed-by h (set_entry h m k v) (λ ds keeps a.
+        leaves-set_entry ds h h m k v (out ds h a m n) (out ds h a k p) (behind-out ds h a w k p) (out ds h a v q) (leaves-refl ds h a))
 
     -- a native made, a plain object, a weak map
     pub make_native-doomed : (r n : ℕ) → KeepsDoomed h (make_native h r n).heap

@@ -168,7 +168,7 @@ module _ (h : Hosted) (r : RunsIn h.heaps h.running) (memory : List Bool) where
   slice-follows : (ds : List Name) → CannotMiss h ds → (units : ℕ) →
       let d = slice units plain in IsFollowed ds d.events d.progress d.machine
   unfolding do_ask
-  slice-follows ds c units = ask-follows plain (beside c.graph.0) (taken (Slice units)) ds (is-running c.graph) refl c.reflectors c.doomed
+  slice-follows ds c units = ask-follows plain (beside c.graph.0) (taken (Slice units)) ds (is-running c.graph) refl c.reflectors c.doomed refl
 
   -- one that begins
   slice-begins : (units : ℕ) → 0 < units → IsOfAGraph h → TakesGarbage h →
@@ -186,11 +186,11 @@ module _ (h : Hosted) (r : RunsIn h.heaps h.running) (memory : List Bool) where
   finish-stops ds c e = to_the_end-stops plain (sym (ap (λ (d : UnitsDone). d.progress) (finished ds c)) ∙ e)
 
   gc-follows : (ds : List Name) → CannotMiss h ds → let d = finish_running plain in IsFollowed ds d.events d.progress (do_ask plain (taken Gc)).machine
-  gc-follows ds c = ask-follows plain (beside c.graph.0) (taken Gc) ds (is-running c.graph) refl c.reflectors c.doomed
+  gc-follows ds c = ask-follows plain (beside c.graph.0) (taken Gc) ds (is-running c.graph) refl c.reflectors c.doomed refl
 
   collect-follows : (ds : List Name) → CannotMiss h ds → let d = finish_running plain in IsFollowed ds d.events d.progress (do_ask plain (taken Collect)).machine
   collect-follows ds c = subst (λ (d : UnitsDone). IsFollowed ds d.events d.progress (do_ask plain (taken Collect)).machine) (sym (finished ds c))
-      (ask-follows plain (beside c.graph.0) (taken Collect) ds (is-running c.graph) refl c.reflectors c.doomed)
+      (ask-follows plain (beside c.graph.0) (taken Collect) ds (is-running c.graph) refl c.reflectors c.doomed refl)
 
   -- one that begins, brought to its end
   whole-begins : IsOfAGraph h → TakesGarbage h → let d = to_the_end (no_units plain) in IsFollowed (lost h.heaps.heap) d.events d.progress (do_ask plain (taken Collect)).machine

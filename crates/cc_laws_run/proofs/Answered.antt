@@ -12,7 +12,7 @@ use Rattle.cc_model.specs.declared.item.Refusal.{Refusal}
 use Rattle.cc_model.specs.declared.item.Refusal.TheVariants.{NoMemory}
 use Rattle.cc_model.specs.declared.item.Reply.{Reply}
 use Rattle.cc_model.specs.declared.item.Reply.TheVariants.{Refused, Done}
-use Rattle.cc_model.specs.Mutating.{Saying, silence, version, path, census, says, does, class_of, is_deed}
+use Rattle.cc_model.specs.Mutating.{Saying, silence, version, path, census, says, does, class_of, is_deed, is_mutator}
 use Rattle.cc_model.specs.Asks.{taken}
 use Rattle.cc_model.specs.Ranges.{in_range}
 use Rattle.cc_model.specs.Checks.{refusal_of, reply_if_taken, refused_or}
@@ -26,7 +26,7 @@ use Rattle.cc_model.specs.Counts.{times}
 use Rattle.cc_model.specs.Lawful.{State, Explains, AnswersCommand, EachMayBe, is_refused, is_abandoning, is_abandonment, has_none, begins_with_at_most_one, has_abandonment_in_place, runs, runs_allowed, unlinked_numbers, AnswersClass, deed_may_want_memory, class_may_want_memory}
 use Rattle.cc_model.specs.Collecting.{Machine}
 use Rattle.cc_model.specs.Run.{Turn, turn_of, mutate, said, say}
-use Rattle.cc_model.proofs.NoDeeds.{no_deed-reply}
+use Rattle.cc_model.proofs.NoDeeds.{no_deed-replies}
 use Rattle.cc_laws_heap.proofs.Freed.{freed_event}
 use Rattle.cc_laws_heap.proofs.EndingEvents.{TellsOf-freed}
 use Rattle.cc_laws_heap.proofs.NameLists.{same_name-other}
@@ -40,7 +40,7 @@ use Rattle.cc_laws_run.specs.Running.{IsRunning, moves_no_collection, moves_none
 use Rattle.cc_laws_run.proofs.Listing.{AreListed, native-listed, length-census_order}
 use Rattle.cc_laws_run.proofs.NamesAfter.{NamesAfter, made_natives, made_scripts, effects-names}
 use Rattle.cc_laws_run.proofs.ListedAfter.{AreListed-heap, has-listed_reflector, made-not_freed}
-use Rattle.cc_laws_run.proofs.CommandCases.{mutate-cases, taken-not_refused, graph_after-taken, granted-cases}
+use Rattle.cc_laws_run.proofs.CommandCases.{mutate-cases, taken-not_refused, reply_with-deed, graph_after-taken, granted-cases}
 
 -- the heaps refuse what the graph refuses
 pub refusals-agree : (m : Machine) (s : State) (c : Command) → IsRunning m s → refusal_of (graph.objects_of s.graph) c ≡ refusal_of (objects_of m.heap) c
@@ -53,7 +53,7 @@ running-listed m s r = AreListed-heap m.heap s.listed r.sound.well_formed r.list
 -- Events
 
 -- free lines tell no abandonment
-has_none-freed : (ks : List ℕ) → has_none (map freed_event ks) ≡ true
+pub has_none-freed : (ks : List ℕ) → has_none (map freed_event ks) ≡ true
 has_none-freed [] = refl
 has_none-freed (k ∷ ks) = has_none-freed ks
 
@@ -63,16 +63,16 @@ none-first [] e = refl
 none-first (x ∷ events) e = (and_parts (not (is_abandonment x)) (has_none events) e).1
 
 -- where no collection moves, an abandonment is out of place
-abandonment-none : (c : Command) (reply : Reply) (events : List Event) → IsTrue (moves_no_collection (taken c)) → has_none events ≡ true →
+pub abandonment-none : (c : Command) (reply : Reply) (events : List Event) → IsTrue (moves_no_collection (taken c)) → has_none events ≡ true →
     IsTrue (has_abandonment_in_place c reply events)
 abandonment-none c reply events t e = grind (arith, none-first)
 
 -- nothing unlinked makes no run
-rising-none : (c : Command) (events : List Event) → unlinked_numbers events ≡ [] → IsTrue (nat_le (runs (unlinked_numbers events)) (runs_allowed c))
+pub rising-none : (c : Command) (events : List Event) → unlinked_numbers events ≡ [] → IsTrue (nat_le (runs (unlinked_numbers events)) (runs_allowed c))
 rising-none c events e = subst (λ ks. IsTrue (nat_le (runs ks) (runs_allowed c))) (sym e) (le-leb 0 (runs_allowed c) (omega arith))
 
 -- distinct natives that were listed and that nothing reaches may be freed one after another
-each-freed : (g : Graph) (c : Command) (ks : List ℕ) (names : List Name) → ((k : ℕ) → times k ks ≤ 1) → ((k : ℕ) → Among k ks → Among (native k) names) →
+pub each-freed : (g : Graph) (c : Command) (ks : List ℕ) (names : List Name) → ((k : ℕ) → times k ks ≤ 1) → ((k : ℕ) → Among k ks → Among (native k) names) →
     ((k : ℕ) → Among k ks → ¬ (Reached g (native k))) → EachMayBe g names c (map freed_event ks)
 each-freed g c [] names once there unreached = tt
 each-freed g c (k ∷ ks) names once there unreached = (
@@ -92,9 +92,15 @@ each-freed g c (k ∷ ks) names once there unreached = (
 -- Refusals
 
 -- a command that the graph refuses
-refused-answers : (s : State) (c : Command) (refusal : Refusal) → refusal_of (graph.objects_of s.graph) c ≡ Some refusal →
+refused-answers : (s : State) (c : Command) (refusal : Refusal) → class_of c ≡ does → refusal_of (graph.objects_of s.graph) c ≡ Some refusal →
     IsTrue (moves_no_collection (taken c)) → AnswersCommand s c (Refused refusal) []
-refused-answers s c refusal e t = grind (arith, rising-none, abandonment-none)
+refused-answers s c refusal d e t = record {
+  replies = inl (ap (λ o. refused_or o (reply_if_taken (graph.objects_of s.graph) c)) (sym e) ∙ sym (reply_with-deed s.ended s.graph c d));
+  quiet = λ q. refl;
+  each = tt;
+  rising = rising-none c [] refl;
+  abandonment = abandonment-none c (Refused refusal) [] t refl;
+}
 
 -- what takes memory may want it
 deed-may_want : (m : Machine) (s : State) (c : Command) → IsRunning m s → takes_memory m.heap c ≡ true → IsTrue (deed_may_want_memory s c)
@@ -118,13 +124,13 @@ unmet-answers m s c r e f d = record {
 -- Commands done
 
 -- a command that is done
-done-answers : (m : Machine) (s : State) (c : Command) → IsRunning m s → IsTrue (in_range c) → refusal_of (objects_of m.heap) c ≡ None →
+done-answers : (m : Machine) (s : State) (c : Command) → IsRunning m s → IsTrue (in_range c) → refusal_of (objects_of m.heap) c ≡ None → class_of c ≡ does →
     IsTrue (moves_no_collection (taken c)) → AnswersCommand s c (reply_if_taken (objects_of m.heap) c) (effects m.heap c).events
-done-answers m s c r i e t = record {
+done-answers m s c r i e d t = record {
   replies = inl (reply_if_taken-alike (objects_of m.heap) (graph.objects_of s.graph) (objects-stand m.heap s.graph r.stands) c
-      ∙ sym (ap (λ o. refused_or o (reply_if_taken (graph.objects_of s.graph) c)) (refusals-agree m s c r ∙ e)));
+      ∙ (sym (ap (λ o. refused_or o (reply_if_taken (graph.objects_of s.graph) c)) (refusals-agree m s c r ∙ e)) ∙ sym (reply_with-deed s.ended s.graph c d)));
   quiet = λ q. absurd (true≢false (sym (and_parts (is_refused reply) (not (is_abandoning c reply)) q).0 ∙ taken-not_refused (objects_of m.heap) c));
-  each = subst (λ g. EachMayBe g s.listed c (effects m.heap c).events) (sym (graph_after-taken s.graph (objects_of m.heap) c))
+  each = subst (λ g. EachMayBe g s.listed c (effects m.heap c).events) (sym (graph_after-taken s.ended s.graph (objects_of m.heap) c d))
       (subst (λ es. EachMayBe (step s.graph c) s.listed c es) (sym n.told) (each-freed (step s.graph c) c ks s.listed n.once there unreached));
   rising = rising-none c (effects m.heap c).events (ap unlinked_numbers n.told ∙ (TellsOf-freed ks).unlinked_told);
   abandonment = abandonment-none c reply (effects m.heap c).events t (ap has_none n.told ∙ has_none-freed ks);
@@ -155,16 +161,16 @@ done-answers m s c r i e t = record {
 pub mutate-answers : (m : Machine) (s : State) (c : Command) → IsRunning m s → IsTrue (in_range c) → class_of c ≡ does →
     AnswersClass s c (mutate m c).answer does
 mutate-answers m s c r i d = mutate-cases m c (λ (u : Turn). AnswersClass s c u.answer does)
-    (λ refusal e. (refl, refl, refused-answers s c refusal (refusals-agree m s c r ∙ e) (deed-moves c d)))
+    (λ refusal e. (refl, refl, refused-answers s c refusal d (refusals-agree m s c r ∙ e) (deed-moves c d)))
     (λ e f. (refl, refl, unmet-answers m s c r e f d))
-    (λ e memory. (refl, refl, done-answers m s c r i e (deed-moves c d)))
+    (λ e memory. (refl, refl, done-answers m s c r i e d (deed-moves c d)))
 
 -- What is said
 
 -- what is no deed and moves no collection is done, where it is answered as a deed is
-pub said-done : (s : State) (c : Command) → is_deed (class_of c) ≡ false → IsTrue (moves_no_collection (taken c)) → AnswersCommand s c Done []
-said-done s c none t = record {
-  replies = inl (sym (no_deed-reply c none (graph.objects_of s.graph)));
+pub said-done : (s : State) (c : Command) → is_deed (class_of c) ≡ false → is_mutator (class_of c) ≡ false → IsTrue (moves_no_collection (taken c)) → AnswersCommand s c Done []
+said-done s c none plain t = record {
+  replies = inl (sym (no_deed-replies c none plain s.ended s.graph));
   quiet = λ q. refl;
   each = tt;
   rising = rising-none c [] refl;
@@ -180,6 +186,6 @@ path-answers m s x r = granted-cases m true (λ n. turn_of n (said m.heap (path 
 -- WHAT IS SAID is answered lawfully.
 pub say-answers : (m : Machine) (s : State) (c : Command) (q : Saying) → IsRunning m s → class_of c ≡ says q → AnswersClass s c (say m q).answer (says q)
 say-answers m s c silence r e = refl
-say-answers m s c version r e = (refl, refl, said-done s c (ap is_deed e) (ap moves_none e))
+say-answers m s c version r e = (refl, refl, said-done s c (ap is_deed e) (ap is_mutator e) (ap moves_none e))
 say-answers m s c (path x) r e = path-answers m s x r
 say-answers m s c census r e = grind (arith, length-census_order)

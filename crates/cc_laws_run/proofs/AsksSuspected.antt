@@ -17,6 +17,7 @@ use Rattle.cc_laws_run.specs.Running.{IsRunning, ask_in_range}
 use Rattle.cc_laws_snapshot.proofs.CommandsSuspected.{effects-suspected}
 use Rattle.cc_laws_snapshot.proofs.Unmarking.{forgotten-suspected}
 use Rattle.cc_laws_snapshot.proofs.SweepLoses.{collect_scripts-suspected}
+use Rattle.cc_laws_run.proofs.ReadingWeak.{weak-suspected}
 use Rattle.cc_laws_run.proofs.Spoken.{spoken-as}
 use Rattle.cc_laws_run.proofs.CommandCases.{mutate-cases, say-leaves}
 use Rattle.cc_laws_run.proofs.HoldingUnits.{unless_stopped-cases}
@@ -68,7 +69,7 @@ module _ (m : Machine) (s : State) (r : IsRunning m s) (suspected : IsSuspectedN
   class-suspected c i (collects_scripts whole) e = gc-suspected
   class-suspected c i (collects_scripts (so_many n)) e = absurd (spoken-as c i (collects_scripts (so_many n)) e)
   class-suspected c i forgets e = forgotten-suspected m.heap (candidates_now m.snapshot) r.sound.well_formed suspected
-  class-suspected c i (reads_weak d w) e = absurd (spoken-as c i (reads_weak d w) e)
+  class-suspected c i (reads_weak d w) e = weak-suspected m s c d w r i e suspected
 
 -- NO ASK FORGETS AN UNREACHED NATIVE.
 pub ask-suspected : (m : Machine) (s : State) (ask : Ask) → IsRunning m s → IsTrue (ask_in_range ask) → IsSuspectedNow m → IsSuspectedNow (do_ask m ask).machine

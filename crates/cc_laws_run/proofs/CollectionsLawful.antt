@@ -1,23 +1,27 @@
 -- UNITS AND SCRIPT COLLECTIONS are answered lawfully and leave a machine that runs.
 use Rattle.std.specs.Prelude.{IsTrue, nat_le}
-use Rattle.std.proofs.Common.{arith, ◌≡◌, true, false, not, ◌&&◌, List, Some, None, refl, sym, subst, ap, inl}
+use Rattle.std.proofs.Common.{arith, ◌≡◌, true, false, not, ◌&&◌, List, Some, None, refl, sym, ◌∙◌, subst, ap, inl}
 use Rattle.std.proofs.lemmas.Bool.{false≢true, le-leb, or_left}
 use Rattle.cc_names.specs.declared.name.Name.{Name}
 use Rattle.cc_model.specs.declared.command.Command.{Command}
 use Rattle.cc_model.specs.declared.item.Event.{Event}
 use Rattle.cc_model.specs.declared.item.Reply.TheVariants.{Done}
-use Rattle.cc_model.specs.Mutating.{Running, whole, runs as runs_some, collects_scripts, class_of, is_deed, is_units, is_script_collection}
+use Rattle.cc_model.specs.Mutating.{Running, whole, runs as runs_some, collects_scripts, class_of, is_deed, is_mutator, is_units, is_script_collection}
 use Rattle.cc_model.specs.Asks.{taken}
 use Rattle.cc_model.specs.Checks.{refusal_of}
-use Rattle.cc_model.specs.Graph.{Graph, objects_of, step, reply_to}
+use Rattle.cc_model.specs.Graph.{Graph, objects_of}
 use Rattle.cc_model.specs.WellMade.{IsWellMade}
 use Rattle.cc_model.specs.End.{Progress}
 use Rattle.cc_model.specs.Collecting.{Machine, UnitsDone, gc, reply_to_units}
-use Rattle.cc_model.specs.Listed.{after_events}
+use Rattle.cc_model.specs.Listed.{census_order, after_events}
+use Rattle.cc_model.specs.StandsFor.{StandsFor}
 use Rattle.cc_model.specs.Run.{run_units, after_units, after_gc}
-use Rattle.cc_model.specs.Lawful.{State, AnswersClass, class_may_want_memory, runs_in, next, AnswersCommand, RepliesWith, EachMayBe, graph_after, may_want_memory, is_refused, is_abandoning, is_gc, runs_units, runs, runs_allowed, unlinked_numbers, has_abandonment_in_place}
-use Rattle.cc_model.proofs.NoDeeds.{no_deed-allowed, no_deed-reply, no_deed-leaves, no_deed-graph, no_deed-lists}
+use Rattle.cc_model.specs.Lawful.{State, AnswersClass, step_with, reply_with, class_may_want_memory, runs_in, next, AnswersCommand, RepliesWith, EachMayBe, graph_after, may_want_memory, is_refused, is_abandoning, is_gc, runs_units, runs, runs_allowed, unlinked_numbers, has_abandonment_in_place}
+use Rattle.cc_model.proofs.NoDeeds.{no_deed-allowed, no_deed-replies, no_deed-steps, no_deed-graph, no_deed-lists}
 use Rattle.cc_laws_run.specs.Running.{IsRunning}
+use Rattle.cc_laws_run.proofs.BesideUnits.{run_units-beside, gc-beside}
+use Rattle.cc_laws_run.proofs.EndedAfter.{EndedIn}
+use Rattle.cc_laws_run.proofs.EndedUnits.{units-end, gc-end}
 use Rattle.cc_laws_run.proofs.UnitLawful.{RunsOn}
 use Rattle.cc_laws_run.proofs.UnitsLawful.{IsPlaced, IsLawfulRow, units-lawful}
 use Rattle.cc_laws_run.proofs.ScriptsLawful.{GcIsLawful, gc-lawful}
@@ -27,8 +31,19 @@ pub running-on : (m : Machine) (s : State) → IsRunning m s → RunsOn s.graph 
 running-on m s r = record { sound = r.sound; colours = r.colours; fresh = r.fresh; stands = r.stands; listed = r.listed }
 
 -- a machine whose heaps run beside a graph runs beside it
-runs-from : (m : Machine) (s : State) (g : Graph) (names : List Name) → IsWellMade g → RunsOn g names m.heap m.snapshot → s.graph ≡ g → s.listed ≡ names → IsRunning m s
-runs-from m s g names well r graph names_are = grind arith
+runs-from : (m : Machine) (s : State) (g : Graph) (names : List Name) → IsWellMade g → RunsOn g names m.heap m.snapshot → m.weak ≡ g.weak_registers → EndedIn m.heap s.ended →
+    s.graph ≡ g → s.listed ≡ names → IsRunning m s
+runs-from m s g names well r weak ended graph names_are = record {
+  sound = r.sound;
+  colours = r.colours;
+  fresh = r.fresh;
+  well_made = subst IsWellMade (sym graph) well;
+  stands = subst (StandsFor m.heap) (sym graph) r.stands;
+  listed = r.listed ∙ ap census_order (sym names_are);
+  weak = weak ∙ ap (λ (h : Graph). h.weak_registers) (sym graph);
+  ended = ended.agrees;
+  ended_made = ended.made;
+}
 
 -- Units
 
@@ -38,8 +53,8 @@ pub record MovesUnits (s : State) (c : Command) : Type 0 where
   pub no_gc : is_gc c ≡ false
   pub may : IsTrue (may_want_memory s c)
   pub taken : refusal_of (objects_of s.graph) c ≡ None
-  pub reply : Done ≡ reply_to s.graph c
-  pub left : step s.graph c ≡ s.graph
+  pub reply : Done ≡ reply_with s.ended s.graph c
+  pub left : step_with s.ended s.graph c ≡ s.graph
 
 -- commands that run units have it, by their class
 units-move : (s : State) (c : Command) (u : Running) → class_of c ≡ runs_some u → MovesUnits s c
@@ -48,8 +63,8 @@ units-move s c u e = record {
   no_gc = ap is_script_collection e;
   may = ap (class_may_want_memory s c) e;
   taken = no_deed-allowed c none (objects_of s.graph);
-  reply = sym (no_deed-reply c none (objects_of s.graph));
-  left = no_deed-leaves c none s.graph;
+  reply = sym (no_deed-replies c none (ap is_mutator e) s.ended s.graph);
+  left = no_deed-steps c none (ap is_mutator e) s.ended s.graph;
 }
   where
     none : is_deed (class_of c) ≡ false
@@ -57,7 +72,7 @@ units-move s c u e = record {
 
 module _ (s : State) (c : Command) (t : MovesUnits s c) where
   -- the graph stays as it is
-  graph-left : (p : Progress) → graph_after s.graph c (Some (reply_to_units p)) ≡ s.graph
+  graph-left : (p : Progress) → graph_after s.ended s.graph c (Some (reply_to_units p)) ≡ s.graph
   graph-left p = grind arith
 
   -- it is done, or refused memory
@@ -90,6 +105,7 @@ module _ (m : Machine) (s : State) (c : Command) (u : Running) (r : IsRunning m 
   pub units-runs : IsRunning (after_units (run_units m u)).machine (next s (taken c) (after_units (run_units m u)).answer)
   units-runs = runs-from (run_units m u).machine (next s (taken c) (after_units (run_units m u)).answer)
       s.graph (after_events s.listed (run_units m u).events) r.well_made row.still
+      ((run_units-beside u m).weak ∙ r.weak) (units-end s.graph r.well_made s.ended u m s.listed (running-on m s r) (record { agrees = r.ended; made = r.ended_made }))
       (graph-left s c (units-move s c u is) (run_units m u).progress)
       (no_deed-lists c (ap is_deed is) (after_events s.listed (run_units m u).events) (Some (reply_to_units (run_units m u).progress)))
 
@@ -112,9 +128,9 @@ module _ (m : Machine) (s : State) (c : Command) (r : IsRunning m s) (is : class
     refl,
     refl,
     record {
-      replies = inl (sym (no_deed-reply c none (objects_of s.graph)));
+      replies = inl (sym (no_deed-replies c none (ap is_mutator is) s.ended s.graph));
       quiet = λ q. absurd (false≢true q);
-      each = subst (λ g. EachMayBe g s.listed c (gc m).events) (sym (no_deed-leaves c none s.graph)) lawful.each;
+      each = subst (λ g. EachMayBe g s.listed c (gc m).events) (sym (no_deed-steps c none (ap is_mutator is) s.ended s.graph)) lawful.each;
       rising = subst (λ n. IsTrue (nat_le (runs (unlinked_numbers (gc m).events)) n)) (sym (ap runs_in is))
           (le-leb (runs (unlinked_numbers (gc m).events)) 1 lawful.few);
       abandonment = begins-placed;
@@ -124,4 +140,5 @@ module _ (m : Machine) (s : State) (c : Command) (r : IsRunning m s) (is : class
   -- IT LEAVES A MACHINE that runs.
   pub gc-runs : IsRunning (after_gc (gc m)).machine (next s (taken c) (after_gc (gc m)).answer)
   gc-runs = runs-from (gc m).machine (next s (taken c) (after_gc (gc m)).answer) s.graph (after_events s.listed (gc m).events) r.well_made
-      lawful.still (no_deed-graph c none s.graph (Some Done)) (no_deed-lists c none (after_events s.listed (gc m).events) (Some Done))
+      lawful.still ((gc-beside m).weak ∙ r.weak) (gc-end s.graph r.well_made s.ended m s.listed (running-on m s r) (record { agrees = r.ended; made = r.ended_made }))
+      (no_deed-graph c none (ap is_mutator is) s.ended s.graph (Some Done)) (no_deed-lists c none (after_events s.listed (gc m).events) (Some Done))

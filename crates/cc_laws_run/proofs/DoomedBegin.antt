@@ -36,7 +36,7 @@ use Rattle.cc_laws_snapshot.proofs.Edges.{edge-of}
 use Rattle.cc_laws_snapshot.proofs.SoundView.{living-named, there-named, named-there, black-or_gray, script-place, JointThere, joint-there}
 use Rattle.cc_laws_snapshot.proofs.NodeUnit.{gray-tested}
 use Rattle.cc_laws_snapshot.proofs.Beginning.{begun-fresh}
-use Rattle.cc_laws_run.specs.Doomed.{IsMember, IsDoomed, garbage}
+use Rattle.cc_laws_run.specs.Doomed.{IsMappingOf, IsDoomed, garbage}
 use Rattle.cc_laws_snapshot.proofs.KindsLoyal.{reached_cases}
 use Rattle.cc_laws_snapshot.proofs.SweepLoses.{collect_scripts-suspected}
 use Rattle.cc_laws_snapshot.proofs.ReachedStays.{script-edge}
@@ -225,20 +225,24 @@ module _ (h : Heap) (sound : IsSound [] h) (c : HasColours h) (none : unmarked h
   garbage-gray : (x : Name) → Among x (script_names h) → Among x (garbage h) → Among x (view h).gray
   garbage-gray x there b = unreached-gray h sound c none invariant x there (garbage-out h x b)
 
-  -- a mapping with a garbage value has a garbage member
-  garbage-mapper : (m : Mapping) → Among m (mappings_of h) → Among m.value (garbage h) → (p : Name) × IsMember p m × Among p (garbage h)
-  garbage-mapper m i b =
+  -- a mapping with a garbage value is that of a joint, and has its garbage members
+  garbage-mapping : (m : Mapping) → Among m (mappings_of h) → Among m.value (garbage h) →
+      (e : Joint) × Among e (joints h.entries) × IsMappingOf (garbage h) m e
+  garbage-mapping m i b =
       let f = Among-map_cases (mapping_of h) (filter (λ (e : Joint). is_gray_in h e.value) (joints h.entries)) m i in
       let e : Joint = f.0 in
       let there : Among e (joints h.entries) = Among-filtered (λ (d : Joint). is_gray_in h d.value) e (joints h.entries) f.1 in
       let members = members-there e there in
-      let value : e.value ≡ m.value = ap (λ (n : Mapping). n.value) f.2 in
       let the_map : if_gray h e.the_map ≡ m.the_map = ap (λ (n : Mapping). n.the_map) f.2 in
-      let key : if_gray h e.key ≡ m.key = ap (λ (n : Mapping). n.key) f.2 in
-      ⊎_elim
-      (λ l. (e.the_map, inl (sym the_map ∙ if_gray-some e.the_map (garbage-gray e.the_map members.the_map l)), l))
-      (λ r. (e.key, inr (sym key ∙ if_gray-some e.key (garbage-gray e.key members.key r)), r))
-      (garbage-joint e there (subst (λ z. Among z (garbage h)) (sym value) b))
+      let key : if_gray h e.key ≡ m.key = ap (λ (n : Mapping). n.key) f.2 in (
+        e,
+        there,
+        record {
+          value = ap (λ (n : Mapping). n.value) f.2;
+          the_map = λ l. sym the_map ∙ if_gray-some e.the_map (garbage-gray e.the_map members.the_map l);
+          key = λ r. sym key ∙ if_gray-some e.key (garbage-gray e.key members.key r);
+        },
+      )
 
   -- ALL GARBAGE IS DOOMED by the snapshot begun.
   pub begun-doomed : IsDoomed (view (with_empty_buffer h)) (begun h) (garbage h)
@@ -250,8 +254,8 @@ module _ (h : Heap) (sound : IsSound [] h) (c : HasColours h) (none : unmarked h
     unmarked = λ x b m. garbage-out h x b (coloured_black-reached h c x m);
     holder = λ x y e b. garbage-there h x (edge-there h x y e) (out-back x y e (garbage-out h y b));
     joint = garbage-joint;
-    noter = λ x y m b. absurd m;
-    mapper = garbage-mapper;
+    noted_held = λ x y m b. absurd m;
+    mapping_held = garbage-mapping;
     covered = garbage-from;
   }
 

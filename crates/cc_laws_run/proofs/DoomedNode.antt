@@ -39,8 +39,8 @@ doomed-more v s t ds d nodes references mappings = record {
   unmarked = d.unmarked;
   holder = d.holder;
   joint = d.joint;
-  noter = λ x y m b. ⊎_elim (λ l. d.noter x y l b) (λ e. d.holder x y e b) (references x y m);
-  mapper = λ m i b. d.mapper m (subst (λ ms. Among m ms) mappings i) b;
+  noted_held = λ x y m b. ⊎_elim (λ l. d.noted_held x y l b) (λ e. e) (references x y m);
+  mapping_held = λ m i b. d.mapping_held m (subst (λ ms. Among m ms) mappings i) b;
   covered = λ x b. covered-more v.edges (node_names s) (node_names t) nodes x (d.covered x b);
 }
 

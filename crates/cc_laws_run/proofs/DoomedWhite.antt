@@ -1,5 +1,5 @@
 -- WHAT IS DOOMED IS WHITE: at the end of a collection, names that only such names hold or noted are white.
-use Rattle.std.proofs.Common.{◌≡◌, ℕ, ◌<◌, List, [], ◌++◌, Option, Some, refl, sym, subst, inl, arith, ⊎_elim, count_by}
+use Rattle.std.proofs.Common.{◌≡◌, ℕ, ◌<◌, List, [], ◌++◌, Option, Some, refl, sym, subst, inl, inr, arith, ⊎_elim, count_by}
 use Rattle.std.specs.Option.{option_to_list}
 use Rattle.cc_lists.specs.Members.{Among}
 use Rattle.cc_lists.proofs.Members.{Among-left, Among-right}
@@ -28,6 +28,20 @@ member-premise : (m : Mapping) (p : Name) → IsMember p m → Among p (option_t
 member-premise m p i = ⊎_elim
     (λ e. Among-left p (option_to_list m.the_map) (option_to_list m.key) (option_to_list-there m.the_map p e))
     (λ e. Among-right p (option_to_list m.the_map) (option_to_list m.key) (option_to_list-there m.key p e)) i
+
+module _ (v : View) (s : Snapshot) (ds : List Name) (doomed : IsDoomed v s ds) where
+  -- who noted one of them is one
+  pub doomed-noter : (x y : Name) → Among (x, y) s.references → Among y ds → Among x ds
+  doomed-noter x y m b = doomed.holder x y (doomed.noted_held x y m b) b
+
+  -- a mapping that gives one has a member that is one
+  pub doomed-mapper : (m : Mapping) → Among m s.mappings → Among m.value ds → (p : Name) × IsMember p m × Among p ds
+  doomed-mapper m i b =
+      let e = doomed.mapping_held m i b in
+      ⊎_elim
+      (λ l. (e.0.the_map, inl (e.2.the_map l), l))
+      (λ r. (e.0.key, inr (e.2.key r), r))
+      (doomed.joint e.0 e.1 (subst (λ z. Among z ds) (sym e.2.value) b))
 
 module _ (made : ℕ) (v : View) (s : Snapshot) (ds : List Name) (sound : IsSoundView made v) (fresh : IsFresh made v s) (all : IsTraversed s)
     (doomed : IsDoomed v s ds) where
@@ -63,7 +77,7 @@ doomed-white_native h s ds k sound fresh all d = closed_off-white_native h s sou
   unbuffered = d.unbuffered;
   unmarked = λ x b e. d.unmarked x b;
   holder = d.holder;
-  noter = d.noter;
-  mapper = λ m i b. let p = d.mapper m i b in (p.0, member-premise m p.0 p.1, p.2);
+  noter = doomed-noter (view h) s ds d;
+  mapper = λ m i b. let p = doomed-mapper (view h) s ds d m i b in (p.0, member-premise m p.0 p.1, p.2);
   node = doomed-node h.natives_made (view h) s ds (IsSound-view h sound) fresh all d;
 }) k

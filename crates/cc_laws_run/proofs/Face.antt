@@ -14,7 +14,7 @@ pub use Rattle.cc_laws_run.proofs.QuietRounds.{collected-reached, round-keeps}
 pub use Rattle.cc_laws_run.proofs.QuietTaken.{emptied-none, take_away-keeps}
 pub use Rattle.cc_laws_run.proofs.QuietUnits.{collect-none, collect-tidy, gc-collects, gc-none, with_empty_buffer-sound}
 pub use Rattle.cc_laws_run.proofs.ScriptsLawful.{gc-lawful}
-pub use Rattle.cc_laws_run.proofs.Spoken.{IsSpoken, beside-nothing, deed-leaves_weak, spoken, spoken-as}
+pub use Rattle.cc_laws_run.proofs.Spoken.{IsSpoken, beside-weak, spoken, spoken-as}
 pub use Rattle.cc_laws_run.proofs.TouchedCascade.{leaves-let_go, leaves-take_up}
 pub use Rattle.cc_laws_run.proofs.TouchedCommands.{doomed-effects, leaves-exposed, leaves-hold_native, leaves-hold_script, leaves-make_proxy, leaves-preserve, leaves-set_entry, leaves-slot, leaves-touched, leaves-wrapped, next_object-undoomed, one-untouched}
 pub use Rattle.cc_laws_run.proofs.TouchedParts.{IsUntouched}

@@ -2,8 +2,8 @@
 -- abandoned itself. One that begins right after `gc` can't miss what was lost.
 use Rattle.std.specs.Prelude.{IsTrue}
 use Rattle.std.specs.List.{list_all}
-use Rattle.std.proofs.Common.{◌≡◌, ◌≢◌, ℕ, zero, suc, ◌<◌, true, List, [], ◌∷◌, ◌++◌, None, refl, sym, ◌∙◌, ap, subst, arith}
-use Rattle.std.proofs.lemmas.Bool.{false≢true, and_parts}
+use Rattle.std.proofs.Common.{◌≡◌, ◌≢◌, ℕ, zero, suc, ◌<◌, true, false, List, [], ◌∷◌, ◌++◌, None, refl, sym, ◌∙◌, ap, subst, arith}
+use Rattle.std.proofs.lemmas.Bool.{false≢true, true≢false, and_parts}
 use Rattle.cc_lists.specs.Members.{Among}
 use Rattle.cc_names.specs.declared.name.Name.{Name}
 use Rattle.cc_model.specs.declared.command.Command.{Command}
@@ -28,8 +28,9 @@ use Rattle.cc_model.proofs.NoDeeds.{units-in_range}
 use Rattle.cc_laws_heap.specs.Sound.{IsSound}
 use Rattle.cc_laws_run.specs.Running.{IsRunning, ask_in_range}
 use Rattle.cc_laws_run.specs.Doomed.{IsDoomed, IsDoomedNow, IsSuspectedNow, KeepsReflectors, AreUnlinked, garbage}
+use Rattle.cc_laws_run.specs.Returning.{brings_back, brings_none_back}
 use Rattle.cc_laws_run.specs.Followed.{first_units, first_collection, first_units_of}
-use Rattle.cc_laws_run.specs.Missing.{MissesNone, begins_one, lost, has_units}
+use Rattle.cc_laws_run.specs.Missing.{MissesNoneAtAll, begins_one, lost, has_units}
 use Rattle.cc_laws_run.specs.Spent.{IsSpent}
 use Rattle.cc_laws_run.proofs.Forgetting.{forget-follows}
 use Rattle.cc_laws_run.proofs.Spoken.{spoken-as}
@@ -39,7 +40,7 @@ use Rattle.cc_laws_run.proofs.DoomedBegin.{collected-doomed}
 use Rattle.cc_laws_run.proofs.CollectionsLawful.{running-on}
 use Rattle.cc_laws_run.proofs.PlainLawful.{any-runs}
 use Rattle.cc_laws_run.proofs.QuietUnits.{gc-collects, running-going}
-use Rattle.cc_laws_run.proofs.MissesLost.{lost-doomed}
+use Rattle.cc_laws_run.proofs.MissesLost.{lost-doomed, lost-keeps}
 use Rattle.cc_laws_run.proofs.Unabandoned.{TellsNone, none-abandoned}
 use Rattle.cc_laws_run.proofs.SpentGone.{collected-gone}
 use Rattle.cc_laws_run.proofs.HoldingUnits.{HoldsOn, units_done-holds, unless_stopped-cases}
@@ -124,26 +125,30 @@ mutate-follows m c ds sound keeps d = mutate-cases m c (λ (u : Turn). IsDoomedN
     (λ e f. d)
     (λ e memory. (d.0, d.1, doomed-effects d.0 ds m.heap c sound.well_formed keeps d.2))
 
--- A COLLECTION THAT CAN'T MISS NAMES, under a command of any class
-class-follows : (m : Machine) (s : State) (c : Command) (ds : List Name) → IsRunning m s → IsTrue (in_range c) → KeepsReflectors ds → IsDoomedNow m ds →
-    (k : Class) → class_of c ≡ k → let n = (do_class m c k).machine in let d = first_units_of m n k in IsFollowed ds d.events d.progress n
+-- A COLLECTION THAT CAN'T MISS NAMES, under a command of any class that brings nothing back
+pub class-follows : (m : Machine) (s : State) (c : Command) (ds : List Name) → IsRunning m s → IsTrue (in_range c) → KeepsReflectors ds → IsDoomedNow m ds →
+    (k : Class) → class_of c ≡ k → brings_back k ≡ false → let n = (do_class m c k).machine in let d = first_units_of m n k in IsFollowed ds d.events d.progress n
 unfolding slice
-class-follows m s c ds r i keeps d (says q) e = (refl, say-leaves m q (λ n. IsDoomedNow n ds) (λ memory. d))
-class-follows m s c ds r i keeps d does e = (refl, mutate-follows m c ds r.sound keeps d)
-class-follows m s c ds r i keeps d (runs (so_many u)) e = settled s.graph r.well_made ds (slice u m) (units-settle m s ds r d u)
-class-follows m s c ds r i keeps d (runs whole) e = let t = ended m s ds r d in
+class-follows m s c ds r i keeps d (says q) e b = (refl, say-leaves m q (λ n. IsDoomedNow n ds) (λ memory. d))
+class-follows m s c ds r i keeps d does e b = (refl, mutate-follows m c ds r.sound keeps d)
+class-follows m s c ds r i keeps d (runs (so_many u)) e b = settled s.graph r.well_made ds (slice u m) (units-settle m s ds r d u)
+class-follows m s c ds r i keeps d (runs whole) e b = let t = ended m s ds r d in
     stopped s.graph r.well_made ds m (collect m).machine t (collect-spent s.graph r.well_made ds m t)
-class-follows m s c ds r i keeps d (collects_scripts whole) e = gc-follows m s ds r d
-class-follows m s c ds r i keeps d (collects_scripts (so_many n)) e = absurd (spoken-as c i (collects_scripts (so_many n)) e)
-class-follows m s c ds r i keeps d forgets e = (refl, forget-follows m ds d)
-class-follows m s c ds r i keeps d (reads_weak n w) e = absurd (spoken-as c i (reads_weak n w) e)
+class-follows m s c ds r i keeps d (collects_scripts whole) e b = gc-follows m s ds r d
+class-follows m s c ds r i keeps d (collects_scripts (so_many n)) e b = absurd (spoken-as c i (collects_scripts (so_many n)) e)
+class-follows m s c ds r i keeps d forgets e b = (refl, forget-follows m ds d)
+class-follows m s c ds r i keeps d (reads_weak n w) e b = absurd (true≢false b)
 
--- A COLLECTION THAT CAN'T MISS NAMES, under any ask
+-- A COLLECTION THAT CAN'T MISS NAMES, under any ask that brings nothing back
 pub ask-follows : (m : Machine) (s : State) (ask : Ask) (ds : List Name) → IsRunning m s → IsTrue (ask_in_range ask) → KeepsReflectors ds → IsDoomedNow m ds →
-    IsFollowed ds (first_units m ask).events (first_units m ask).progress (do_ask m ask).machine
+    brings_none_back ask ≡ true → IsFollowed ds (first_units m ask).events (first_units m ask).progress (do_ask m ask).machine
 unfolding do_ask
-ask-follows m s (taken c) ds r i keeps d = class-follows m s c ds r i keeps d (class_of c) refl
-ask-follows m s _ ds r i keeps d = (refl, d)
+ask-follows m s (taken c) ds r i keeps d none = class-follows m s c ds r i keeps d (class_of c) refl (brings_none (class_of c) none)
+  where
+    brings_none : (k : Class) → elim (brings_back k) [ true ↦ false | false ↦ true ] ≡ true → brings_back k ≡ false
+    brings_none (reads_weak n w) none = absurd (false≢true none)
+    brings_none k none = refl
+ask-follows m s _ ds r i keeps d none = (refl, d)
 
 -- The ask that begins it
 
@@ -188,21 +193,22 @@ ask-then : (m : Machine) (s : State) (ask : Ask) (asks : List Ask) (ds : List Na
     let c = first_collection m (ask ∷ asks) in IsFollowed ds c.events c.progress (machine_after m (ask ∷ asks))
 ask-then m s ask asks ds r range keeps f more = grind (arith, asks-spend)
 
--- A COLLECTION THAT CAN'T MISS NAMES, under any asks in a row
+-- A COLLECTION THAT CAN'T MISS NAMES, under any asks in a row that bring nothing back
 pub asks-follow : (m : Machine) (s : State) (asks : List Ask) (ds : List Name) → IsRunning m s → IsTrue (list_all ask_in_range asks) →
-    KeepsReflectors ds → IsDoomedNow m ds →
+    IsTrue (list_all brings_none_back asks) → KeepsReflectors ds → IsDoomedNow m ds →
     let c = first_collection m asks in IsFollowed ds c.events c.progress (machine_after m asks)
-asks-follow m s [] ds r range keeps d = (refl, d)
-asks-follow m s (ask ∷ asks) ds r range keeps d =
+asks-follow m s [] ds r range none keeps d = (refl, d)
+asks-follow m s (ask ∷ asks) ds r range none keeps d =
     let both = and_parts (ask_in_range ask) (list_all ask_in_range asks) range in
+    let back = and_parts (brings_none_back ask) (list_all brings_none_back asks) none in
     let t : Turn = do_ask m ask in
     let u : State = next s ask t.answer in
     let still : IsRunning t.machine u = any-runs m s ask r both.0 in
-    ask-then m u ask asks ds still both.1 keeps (ask-follows m s ask ds r both.0 keeps d) (asks-follow t.machine u asks ds still both.1 keeps)
+    ask-then m u ask asks ds still both.1 keeps (ask-follows m s ask ds r both.0 keeps d back.0) (asks-follow t.machine u asks ds still both.1 back.1 keeps)
 
 -- what becomes of them says that none is missed
 pub followed-misses : (m : Machine) (asks : List Ask) (ds : List Name) →
-    (let c = first_collection m asks in IsFollowed ds c.events c.progress (machine_after m asks)) → MissesNone ds m asks
+    (let c = first_collection m asks in IsFollowed ds c.events c.progress (machine_after m asks)) → MissesNoneAtAll ds m asks
 followed-misses m asks ds f = grind (arith, none-abandoned)
 
 -- and that they are spent where it ended
@@ -223,24 +229,31 @@ followed-gone m s asks ds r f unrefused x i = grind (arith, first_collection-app
 -- Right after `gc`
 
 -- a machine that runs does so after `gc`
-pub after_gc-runs : (m : Machine) (s : State) → IsRunning m s → (t : State) × IsRunning (gc m).machine t
+pub after_gc-runs : (m : Machine) (s : State) → IsRunning m s → IsRunning (gc m).machine (next s (taken Gc) (do_ask m (taken Gc)).answer)
 unfolding do_ask
-after_gc-runs m s r = (next s (taken Gc) (do_ask m (taken Gc)).answer, any-runs m s (taken Gc) r refl)
+after_gc-runs m s r = any-runs m s (taken Gc) r refl
 
--- A COLLECTION THAT BEGINS RIGHT AFTER `gc` CAN'T MISS WHAT WAS LOST.
-pub after_gc-follows : (m : Machine) (s : State) (ask : Ask) (asks : List Ask) → IsRunning m s → IsSuspectedNow m → begins_one ask ≡ true →
-    IsTrue (list_all ask_in_range asks) → KeepsReflectors (lost (gc m).machine.heap) →
-    let c = first_collection (gc m).machine (ask ∷ asks) in
-    IsFollowed (lost (gc m).machine.heap) c.events c.progress (machine_after (gc m).machine (ask ∷ asks))
-after_gc-follows m s ask asks r suspected e range keeps =
-    let a : Machine = (gc m).machine in
+-- a collection that begins now dooms what is garbage
+abbrev pub Dooms : Machine → Type 0
+Dooms m = (m.snapshot ≡ None) × IsDoomed (view (with_empty_buffer m.heap)) (begun m.heap) (garbage m.heap)
+
+-- right after `gc` a collection that begins dooms what is garbage
+pub after_gc-dooms : (m : Machine) (s : State) → IsRunning m s → IsSuspectedNow m → Dooms (gc m).machine
+after_gc-dooms m s r suspected =
     let f = gc-collects m (running-going m s r suspected) in
-    let all : IsDoomed (view (with_empty_buffer a.heap)) (begun a.heap) (garbage a.heap) =
-    subst (λ (h : Heap). IsDoomed (view (with_empty_buffer h)) (begun h) (garbage h)) (sym f.3) (collected-doomed f.0 f.1 f.2) in
-    let t = after_gc-runs m s r in
-    let ds : List Name = lost a.heap in
-    let doomed : IsDoomed (view (with_empty_buffer a.heap)) (begun a.heap) ds = lost-doomed a.heap t.0.graph t.1.sound t.1.well_made t.1.stands all in
-    let u : State = next t.0 ask (do_ask a ask).answer in
-    let still : IsRunning (do_ask a ask).machine u = begin-runs a t.0 ask t.1 e in
-    ask-then a u ask asks ds still range keeps (begin-follows a t.0 ds t.1 f.4 doomed ask e)
-    (asks-follow (do_ask a ask).machine u asks ds still range keeps)
+    (f.4, subst (λ (h : Heap). IsDoomed (view (with_empty_buffer h)) (begun h) (garbage h)) (sym f.3) (collected-doomed f.0 f.1 f.2))
+
+module _ (m : Machine) (s : State) (r : IsRunning m s) (dooms : Dooms m) where
+  -- THE ASK THAT BEGINS A COLLECTION that dooms garbage makes one that can't miss what was lost.
+  pub begun-follows : (ask : Ask) → begins_one ask ≡ true → IsFollowed (lost m.heap) (first_units m ask).events (first_units m ask).progress (do_ask m ask).machine
+  begun-follows ask e = begin-follows m s (lost m.heap) r dooms.0 (lost-doomed m.heap s.graph r.sound r.well_made r.stands dooms.1) ask e
+
+  -- A COLLECTION THAT DOOMED GARBAGE CAN'T MISS WHAT WAS LOST, under later asks that bring nothing back.
+  pub all-follow : (ask : Ask) (asks : List Ask) → begins_one ask ≡ true → IsTrue (list_all ask_in_range asks) → IsTrue (list_all brings_none_back asks) →
+      let c = first_collection m (ask ∷ asks) in IsFollowed (lost m.heap) c.events c.progress (machine_after m (ask ∷ asks))
+  all-follow ask asks e range none =
+      let u : State = next s ask (do_ask m ask).answer in
+      let still : IsRunning (do_ask m ask).machine u = begin-runs m s ask r e in
+      let keeps : KeepsReflectors (lost m.heap) = lost-keeps m.heap r.sound in
+      ask-then m u ask asks (lost m.heap) still range keeps (begun-follows ask e)
+      (asks-follow (do_ask m ask).machine u asks (lost m.heap) still range none keeps)

@@ -3,7 +3,7 @@ use Rattle.std.proofs.Common.{◌≡◌, List, Option, Some, None, refl, sym, ap
 use Rattle.cc_lists.specs.Members.{Among}
 use Rattle.cc_names.specs.declared.name.Name.{Name}
 use Rattle.cc_model.specs.declared.command.Command.{Command}
-use Rattle.cc_model.specs.Mutating.{forgets, class_of, is_deed}
+use Rattle.cc_model.specs.Mutating.{forgets, class_of, is_deed, is_mutator}
 use Rattle.cc_model.specs.Asks.{taken}
 use Rattle.cc_model.specs.Heap.{Heap}
 use Rattle.cc_model.specs.View.{view}
@@ -37,16 +37,19 @@ forgotten-runs m s r = record {
   well_made = r.well_made;
   stands = forgotten-stands m.heap s.graph r.stands;
   listed = r.listed;
+  weak = r.weak;
+  ended = r.ended;
+  ended_made = r.ended_made;
 }
 
 -- SUSPECTS FORGOTTEN leave a machine that runs.
 pub forget-runs : (m : Machine) (s : State) (c : Command) → IsRunning m s → class_of c ≡ forgets →
     IsRunning (forget_suspects m).machine (next s (taken c) (forget_suspects m).answer)
-forget-runs m s c r e = subst (IsRunning (forget_suspects m).machine) (sym (next-no_deed s c (forget_suspects m).answer (ap is_deed e) refl)) (forgotten-runs m s r)
+forget-runs m s c r e = subst (IsRunning (forget_suspects m).machine) (sym (next-no_deed s c (forget_suspects m).answer (ap is_deed e) (ap is_mutator e) refl)) (forgotten-runs m s r)
 
 -- THE ANSWER IS LAWFUL: nothing is told, and it is done.
 pub forget-answers : (m : Machine) (s : State) (c : Command) → class_of c ≡ forgets → AnswersClass s c (forget_suspects m).answer forgets
-forget-answers m s c e = (refl, refl, said-done s c (ap is_deed e) (ap moves_none e))
+forget-answers m s c e = (refl, refl, said-done s c (ap is_deed e) (ap is_mutator e) (ap moves_none e))
 
 -- What is doomed, and what is spent
 
@@ -61,8 +64,8 @@ forgotten-doomed h s ds d = record {
   unmarked = d.unmarked;
   holder = d.holder;
   joint = d.joint;
-  noter = d.noter;
-  mapper = d.mapper;
+  noted_held = d.noted_held;
+  mapping_held = d.mapping_held;
   covered = d.covered;
 }
 
@@ -80,4 +83,5 @@ forget-spends h ds d = record {
   holder = d.holder;
   joint = d.joint;
   empty = d.empty;
+  unlinked = d.unlinked;
 }

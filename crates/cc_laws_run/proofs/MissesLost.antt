@@ -1,11 +1,11 @@
 -- WHAT IS LOST: garbage but for the reflectors of reached natives. A collection that dooms garbage dooms it.
-use Rattle.std.proofs.Common.{arith, ◌≡◌, ℕ, Bool, true, false, ◌&&◌, [], ◌∷◌, map, Option, Some, None, option_map, refl, sym, ◌∙◌, ap, subst, inl, inr, ◌⊎◌, ⊎_elim, is_some}
+use Rattle.std.proofs.Common.{arith, ◌≡◌, ℕ, Bool, true, false, ◌&&◌, List, [], ◌∷◌, map, Option, Some, None, option_map, refl, sym, ◌∙◌, ap, subst, inl, inr, ◌⊎◌, ⊎_elim, is_some}
 use Rattle.std.specs.Prelude.{option_and_then}
 use Rattle.std.specs.List.{list_all}
 use Rattle.std.proofs.lemmas.Bool.{true≢false, and_parts, and_from}
 use Rattle.cc_model.proofs.Places.{behind_edges, script_edges-split, script_place-cases}
 use Rattle.cc_lists.specs.Members.{Among}
-use Rattle.cc_lists.proofs.Members.{Among-map_cases, Among-left, Among-append, Among-filter, Among-filtered, Among-passes}
+use Rattle.cc_lists.proofs.Members.{Among-map_cases, Among-left, Among-right, Among-append, Among-filter, Among-filtered, Among-passes}
 use Rattle.cc_lists.proofs.Least.{derive-along}
 use Rattle.cc_names.specs.declared.name.Name.{Name}
 use Rattle.cc_names.specs.declared.name.Name.TheVariants as name
@@ -20,26 +20,30 @@ use Rattle.cc_model.specs.Heap.{Heap, HeapNative, HeapScript}
 use Rattle.cc_model.specs.View.{view, script_slot_edges, ReachedIn}
 use Rattle.cc_model.specs.WellFormed.{FitsName, native_names, script_names, names_there, is_proxy_kind}
 use Rattle.cc_model.specs.StandsFor.{Shape, shape_of_native, shape_of_held_native, kind_in, reflector_kind, IsNoKey, IsKept, StandsFor, IsNoDelegate}
-use Rattle.cc_model.specs.Snapshot.{Mapping}
-use Rattle.cc_model.specs.Units.{if_gray, mappings_of, begun, with_empty_buffer}
+use Rattle.cc_model.specs.Units.{begun, with_empty_buffer}
 use Rattle.cc_model.specs.Suspected.{is_unreached}
 use Rattle.cc_model.proofs.Joints.{Gives, its_key, joint-cases, its_value}
 use Rattle.cc_model.specs.Places.{script_places_of}
 use Rattle.cc_laws_heap.specs.Sound.{IsSound}
 use Rattle.cc_laws_heap.proofs.Natives.{IsWellFormed-distinct, native_at-member, named-member}
 use Rattle.cc_laws_heap.proofs.ReachedAlike.{ArePart-among, in-reached}
+use Rattle.cc_laws_heap.proofs.Given.{Reached-given}
+use Rattle.cc_laws_heap.proofs.Standing.{stands-reached, stands-blank}
 use Rattle.cc_laws_heap.proofs.ViewEdges.{native_edges-are}
-use Rattle.cc_laws_run.specs.Doomed.{IsMember, IsDoomed, KeepsReflectors, garbage}
+use Rattle.cc_laws_run.specs.Doomed.{IsDoomed, KeepsReflectors, garbage}
+use Rattle.cc_model.specs.Reached.{Reached}
+use Rattle.cc_model.specs.Given.{given}
+use Rattle.cc_laws_run.specs.Returning.{MayBeBack, AreBeside}
 use Rattle.cc_laws_run.specs.Missing.{lost}
 use Rattle.cc_laws_snapshot.proofs.KindsLoyal.{reached_cases}
 use Rattle.cc_laws_snapshot.proofs.ReachedStays.{native-edge}
-use Rattle.cc_laws_snapshot.proofs.SoundView.{script-place}
-use Rattle.cc_laws_run.proofs.DoomedBegin.{out-unreached, garbage-is_there, garbage-out}
+use Rattle.cc_laws_snapshot.proofs.SoundView.{script-place, joint-there}
+use Rattle.cc_laws_run.proofs.DoomedBegin.{out-unreached, garbage-there, garbage-is_there, garbage-out}
 use Rattle.cc_laws_run.proofs.TouchedViews.{edge-cases}
 use Rattle.cc_laws_snapshot.proofs.Edges.{native_edges-has}
 
 -- what has a delegate in the graph is a proxy of it
-delegate_in-proxy : (g : Graph) (x d : Name) → delegate_in g x ≡ Some d → (k : ℕ) × (script_in g k ≡ Some (proxy d))
+pub delegate_in-proxy : (g : Graph) (x d : Name) → delegate_in g x ≡ Some d → (k : ℕ) × (script_in g k ≡ Some (proxy d))
 delegate_in-proxy g (name.Native k) d e = absurd (cc)
 delegate_in-proxy g (name.Reflector k) d e = absurd (cc)
 delegate_in-proxy g (name.Script k) d e = (k.0, of (script_in g k.0) e)
@@ -84,10 +88,6 @@ module _ (h : Heap) where
       native-lost k (Among-filter (is_unreached (view h)) (native k) (names_there h)
       (Among-left (native k) (native_names h) (script_names h) place)
       (and_parts (is_unreached (view h) (native k)) true passes).0)
-
--- a member of a mapping is what the entry names
-if_gray-own : (h : Heap) (x y : Name) → if_gray h x ≡ Some y → x ≡ y
-if_gray-own h x y e = grind arith
 
 -- Reflectors of reached natives
 
@@ -151,7 +151,8 @@ module _ (h : Heap) (g : Graph) (sound : IsSound [] h) (well : IsWellMade g) (st
           let c = Among-map_cases (from_to o.name) (contents (script_places_of o)) (x, y) m in
           let named : o.name ≡ x = ap (λ (p : Name × Name). p.0) c.2 in
           let blank : o.slots ≡ empty_slots reflector_slots =
-          stands.blank_there s.own o s.there s.blank (in-reached h g sound.well_formed well stands (native s.own.number) s.reached) there (named ∙ s.named) in
+          stands-blank h g sound.well_formed stands s.own o s.there s.blank
+          (Reached-given h g (native s.own.number) (in-reached h g sound.well_formed well stands (native s.own.number) s.reached)) there (named ∙ s.named) in
           ⊎_elim
           (λ l. subst (λ (t : Slots). Among c.0 (contents t)) blank l)
           (λ d. none_stood_for o there (named ∙ s.named) c.0 d)
@@ -180,7 +181,7 @@ module _ (h : Heap) (g : Graph) (sound : IsSound [] h) (well : IsWellMade g) (st
       m = made.0
 
       kept : IsKept h g (native n.number)
-      kept = stands.reached (native n.number) (in-reached h g sound.well_formed well stands (native n.number) s.reached)
+      kept = stands-reached h g stands (native n.number) (in-reached h g sound.well_formed well stands (native n.number) s.reached)
 
       same : shape_of_native m ≡ shape_of_held_native n
       same =
@@ -229,10 +230,6 @@ module _ (h : Heap) (g : Graph) (sound : IsSound [] h) (well : IsWellMade g) (st
       map-of e _ its_value = refl
       map-of e _ (its_key d is) = refl
 
-  -- so is one that a mapping names
-  mapping-lost : (m : Mapping) → Among m (mappings_of h) → (p : Name) → IsMember p m → Among p (garbage h) → Among p (lost h)
-  mapping-lost m i p a b = grind (arith, Among-map_cases, Among-filtered, member-lost, if_gray-own)
-
   -- WHERE A SNAPSHOT BEGUN DOOMS GARBAGE, IT DOOMS WHAT IS LOST.
   pub lost-doomed : IsDoomed (view (with_empty_buffer h)) (begun h) (garbage h) → IsDoomed (view (with_empty_buffer h)) (begun h) (lost h)
   lost-doomed d = record {
@@ -248,7 +245,31 @@ module _ (h : Heap) (g : Graph) (sound : IsSound [] h) (well : IsWellMade g) (st
         (λ l. inl (member-lost e m e.the_map (inl refl) l))
         (λ r. inr (member-lost e m e.key (inr refl) r))
         (d.joint e m (lost-garbage h e.value b));
-    noter = λ x y m b. absurd m;
-    mapper = λ m i b. let p = d.mapper m i (lost-garbage h m.value b) in (p.0, p.1, mapping-lost m i p.0 p.1 p.2);
+    noted_held = λ x y m b. absurd m;
+    mapping_held = λ m i b. let e = d.mapping_held m i (lost-garbage h m.value b) in (
+      e.0,
+      e.1,
+      record {
+        value = e.2.value;
+        the_map = λ l. e.2.the_map (lost-garbage h e.0.the_map l);
+        key = λ l. e.2.key (lost-garbage h e.0.key l);
+      },
+    );
     covered = λ x b. d.covered x (lost-garbage h x b);
   }
+
+  -- what together gives what is lost is lost, or reached
+  lost-or_reached : (x : Name) → Among x (names_there h) → (Among x (garbage h) → Among x (lost h)) → Among x (lost h) ⊎ ReachedIn (view h) x
+  lost-or_reached x there lost_then = ⊎_elim (λ r. inr r) (λ out. inl (lost_then (garbage-there h x there out))) (reached_cases (view h) x)
+
+  -- WHAT IS BESIDE WHAT IS LOST is reached, so it is met.
+  pub lost-beside : (met : List Name) → ((x : Name) → Reached g x → Among x met) → AreBeside g met (view h) (lost h)
+  lost-beside met reached = record {
+    the_map = λ e m i. back (lost-or_reached e.the_map
+        (Among-right e.the_map (native_names h) (script_names h) (joint-there h sound.well_formed e m).the_map) (member-lost e m e.the_map (inl refl)));
+    key = λ e m i. back (lost-or_reached e.key
+        (Among-right e.key (native_names h) (script_names h) (joint-there h sound.well_formed e m).key) (member-lost e m e.key (inr refl)));
+  }
+    where
+      back : {x : Name} → Among x (lost h) ⊎ ReachedIn (view h) x → Among x (lost h) ⊎ MayBeBack g met x
+      back {x} c = ⊎_elim (λ l. inl l) (λ r. inr (inl (given x (reached x (in-reached h g sound.well_formed well stands x r))))) c

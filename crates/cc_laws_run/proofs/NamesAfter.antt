@@ -104,7 +104,7 @@ put_in_register-names h g d x a room there s =
     NamesAfter-freed h (set_register g (N d) x) (put_in_register g d x) (record { natives = a.natives; scripts = a.scripts }) (put_in_register-frees g d x room there s)
 
 -- a native register written, with the reference taken first
-hold_native-names : (h : Heap) (d : ℕ) (x : Option Name) → d < length h.native_registers → IsIn (native_names h) x → IsSound [] h →
+pub hold_native-names : (h : Heap) (d : ℕ) (x : Option Name) → d < length h.native_registers → IsIn (native_names h) x → IsSound [] h →
     (ks : List ℕ) × NamesAfter h (hold_native h d x) ks [] []
 unfolding hold_native
 hold_native-names h d x room there s = put_in_register-names h (take_up h x) d x (SameNames-alike h (take_up h x) (HoldsTheSame-take_up h x)) (room-take_up h x d room)

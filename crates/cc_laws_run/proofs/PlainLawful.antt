@@ -16,6 +16,7 @@ use Rattle.cc_laws_run.specs.Running.{IsRunning, ask_in_range, moves_none, moves
 use Rattle.cc_laws_run.proofs.Spoken.{spoken-as}
 use Rattle.cc_laws_run.proofs.Answered.{mutate-answers, say-answers}
 use Rattle.cc_laws_run.proofs.RunsOn.{empty-runs, mutate-runs, say-runs}
+use Rattle.cc_laws_run.proofs.ReadingWeak.{weak-answers, weak-runs}
 use Rattle.cc_laws_run.proofs.Forgetting.{forget-answers, forget-runs}
 use Rattle.cc_laws_run.proofs.CollectionsLawful.{units-answers, units-runs, gc-answers, gc-runs}
 
@@ -28,18 +29,18 @@ class-answers m s c r i (runs u) e = units-answers m s c u r e
 class-answers m s c r i (collects_scripts whole) e = gc-answers m s c r e
 class-answers m s c r i (collects_scripts (so_many n)) e = absurd (spoken-as c i (collects_scripts (so_many n)) e)
 class-answers m s c r i forgets e = forget-answers m s c e
-class-answers m s c r i (reads_weak d w) e = absurd (spoken-as c i (reads_weak d w) e)
+class-answers m s c r i (reads_weak d w) e = weak-answers m s c d w r i e
 
 -- each command leaves a machine that runs, by its class
 class-runs : (m : Machine) (s : State) (c : Command) → IsRunning m s → IsTrue (in_range c) → (k : Class) → class_of c ≡ k →
     IsRunning (do_class m c k).machine (next s (taken c) (do_class m c k).answer)
 class-runs m s c r i (says q) e = say-runs m s c q r e
-class-runs m s c r i does e = mutate-runs m s c r i
+class-runs m s c r i does e = mutate-runs m s c r i e
 class-runs m s c r i (runs u) e = units-runs m s c u r e
 class-runs m s c r i (collects_scripts whole) e = gc-runs m s c r e
 class-runs m s c r i (collects_scripts (so_many n)) e = absurd (spoken-as c i (collects_scripts (so_many n)) e)
 class-runs m s c r i forgets e = forget-runs m s c r e
-class-runs m s c r i (reads_weak d w) e = absurd (spoken-as c i (reads_weak d w) e)
+class-runs m s c r i (reads_weak d w) e = weak-runs m s c d w r i e
 
 -- EACH ASK is answered lawfully.
 pub any-answers : (m : Machine) (s : State) (ask : Ask) → IsRunning m s → IsTrue (ask_in_range ask) → AnswersAsk s ask (do_ask m ask).answer

@@ -3,11 +3,11 @@ use Rattle.std.specs.Prelude.{IsTrue, nat_le, bytes_eq, if◌then◌else◌}
 use Rattle.std.proofs.Common.{◌≡◌, ℕ, ◌+◌, ◌-◌, ◌*◌, ◌<◌, ◌≤◌, Bool, true, false, ◌&&◌, List, [], ◌∷◌, Option, Some, None, refl, arith}
 use Rattle.std.specs.List.{list_all}
 use Rattle.std.proofs.lemmas.Bool.{and_from, and_parts, lt-ltb, le-leb, leb-true}
-use Rattle.cc_names.specs.Sizes.{bank_length, most_slots}
+use Rattle.cc_names.specs.Sizes.{bank_length, most_slots, weak_length}
 use Rattle.cc_model.specs.declared.command.Command.{Command}
-use Rattle.cc_model.specs.Ranges.{is_register, is_slots, in_range}
+use Rattle.cc_model.specs.Ranges.{is_register, is_weak_register, is_slots, in_range}
 use Rattle.cc_model.specs.Lines.{lines_of, without_return}
-use Rattle.cc_model.specs.Tokens.{tokens_of, is_digit_within, digits_from, number_within, slots_number, register_with, native_register, script_register}
+use Rattle.cc_model.specs.Tokens.{tokens_of, is_digit_within, digits_from, number_within, slots_number, register_with, native_register, script_register, weak_register}
 use Rattle.cc_model.specs.declared.dialect.Dialect.{Dialect}
 use Rattle.cc_model.specs.declared.dialect.Dialect.TheVariants.{Start, One, Two}
 use Rattle.cc_model.specs.Dialects.{registers_of, slots_of}
@@ -66,6 +66,10 @@ native-below v token = register-below v 110 token
 script-below : (v : Dialect) (token : List ℕ) → Has (λ k. IsTrue (is_register k)) (script_register v token)
 script-below v token = register-below v 115 token
 
+-- a weak register is in range
+weak-below : (token : List ℕ) → Has (λ w. IsTrue (is_weak_register w)) (weak_register token)
+weak-below token = grind (arith, Has-so, lt-ltb, number-below)
+
 -- Forms
 
 -- the command is in range
@@ -87,7 +91,7 @@ infixr 3 ◌also◌
 p also q = (p, q)
 
 -- Each form is read from its tokens: registers and numbers of slots are in range, whatever the command.
-ruleset below = (native-below, script-below, slots-below)
+ruleset below = (native-below, script-below, weak-below, slots-below)
 
 -- THE FORMS OF EVERY VERSION read commands in range.
 common-in_range : (v : Dialect) → EachInRange (common_forms v)
@@ -125,7 +129,14 @@ common-in_range v =
 forms-in_range : (v : Dialect) → EachInRange (forms_of v)
 forms-in_range Start = (λ tokens. grind arith) also common-in_range Start
 forms-in_range One = common-in_range One
-forms-in_range Two = (λ tokens. grind (arith, below)) also (λ tokens. grind arith) also (λ tokens. grind arith) also common-in_range Two
+forms-in_range Two =
+    (λ tokens. grind (arith, below))
+    also (λ tokens. grind arith)
+    also (λ tokens. grind arith)
+    also (λ tokens. grind (arith, below))
+    also (λ tokens. grind (arith, below))
+    also (λ tokens. grind (arith, below))
+    also common-in_range Two
 
 -- Lines
 

@@ -1,21 +1,25 @@
 -- WHAT IS SPENT STAYS SO under any ask, and `gc` takes it away.
 use Rattle.std.specs.Prelude.{IsTrue}
 use Rattle.std.specs.List.{list_all}
-use Rattle.std.proofs.Common.{◌≡◌, ◌+◌, List, [], ◌∷◌, refl, arith}
-use Rattle.std.proofs.lemmas.Bool.{and_parts}
+use Rattle.std.proofs.Common.{◌≡◌, ℕ, ◌+◌, Bool, true, false, not, ◌||◌, List, [], ◌∷◌, Option, Some, None, refl, sym, ◌∙◌, subst, arith, ⊎_elim, slice_index_or, if◌then◌else◌}
+use Rattle.std.specs.Option.{option_and_then}
+use Rattle.std.proofs.lemmas.Bool.{and_parts, false≢true, true≢false}
 use Rattle.cc_lists.specs.Members.{Among}
 use Rattle.cc_names.specs.declared.name.Name.{Name}
+use Rattle.cc_names.specs.declared.name.Name.TheVariants as name
+use Rattle.cc_names.specs.Names.{native}
 use Rattle.cc_model.specs.declared.command.Command.{Command}
 use Rattle.cc_model.specs.Mutating.{Class, Running, so_many, whole, says, does, forgets, reads_weak, runs, collects_scripts, class_of}
 use Rattle.cc_model.specs.Asks.{Ask, taken}
 use Rattle.cc_model.specs.Ranges.{in_range}
 use Rattle.cc_model.specs.WellFormed.{IsWellFormed, names_there}
-use Rattle.cc_model.specs.Heap.{Heap, objects_of}
-use Rattle.cc_model.specs.Effects.{effects}
+use Rattle.cc_model.specs.Heap.{Heap, HeapNative, native_at, objects_of}
+use Rattle.cc_model.specs.Given.{is_usable_native, is_usable}
+use Rattle.cc_model.specs.Effects.{effects, hold_native}
 use Rattle.cc_model.specs.Sweep.{collect_scripts}
 use Rattle.cc_model.specs.Lawful.{State, next}
 use Rattle.cc_model.specs.Collecting.{Machine, no_units, finish_running, gc}
-use Rattle.cc_model.specs.Run.{Turn, mutate, do_ask, machine_after, do_class, run_units}
+use Rattle.cc_model.specs.Run.{Turn, mutate, do_ask, machine_after, do_class, run_units, noted, read_weak}
 use Rattle.cc_laws_heap.specs.Sound.{IsSound}
 use Rattle.cc_laws_heap.proofs.Taken.{IsTaken-from}
 use Rattle.cc_laws_heap.proofs.CommandsSound.{effects-sound}
@@ -25,7 +29,10 @@ use Rattle.cc_laws_run.specs.Running.{IsRunning, ask_in_range}
 use Rattle.cc_laws_run.proofs.Forgetting.{forget-spends}
 use Rattle.cc_laws_run.proofs.Spoken.{spoken-as}
 use Rattle.cc_laws_run.proofs.CommandCases.{mutate-cases, say-leaves}
-use Rattle.cc_laws_run.proofs.TouchedCommands.{command-leaves}
+use Rattle.cc_laws_heap.proofs.Natives.{native_at-there, native_at-number}
+use Rattle.cc_laws_run.proofs.TouchedParts.{IsUntouched}
+use Rattle.cc_laws_run.proofs.TouchedSteps.{leaves-refl}
+use Rattle.cc_laws_run.proofs.TouchedCommands.{command-leaves, leaves-hold_native}
 use Rattle.cc_laws_run.proofs.CollectionsLawful.{running-on}
 use Rattle.cc_laws_run.proofs.PlainLawful.{any-runs}
 use Rattle.cc_laws_run.proofs.SpentViews.{spent-less, spent-left}
@@ -80,6 +87,40 @@ units-spend : (m : Machine) (s : State) (u : Running) (ds : List Name) → IsRun
 units-spend m s u ds r d =
     (run_units-holds s.graph r.well_made (Spending ds) (each-spends s.graph ds) (λ h o es p e. e) u m (spending-on m s ds r d)).holds
 
+-- no weak register gives what is spent: it was unlinked
+noted-unspent : (m : Machine) (w : ℕ) (ds : List Name) → IsSpent m.heap ds → IsUntouched ds (noted m w)
+noted-unspent m w ds d = of (slice_index_or m.weak w None)
+  where
+    unused : (b : Bool) → (not b || false) ≡ true → b ≡ false
+    unused true t = absurd (false≢true t)
+    unused false t = refl
+
+    usable : (n : Option HeapNative) (k : ℕ) → native_at m.heap k ≡ n → (is_usable_native n || false) ≡ true → ¬ (Among (native k) ds)
+    usable None k e t i = false≢true t
+    usable (Some n) k e t i = true≢false (sym (d.unlinked n (native_at-there m.heap k n e)
+        (subst (λ j. Among (native j) ds) (sym (native_at-number m.heap k n e)) i)) ∙ unused n.unlinked t)
+
+    given : (x : Name) (b : Bool) → is_usable m.heap x ≡ b → IsUntouched ds (if b then Some x else None)
+    given x false e y i j = i
+    given (name.Native k) true e y i j = ⊎_elim (λ q. usable (native_at m.heap k.0) k.0 refl e (subst (λ z. Among z ds) (sym q) j)) (λ n. n) i
+    given (name.Script k) true e y i j = false≢true e
+    given (name.Reflector k) true e y i j = false≢true e
+
+    of : (o : Option Name) → IsUntouched ds (option_and_then (λ x. if is_usable m.heap x then Some x else None) o)
+    of None y i j = i
+    of (Some x) y i j = given x (is_usable m.heap x) refl y i j
+
+-- a weak register read leaves them spent
+read_weak-spends : (m : Machine) (s : State) (c : Command) (n w : ℕ) (ds : List Name) → IsRunning m s → IsTrue (in_range c) → IsSpent m.heap ds →
+    class_of c ≡ reads_weak n w → IsSpent (read_weak m n w).machine.heap ds
+unfolding do_ask
+read_weak-spends m s c n w ds r i d e =
+    let runs : IsRunning (read_weak m n w).machine (next s (taken c) (read_weak m n w).answer) =
+    subst (λ k. IsRunning (do_class m c k).machine (next s (taken c) (do_class m c k).answer)) e (any-runs m s (taken c) r i) in
+    spent-left ds m.heap (hold_native m.heap n (noted m w)).heap runs.sound.well_formed
+    (leaves-hold_native ds m.heap m.heap n (noted m w) (noted-unspent m w ds d)
+    (leaves-refl ds m.heap (record { unregistered = d.unregistered; holder = d.holder; joint = d.joint }))) d
+
 -- a command of each class leaves them spent
 class-spends : (m : Machine) (s : State) (c : Command) (ds : List Name) → IsRunning m s → IsTrue (in_range c) → KeepsReflectors ds → IsSpent m.heap ds →
     (k : Class) → class_of c ≡ k → IsSpent (do_class m c k).machine.heap ds
@@ -89,7 +130,7 @@ class-spends m s c ds r i keeps d (runs u) e = units-spend m s u ds r d
 class-spends m s c ds r i keeps d (collects_scripts whole) e = gc-spends m s ds r d
 class-spends m s c ds r i keeps d (collects_scripts (so_many n)) e = absurd (spoken-as c i (collects_scripts (so_many n)) e)
 class-spends m s c ds r i keeps d forgets e = forget-spends m.heap ds d
-class-spends m s c ds r i keeps d (reads_weak n w) e = absurd (spoken-as c i (reads_weak n w) e)
+class-spends m s c ds r i keeps d (reads_weak n w) e = read_weak-spends m s c n w ds r i d e
 
 -- WHAT IS SPENT STAYS SO under any ask.
 pub ask-spends : (m : Machine) (s : State) (ask : Ask) (ds : List Name) → IsRunning m s → IsTrue (ask_in_range ask) → KeepsReflectors ds →

@@ -17,7 +17,7 @@ use Rattle.cc_laws_heap.proofs.RoundParts.{round-natives, round-scripts, round-e
 use Rattle.cc_laws_heap.proofs.CollectedColours.{collecting-keeps}
 use Rattle.cc_laws_run.specs.Spent.{IsSpent}
 use Rattle.cc_laws_run.proofs.LeftThere.{collected-has}
-use Rattle.cc_laws_run.proofs.SpentViews.{IsLess, IsLess-refl, IsLess-trans, spent-less}
+use Rattle.cc_laws_run.proofs.SpentViews.{WasIn-alike, IsLess, IsLess-refl, IsLess-trans, spent-less}
 use Rattle.cc_laws_snapshot.proofs.ReachedStays.{native-edge, script-edge, native_edges-alike}
 use Rattle.cc_laws_run.proofs.TouchedViews.{edge-cases}
 use Rattle.cc_laws_run.proofs.JointLists.{joints-within}
@@ -34,6 +34,7 @@ round-less h s = record {
       (edge-cases (sweep (marked h)).heap x y e);
   joints = joints-within (sweep (marked h)).heap.entries h.entries
       (λ e m. Among-filtered (is_spared_entry (unmarked (marked h))) e h.entries (subst (λ es. Among e es) (round-entries h s) m));
+  unlinked = λ n m. WasIn-alike h n (round-natives h s n m);
 }
   where
     f : FreesNames h (round-frees h s).0 (sweep (marked h))

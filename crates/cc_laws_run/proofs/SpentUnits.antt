@@ -39,7 +39,7 @@ use Rattle.cc_laws_run.proofs.UnitLawful.{unit-cases, RunsOn, UnitIsLawful, unit
 use Rattle.cc_laws_run.proofs.QuietTaken.{emptied-none}
 use Rattle.cc_laws_run.proofs.HoldingUnits.{Manner, EachKeeps, units_done-holds, HoldsOn}
 use Rattle.cc_laws_run.proofs.Unabandoned.{TellsNone, take_away-none}
-use Rattle.cc_laws_run.proofs.SpentViews.{IsLess-buffer, spent-less, IsLess}
+use Rattle.cc_laws_run.proofs.SpentViews.{WasIn-alike, IsLess-buffer, spent-less, IsLess}
 use Rattle.cc_laws_run.specs.Spent.{IsSpent}
 use Rattle.cc_laws_run.proofs.JointLists.{joints-within}
 
@@ -88,6 +88,10 @@ module _ (h : Heap) (ks : List ℕ) (s : IsSound [] h) (there : (k : ℕ) → Am
         ∙ ap (λ xs. contents h.native_registers ++ contents xs) taken.script_registers) m;
     edges = λ x y e. ⊎_elim (λ f. of_native f.0 x y f.1 f.2) (λ f. script-edge h f.0 x y (subst (λ os. Among f.0 os) taken.scripts f.1) f.2) (edge-cases end x y e);
     joints = joints-within end.entries h.entries (λ e m. subst (λ es. Among e es) taken.entries m);
+    unlinked = λ n m. ⊎_elim
+        (λ i. let c = taken.left n m in (c.was, c.there, c.number, λ e. (c.taken i).unlinked))
+        (λ out. WasIn-alike h n (others-kept h ks s there n m out))
+        (Among_or_not ◌==◌ number-exact ks n.number);
   }
 
   -- and these natives hold nothing
@@ -109,6 +113,7 @@ end-spends h s ds sound fresh all d =
       holder = λ x y e m. d.holder x y (l.edges x y e) m;
       joint = λ e i m. d.joint e (l.joints e i) m;
       empty = λ i y m. taken-empty h (white_natives h s) sound there i y (doomed-white_native h s ds i sound fresh all d m);
+      unlinked = λ n i m. (((taken h (white_natives h s) sound there).left n i).taken (doomed-white_native h s ds n.number sound fresh all d m)).unlinked;
     }
 
 -- One unit

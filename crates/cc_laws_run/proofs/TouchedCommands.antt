@@ -1,8 +1,8 @@
 -- COMMANDS LEAVE NAMES ALONE that are apart, in each of their parts, and so what is doomed stays so.
-use Rattle.std.proofs.Common.{◌≡◌, ℕ, ◌+◌, ◌≤◌, Bool, true, false, not, List, [], ◌∷◌, ◌++◌, Option, Some, None, refl, sym, subst, inl, ⊎_elim, arith, option_to_list, ◌⊎◌, inr}
-use Rattle.std.proofs.lemmas.Bool.{false≢true}
+use Rattle.std.proofs.Common.{◌≡◌, ℕ, ◌+◌, ◌≤◌, Bool, true, false, not, List, [], ◌∷◌, ◌++◌, Option, Some, None, refl, sym, ap, subst, inl, ⊎_elim, arith, option_to_list, ◌⊎◌, inr}
+use Rattle.std.proofs.lemmas.Bool.{false≢true, cases_Bool}
 use Rattle.cc_lists.specs.Members.{Among, has}
-use Rattle.cc_lists.proofs.Members.{Among-append, Among-filtered, has-among}
+use Rattle.cc_lists.proofs.Members.{Among-append, Among-filter, Among-filtered, has-among}
 use Rattle.cc_lists.proofs.Least.{derived-within}
 use Rattle.cc_lists.proofs.Closure.{closure-derived}
 use Rattle.cc_names.specs.declared.name.Name.{Name}
@@ -16,7 +16,7 @@ use Rattle.cc_names.proofs.NameTests.{same_name-exact}
 use Rattle.cc_model.specs.declared.command.Command.{Command}
 use Rattle.cc_model.specs.Deeds.{Deed, nothing_done, native_made, plain_made, map_made, proxy_made, native_held, script_held, script_copied, native_stored, slot_moved, script_stored, reflector_held, reflector_preserved, entry_written, object_exposed, weak_written, deed_of}
 use Rattle.cc_model.specs.Slots.{reflector_slots}
-use Rattle.cc_model.specs.Entries.{Entry, is_entry_of, with_entry, without_entry, Joint, joints, entry}
+use Rattle.cc_model.specs.Entries.{Entry, is_entry_of, with_entry, without_entry, Joint, joint, joints, entry}
 use Rattle.cc_model.specs.Checks.{slot_at, native_of, reflector_of}
 use Rattle.cc_model.specs.Heap.{Heap, HeapNative, HeapScript, change_native, change_script, with_native_slot, with_script_slot, register, set_register, set_slot, objects_of, preserve, has_reflector, delegate_at, new_script, native_to_make}
 use Rattle.cc_model.specs.View.{view, native_edges, script_edges}
@@ -26,7 +26,7 @@ use Rattle.cc_model.specs.Effects.{done_in, effects, touched, taken_out, put_in_
 use Rattle.cc_model.specs.WellFormed.{IsWellFormed}
 use Rattle.cc_model.specs.Snapshot.{Snapshot}
 use Rattle.cc_model.proofs.Joints.{Gives, its_key, gives-joint, joint-cases, its_value}
-use Rattle.cc_laws_heap.proofs.EntryLists.{with_entry-cases}
+use Rattle.cc_laws_heap.proofs.EntryLists.{is_entry_of-parts, with_entry-cases}
 use Rattle.cc_laws_heap.proofs.Making.{contents-empty_none, native_names-made}
 use Rattle.cc_laws_heap.proofs.ViewEdges.{native_edges-are, script_edges-are}
 use Rattle.cc_laws_snapshot.proofs.SoundView.{named-there}
@@ -41,7 +41,7 @@ use Rattle.cc_laws_heap.proofs.Natives.{KeepsNumber}
 use Rattle.cc_laws_heap.proofs.Leaving.{IsOf, OthersStay-change_native}
 use Rattle.cc_laws_heap.proofs.Naming.{EachNamed}
 use Rattle.cc_laws_heap.proofs.CommandsColours.{blank-holds}
-use Rattle.cc_laws_run.proofs.TouchedReads.{IsApart, register-untouched, slot_at-untouched, reflector_of-untouched, deed-untouched}
+use Rattle.cc_laws_run.proofs.TouchedReads.{IsApart, register-untouched, slot_at-untouched, reflector_of-untouched, NamesMap, deed-untouched, map-untouched}
 use Rattle.cc_laws_run.proofs.JointLists.{joints-within}
 
 -- a place that is to hold a name that is no member
@@ -107,6 +107,40 @@ entry-old ds h m k d v no_key out j i at = subst (λ es. Among j (joints es)) (s
 
     was : (e : Entry) × Among e (with_entry h.entries m k d v) × Gives e j → Among j (joints h.entries)
     was f = ⊎_elim (λ same. absurd (new f.0 j same f.2 i)) (λ old. gives-joint h.entries f.0 j old f.2) (with_entry-cases h.entries m k d v f.0 f.1)
+
+-- an entry of another map or another key stays where one is taken out
+pub without_entry-other : (es : List Entry) (m k : Name) (e : Entry) → Among e es → Among e (without_entry es m k) ⊎ ((e.the_map ≡ m) × (e.key ≡ k))
+without_entry-other es m k e i = ⊎_elim
+    (λ t. inr (is_entry_of-parts m k e t))
+    (λ t. inl (Among-filter (λ f. not (is_entry_of m k f)) e es i (ap not t)))
+    (cases_Bool (is_entry_of m k e))
+
+-- an entry of another map or another key stays where one is set
+pub with_entry-other : (es : List Entry) (m k : Name) (d : Option Name) (v : Name) (e : Entry) → Among e es → Among e (with_entry es m k d v) ⊎ ((e.the_map ≡ m) × (e.key ≡ k))
+with_entry-other [] m k d v e i = absurd i
+with_entry-other (f ∷ es) m k d v e i = go (with_entry-other es m k d v e) (is_entry_of m k f) refl i
+  where
+    go : (Among e es → Among e (with_entry es m k d v) ⊎ ((e.the_map ≡ m) × (e.key ≡ k))) → (b : Bool) → is_entry_of m k f ≡ b → Among e (f ∷ es) →
+        Among e (elim b [ true ↦ entry m k d v ∷ es | false ↦ f ∷ with_entry es m k d v ]) ⊎ ((e.the_map ≡ m) × (e.key ≡ k))
+    go ih true t j = ⊎_elim
+        (λ s. inr (subst (λ (z : Entry). (z.the_map ≡ m) × (z.key ≡ k)) s (is_entry_of-parts m k f t)))
+        (λ s. inl (inr s)) j
+    go ih false t j = ⊎_elim (λ s. inl (inl s)) (λ s. ⊎_elim (λ l. inl (inr l)) (λ r. inr r) (ih s)) j
+
+-- What gives a member stays where an entry is written whose map and key are none.
+entry-kept : (ds : List Name) (h : Heap) → IsApart ds h → (m k : Name) → ¬ (Among m ds) → ¬ (Among k ds) → (es : List Entry) →
+    ((e : Entry) → Among e h.entries → Among e es ⊎ ((e.the_map ≡ m) × (e.key ≡ k))) →
+    (j : Joint) → Among j.value ds → Among j (joints h.entries) → Among j (joints es)
+entry-kept ds h d m k no_map no_key es other j i at =
+    let f = joint-cases h.entries j at in
+    ⊎_elim (λ l. gives-joint es f.0 j l f.2) (λ r. absurd (gone f.0 j f.2 r i at)) (other f.0 f.1)
+  where
+    gone : (e : Entry) (j : Joint) → Gives e j → (e.the_map ≡ m) × (e.key ≡ k) → Among j.value ds → Among j (joints h.entries) → ⊥
+    gone e _ its_value r i at = ⊎_elim
+        (λ l. no_map (subst (λ z. Among z ds) r.0 l))
+        (λ l. no_key (subst (λ z. Among z ds) r.1 l))
+        (d.joint (joint e.the_map e.key e.value) at i)
+    gone e _ (its_key x q) r i at = no_key (subst (λ z. Among z ds) r.1 i)
 
 module _ (ds : List Name) (g : Heap) where
   -- heaps that leave these names alone
@@ -203,18 +237,23 @@ module _ (ds : List Name) (g : Heap) where
       Left h → Left (put_in_script h z i x)
   leaves-put_in_script h z i x out own none d = leaves-slot (preserve h z) z i x out none (leaves-preserve h z out own d)
 
-  -- entries changed, with no new joint that gives a member
-  pub leaves-entries : (h : Heap) (es : List Entry) → ((j : Joint) → Among j.value ds → Among j (joints es) → Among j (joints h.entries)) → Left h → Left (record h { entries = es })
-  leaves-entries h es old = leaves-still ds g h (record h { entries = es }) (omega arith) (omega arith) refl (Spares-entries ds h es old)
+  -- entries changed, with the same joints that give members
+  pub leaves-entries : (h : Heap) (es : List Entry) → ((j : Joint) → Among j.value ds → Among j (joints es) → Among j (joints h.entries)) →
+      ((j : Joint) → Among j.value ds → Among j (joints h.entries) → Among j (joints es)) → Left h → Left (record h { entries = es })
+  leaves-entries h es old kept = leaves-still ds g h (record h { entries = es }) (omega arith) (omega arith) refl (Spares-entries ds h es old kept)
 
   -- an entry set or taken out
-  pub leaves-set_entry : (h : Heap) (m k v : Option Name) → IsUntouched ds k → IsUntouched ds (native_of k) → IsUntouched ds v → Left h → Left (set_entry h m k v)
-  leaves-set_entry h (Some m) (Some k) None a o b d = leaves-entries h (without_entry h.entries m k)
-      (λ j i at. joints-within (without_entry h.entries m k) h.entries (λ e n. Among-filtered (λ f. not (is_entry_of m k f)) e h.entries n) j at) d
-  leaves-set_entry h (Some m) (Some k) (Some v) a o b d = leaves-entries (preserve h (Some k)) (with_entry h.entries m k (delegate_at h k) v)
+  pub leaves-set_entry : (h : Heap) (m k v : Option Name) → IsUntouched ds m → IsUntouched ds k → IsUntouched ds (native_of k) → IsUntouched ds v → Left h → Left (set_entry h m k v)
+  leaves-set_entry h (Some m) (Some k) None n a o b d = leaves-entries h (without_entry h.entries m k)
+      (λ j i at. joints-within (without_entry h.entries m k) h.entries (λ e n. Among-filtered (λ f. not (is_entry_of m k f)) e h.entries n) j at)
+      (λ j i at. entry-kept ds h d.apart m k (n m (inl refl)) (a k (inl refl)) (without_entry h.entries m k)
+      (λ e t. without_entry-other h.entries m k e t) j i at) d
+  leaves-set_entry h (Some m) (Some k) (Some v) n a o b d = leaves-entries (preserve h (Some k)) (with_entry h.entries m k (delegate_at h k) v)
       (entry-old ds h m k (delegate_at h k) v (a k (inl refl)) (b v (inl refl)))
+      (λ j i at. entry-kept ds h d.apart m k (n m (inl refl)) (a k (inl refl)) (with_entry h.entries m k (delegate_at h k) v)
+      (λ e t. with_entry-other h.entries m k (delegate_at h k) v e t) j i (subst (λ es. Among j (joints es)) (entries-preserve h (Some k)) at))
       (leaves-preserve h (Some k) a o d)
-  leaves-set_entry h _ _ v a o b d = d
+  leaves-set_entry h _ _ v n a o b d = d
 
   -- Objects made
 
@@ -272,30 +311,30 @@ module _ (ds : List Name) (g : Heap) where
 
   -- a deed that names no member, where the next numbers are of none
   leaves-done : (h : Heap) (d : Deed) → KeepsReflectors ds → ¬ (Among (native (h.natives_made + 1)) ds) → ¬ (Among (object (h.scripts_made + 1)) ds) →
-      EachNamed (IsUntouched ds) d → Left h → Left (done_in h d).heap
+      NamesMap (IsUntouched ds) d → EachNamed (IsUntouched ds) d → Left h → Left (done_in h d).heap
   unfolding done_in
-  leaves-done h nothing_done keeps a b u l = l
-  leaves-done h (native_made r n) keeps a b u l = leaves-make_native h r n a l
-  leaves-done h (plain_made r n) keeps a b u l = leaves-make_object h r Plain n None b (λ y m i. m) l
-  leaves-done h (map_made r) keeps a b u l = leaves-make_object h r Map 0 None b (λ y m i. m) l
-  leaves-done h (proxy_made r x) keeps a b u l = leaves-make_proxy h r x b u.0 u.1 l
-  leaves-done h (native_held r x) keeps a b u l = leaves-hold_native h r x u l
-  leaves-done h (script_held r x) keeps a b u l = leaves-hold_script h r x u l
-  leaves-done h (script_copied r x) keeps a b u l = leaves-register h (S r) x u l
-  leaves-done h (native_stored r i x) keeps a b u l = leaves-store_native h r i x u l
-  leaves-done h (slot_moved r i q j) keeps a b u l = leaves-move_slot h r i q j l
-  leaves-done h (script_stored x i y) keeps a b u l = leaves-put_in_script h x i y u.0 u.1 u.2 l
-  leaves-done h (reflector_held r x) keeps a b u l = leaves-register (wrapped h x) (S r) (reflector_of x) (reflector_of-untouched ds x keeps u) (leaves-wrapped h x keeps u l)
-  leaves-done h (reflector_preserved x) keeps a b u l = leaves-preserve h x u.0 u.1 l
-  leaves-done h (entry_written m k v) keeps a b u l = leaves-set_entry h m k v u.0 u.1 u.2 l
-  leaves-done h (object_exposed x) keeps a b u l = leaves-exposed h x u l
-  leaves-done h (weak_written w x) keeps a b u l = l
+  leaves-done h nothing_done keeps a b n u l = l
+  leaves-done h (native_made r c) keeps a b n u l = leaves-make_native h r c a l
+  leaves-done h (plain_made r c) keeps a b n u l = leaves-make_object h r Plain c None b (λ y m i. m) l
+  leaves-done h (map_made r) keeps a b n u l = leaves-make_object h r Map 0 None b (λ y m i. m) l
+  leaves-done h (proxy_made r x) keeps a b n u l = leaves-make_proxy h r x b u.0 u.1 l
+  leaves-done h (native_held r x) keeps a b n u l = leaves-hold_native h r x u l
+  leaves-done h (script_held r x) keeps a b n u l = leaves-hold_script h r x u l
+  leaves-done h (script_copied r x) keeps a b n u l = leaves-register h (S r) x u l
+  leaves-done h (native_stored r i x) keeps a b n u l = leaves-store_native h r i x u l
+  leaves-done h (slot_moved r i q j) keeps a b n u l = leaves-move_slot h r i q j l
+  leaves-done h (script_stored x i y) keeps a b n u l = leaves-put_in_script h x i y u.0 u.1 u.2 l
+  leaves-done h (reflector_held r x) keeps a b n u l = leaves-register (wrapped h x) (S r) (reflector_of x) (reflector_of-untouched ds x keeps u) (leaves-wrapped h x keeps u l)
+  leaves-done h (reflector_preserved x) keeps a b n u l = leaves-preserve h x u.0 u.1 l
+  leaves-done h (entry_written m k v) keeps a b n u l = leaves-set_entry h m k v n u.0 u.1 u.2 l
+  leaves-done h (object_exposed x) keeps a b n u l = leaves-exposed h x u l
+  leaves-done h (weak_written w x) keeps a b n u l = l
 
 -- COMMANDS LEAVE NAMES ALONE that are apart, where the next numbers are of none of them.
 pub command-leaves : (ds : List Name) (h : Heap) (c : Command) → IsWellFormed h → KeepsReflectors ds → ¬ (Among (native (h.natives_made + 1)) ds) →
     ¬ (Among (object (h.scripts_made + 1)) ds) → IsApart ds h → Leaves ds h (effects h c).heap
 unfolding effects
-command-leaves ds h c w keeps a b d = leaves-done ds h h (deed_of (objects_of h) c) keeps a b (deed-untouched ds h d w c) (leaves-refl ds h d)
+command-leaves ds h c w keeps a b d = leaves-done ds h h (deed_of (objects_of h) c) keeps a b (map-untouched ds h d c) (deed-untouched ds h d w c) (leaves-refl ds h d)
 
 -- What is doomed
 
@@ -313,9 +352,19 @@ next_object-undoomed s ds h w d m =
     (named-there h (object (h.scripts_made + 1)) (d.scripts (object (h.scripts_made + 1)) m refl))).1 in
     absurd (omega arith)
 
+-- COMMANDS SPARE WHAT IS DOOMED.
+pub effects-spare : (s : Snapshot) (ds : List Name) (h : Heap) (c : Command) → IsWellFormed h → KeepsReflectors ds → IsDoomed (view h) s ds →
+    Spares ds (view h) (view (effects h c).heap)
+effects-spare s ds h c w keeps d = (command-leaves ds h c w keeps (next_native-undoomed s ds h w d) (next_object-undoomed s ds h w d)
+    (record { unregistered = d.unregistered; holder = d.holder; joint = d.joint })).spares
+
 -- COMMANDS LEAVE WHAT IS DOOMED.
 pub doomed-effects : (s : Snapshot) (ds : List Name) (h : Heap) (c : Command) → IsWellFormed h → KeepsReflectors ds → IsDoomed (view h) s ds →
     IsDoomed (view (effects h c).heap) s ds
-doomed-effects s ds h c w keeps d = doomed-spared s ds (view h) (view (effects h c).heap)
-    (command-leaves ds h c w keeps (next_native-undoomed s ds h w d) (next_object-undoomed s ds h w d)
-    (record { unregistered = d.unregistered; holder = d.holder; joint = d.joint })).spares d
+doomed-effects s ds h c w keeps d = doomed-spared s ds (view h) (view (effects h c).heap) (effects-spare s ds h c w keeps d) d
+
+-- A NATIVE REGISTER THAT GETS what is not doomed spares what is.
+pub hold_native-spares : (s : Snapshot) (ds : List Name) (h : Heap) (r : ℕ) (x : Option Name) → IsUntouched ds x → IsDoomed (view h) s ds →
+    Spares ds (view h) (view (hold_native h r x).heap)
+hold_native-spares s ds h r x none d = (leaves-hold_native ds h h r x none
+    (leaves-refl ds h (record { unregistered = d.unregistered; holder = d.holder; joint = d.joint }))).spares

@@ -19,7 +19,8 @@ use Rattle.cc_model.specs.Slots.{contents}
 use Rattle.cc_model.specs.Entries.{Entry, is_entry_of, value_in, Joint, joints, joint, rule_of, rules_of}
 use Rattle.cc_model.specs.Checks.{slots_or_none, slot_at, value_at, native_of, reflector_of}
 use Rattle.cc_model.specs.declared.command.Command.{Command}
-use Rattle.cc_model.specs.Deeds.{deed_of}
+use Rattle.cc_model.specs.declared.command.Command.TheVariants.{Drop, Get, SetEntry}
+use Rattle.cc_model.specs.Deeds.{Deed, entry_written, deed_of}
 use Rattle.cc_model.specs.Heap.{Heap, HeapNative, HeapScript, native_at, script_at, slots_in, slots_of_script, slots_of_kind, register, objects_of}
 use Rattle.cc_model.specs.View.{view, ReachedIn}
 use Rattle.cc_model.specs.WellFormed.{IsWellFormed}
@@ -148,3 +149,20 @@ deed-untouched ds h d w = deed-named (IsUntouched ds) (objects_of h) (record {
   value = λ m k. value_at-untouched ds h d (register h (S m)) (register h (S k)) (register-untouched ds h d (S m)) (register-untouched ds h d (S k));
   behind = λ r. native_of-untouched ds h d r w;
 })
+
+-- what a deed writes an entry of: its map
+abbrev pub NamesMap : (Option Name → Type 0) → Deed → Type 0
+NamesMap P (entry_written m k v) = P m
+NamesMap P d = Unit {0}
+
+-- It is no member either.
+pub map-untouched : (ds : List Name) (h : Heap) → IsApart ds h → (c : Command) → NamesMap (IsUntouched ds) (deed_of (objects_of h) c)
+unfolding deed_of
+map-untouched ds h d (SetEntry m k v) = register-untouched ds h d (S m)
+map-untouched ds h d (Drop (N r)) = tt
+map-untouched ds h d (Drop (S r)) = tt
+map-untouched ds h d (Drop (W r)) = tt
+map-untouched ds h d (Get (N r) s i) = tt
+map-untouched ds h d (Get (S r) s i) = tt
+map-untouched ds h d (Get (W r) s i) = tt
+map-untouched ds h d c = tt

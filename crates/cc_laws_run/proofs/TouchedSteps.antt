@@ -20,6 +20,7 @@ Spares-trans ds u v w a b = record {
   edges = λ x y m e. a.edges x y m (b.edges x y m e);
   joints = λ e m i. a.joints e m (b.joints e m i);
   within = λ x y m n e. b.within x y m n (a.within x y m n e);
+  kept = λ e m i. b.kept e m (a.kept e m i);
 }
 
 -- The second heaps leave the names alone that the first have: they spare them, give out no number of them,
@@ -35,7 +36,7 @@ pub record Leaves (ds : List Name) (g h : Heap) : Type 0 where
 pub leaves-refl : (ds : List Name) (h : Heap) → IsApart ds h → Leaves ds h h
 leaves-refl ds h d = record {
   apart = d;
-  spares = Spares-entries ds h h.entries (λ e m i. i);
+  spares = Spares-entries ds h h.entries (λ e m i. i) (λ e m i. i);
   natives_made = omega arith;
   scripts_made = omega arith;
   members = λ n there m. (n, there, refl);

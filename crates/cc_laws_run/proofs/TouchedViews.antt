@@ -21,7 +21,7 @@ use Rattle.cc_laws_snapshot.proofs.ReachedStays.{native-edge, script-edge}
 use Rattle.cc_laws_run.specs.Doomed.{IsDoomed}
 use Rattle.cc_laws_snapshot.proofs.NamesAndEdges.{living-of_named}
 
--- Members stay; what holds or marks one of them did so before; what one holds of them it still holds.
+-- Members stay; what holds or marks one of them did so before; what one holds of them it still holds, and what entries give of them they still give.
 pub record Spares (ds : List Name) (v w : View) : Type 0 where
   pub natives : (i : ℕ) → Among (native i) ds → IsLiving v (native i) → IsLiving w (native i)
   pub scripts : (x : Name) → Among x ds → IsScriptThere v x → IsScriptThere w x
@@ -31,6 +31,7 @@ pub record Spares (ds : List Name) (v w : View) : Type 0 where
   pub edges : (x y : Name) → Among y ds → Among (x, y) w.edges → Among (x, y) v.edges
   pub joints : (e : Joint) → Among e.value ds → Among e w.joints → Among e v.joints
   pub within : (x y : Name) → Among x ds → Among y ds → Among (x, y) v.edges → Among (x, y) w.edges
+  pub kept : (e : Joint) → Among e.value ds → Among e v.joints → Among e w.joints
 
 -- What is doomed stays so where it is spared.
 pub doomed-spared : (s : Snapshot) (ds : List Name) (v w : View) → Spares ds v w → IsDoomed v s ds → IsDoomed w s ds
@@ -42,8 +43,8 @@ doomed-spared s ds v w p d = record {
   unmarked = λ x m r. d.unmarked x m (p.black x m r);
   holder = λ x y e m. d.holder x y (p.edges x y m e) m;
   joint = λ e i m. d.joint e (p.joints e m i) m;
-  noter = d.noter;
-  mapper = d.mapper;
+  noted_held = λ x y m i. p.within x y (d.holder x y (d.noted_held x y m i) i) i (d.noted_held x y m i);
+  mapping_held = λ m n i. let e = d.mapping_held m n i in (e.0, p.kept e.0 (subst (λ z. Among z ds) (sym e.2.value) i) e.1, e.2);
   covered = λ x m. covered x (d.covered x m) m;
 }
   where
@@ -77,10 +78,10 @@ module _ (ds : List Name) (h : Heap) where
       Spares ds (view h) (view (record h { buffer = bs }))
   Spares-buffer bs old = grind arith
 
-  -- entries changed; each joint that gives a member was there
+  -- entries changed; the joints that give members are those that were there
   pub Spares-entries : (es : List Entry) → ((e : Joint) → Among e.value ds → Among e (joints es) → Among e (joints h.entries)) →
-      Spares ds (view h) (view (record h { entries = es }))
-  Spares-entries es old = grind arith
+      ((e : Joint) → Among e.value ds → Among e (joints h.entries) → Among e (joints es)) → Spares ds (view h) (view (record h { entries = es }))
+  Spares-entries es old kept = grind arith
 
   -- natives changed: members among them stay and hold what members they held; no edge to a member is new
   pub Spares-natives : (ns : List HeapNative) →
@@ -106,6 +107,7 @@ module _ (ds : List Name) (h : Heap) where
         native-edge g k.0 x y k.1 (subst (λ z. Among (z, y) (native_edges k.0)) start
         (k.3 y b (subst (λ z. Among (z, y) (native_edges f.0)) (sym start) f.2))))
         (λ f. script-edge g f.0 x y f.1 f.2) (edge-cases h x y e);
+    kept = λ e m i. i;
   }
     where
       g : Heap
@@ -139,6 +141,7 @@ module _ (ds : List Name) (h : Heap) where
         script-edge g k.0 x y k.1 (subst (λ z. Among (z, y) (script_edges k.0)) start
         (k.3 y b (subst (λ z. Among (z, y) (script_edges f.0)) (sym start) f.2))))
         (edge-cases h x y e);
+    kept = λ e m i. i;
   }
     where
       g : Heap

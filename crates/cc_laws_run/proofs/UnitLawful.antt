@@ -25,6 +25,7 @@ use Rattle.cc_model.specs.Listed.{census_order, after_events}
 use Rattle.cc_model.specs.Lawful.{MayBe, EachMayBe, runs_units, is_gc, has_none, runs, unlinked_in, unlinked_numbers}
 use Rattle.cc_model.specs.Run.{census_names}
 use Rattle.cc_laws_heap.specs.Sound.{IsSound}
+use Rattle.cc_laws_heap.specs.Apart.{AreApart}
 use Rattle.cc_laws_heap.specs.Ending.{freed_in, freed_numbers, AreThere, TakesAway}
 use Rattle.cc_laws_heap.proofs.Kept.{IsBuffer, with_buffer}
 use Rattle.cc_laws_heap.proofs.Coloured.{AreColoured-from_view, HasColourInvariant-from}
@@ -34,7 +35,7 @@ use Rattle.cc_laws_heap.proofs.EndsStand.{take_away-stands, take_away-unreached}
 use Rattle.cc_laws_snapshot.proofs.Beginning.{begun-fresh}
 use Rattle.cc_laws_snapshot.proofs.NodeUnit.{after_node-fresh}
 use Rattle.cc_laws_run.specs.Running.{IsFreshNow}
-use Rattle.cc_laws_snapshot.proofs.WhiteNatives.{white_natives-there, white_natives-unreached_in}
+use Rattle.cc_laws_snapshot.proofs.WhiteNatives.{white_natives-apart, white_natives-there, white_natives-unreached_in}
 use Rattle.cc_laws_snapshot.proofs.GivingBack.{given_back, give_back-buffer, given_back-buffer}
 use Rattle.cc_laws_heap.proofs.BufferStands.{IsSound-buffer, HasColourInvariant-buffer, StandsFor-buffer}
 use Rattle.cc_laws_run.proofs.FreedListed.{there-listed, census_names-end}
@@ -92,17 +93,17 @@ traversed-none (n ∷ ns) e x m = go (traversed-none ns) (is_untraversed n.state
         (λ t. ih f x t) m
 
 module _ (g : Graph) (well : IsWellMade g) (c : Command) (moves : (runs_units c || is_gc c) ≡ true) (names : List Name) where
-  -- THE END over natives that are there and that no register reaches
+  -- THE END over natives that are there and apart, and that no register reaches
   pub end-lawful : (h : Heap) (ks : List ℕ) → IsSound [] h → HasColourInvariant (view h) → StandsFor h g → census_names h ≡ census_order names →
-      AreThere ks h → ((k : ℕ) → Among k ks → ¬ (Reached g (native k))) → UnitIsLawful g names c (ending (take_away ks h))
-  end-lawful h ks sound colours stands listed are unreached = record {
+      AreThere ks h → AreApart h ks → ((k : ℕ) → Among k ks → ¬ (Reached g (native k))) → UnitIsLawful g names c (ending (take_away ks h))
+  end-lawful h ks sound colours stands listed are apart unreached = record {
     still = record {
       sound = take_away-sound h ks sound are.there;
       colours = HasColourInvariant-from o.heap (take_away-sound h ks sound are.there).well_formed
           (SameScripts-coloured h o.heap (record { scripts = t.scripts; registers = t.script_registers })
           (AreColoured-from_view h sound.well_formed colours));
       fresh = tt;
-      stands = take_away-stands h g ks sound are.there well stands unreached;
+      stands = take_away-stands h g ks sound are.there well stands apart;
       listed = census_names-end h o.heap names o.events freed sound.well_formed listed t.natives_alone t.told t.natives t.scripts;
     };
     each = each-from g c o.events names may last;
@@ -141,7 +142,7 @@ module _ (g : Graph) (well : IsWellMade g) (c : Command) (moves : (runs_units c 
       may (Freed x) i =
           let k = t.natives_alone (Freed x) i in (
             is_listed x k.0 k.1 (t.were_there k.0 (subst (Among k.0) t.told (Among-flat_map freed_in (Freed x) k.0 o.events i (own_number x k.0 k.1)))),
-            take_away-unreached h g ks sound are.there well stands unreached x i,
+            take_away-unreached h g ks sound are.there well stands apart x i,
             subst (λ y. (is_native y || is_gc c) ≡ true) (sym k.1) refl,
           )
       may (Unlinked x) i =
@@ -187,6 +188,7 @@ module _ (g : Graph) (well : IsWellMade g) (c : Command) (moves : (runs_units c 
     where
       go : (o : Option Name) → first_untraversed s.nodes ≡ o → UnitIsLawful g names c (node_or_end h s o)
       go None e = end-lawful h (white_natives h s) r.sound r.colours r.stands r.listed (white_natives-there h s r.sound)
+          (white_natives-apart h s r.sound r.fresh (traversed-none s.nodes e))
           (white_natives-unreached_in h s r.sound r.fresh (traversed-none s.nodes e) g well r.stands)
       go (Some x) e = record {
         still = record { sound = r.sound; colours = r.colours; fresh = after_node-fresh h s x r.sound r.fresh e; stands = r.stands; listed = r.listed };

@@ -32,6 +32,12 @@ garbage h = filter (is_unreached (view h)) (names_there h)
 abbrev pub IsMember : Name → Mapping → Type 0
 IsMember p m = (m.the_map ≡ Some p) ⊎ (m.key ≡ Some p)
 
+-- a mapping gives what a joint gives, and has those members of it that are among these names
+pub record IsMappingOf (ds : List Name) (m : Mapping) (e : Joint) : Type 0 where
+  pub value : e.value ≡ m.value
+  pub the_map : Among e.the_map ds → m.the_map ≡ Some e.the_map
+  pub key : Among e.key ds → m.key ≡ Some e.key
+
 -- names that only such names hold: no register, no place in the buffer and no black mark has one of them
 pub record IsDoomed (v : View) (s : Snapshot) (ds : List Name) : Type 0 where
   -- they are there
@@ -44,9 +50,10 @@ pub record IsDoomed (v : View) (s : Snapshot) (ds : List Name) : Type 0 where
   -- or the delegate of one whose key is a proxy and is one
   pub holder : (x y : Name) → Among (x, y) v.edges → Among y ds → Among x ds
   pub joint : (e : Joint) → Among e v.joints → Among e.value ds → Among e.the_map ds ⊎ Among e.key ds
-  -- and what the snapshot has noted says the same
-  pub noter : (x y : Name) → Among (x, y) s.references → Among y ds → Among x ds
-  pub mapper : (m : Mapping) → Among m s.mappings → Among m.value ds → (p : Name) × IsMember p m × Among p ds
+  -- and what the snapshot has noted of them is so still: who noted one holds it, and a mapping that gives one is that of a joint. So who
+  -- noted one is one, and a mapping that gives one has a member that is one
+  pub noted_held : (x y : Name) → Among (x, y) s.references → Among y ds → Among (x, y) v.edges
+  pub mapping_held : (m : Mapping) → Among m s.mappings → Among m.value ds → (e : Joint) × Among e v.joints × IsMappingOf ds m e
   -- each is reached over references from a node
   pub covered : (x : Name) → Among x ds → Least (system (node_names s) v.edges []) x
 

@@ -2,6 +2,7 @@ pub mod Running
 pub mod Memory
 pub mod GivenUp
 pub mod Doomed
+pub mod Returning
 pub mod Followed
 pub mod Missing
 pub mod Spent

@@ -1,5 +1,7 @@
 -- A MACHINE THAT RUNS, beside the graph and the names that a census would list.
-use Rattle.std.specs.Prelude.{◌≡◌, Bool, true, false, List, [], ◌∷◌, Option, Some, None}
+use Rattle.std.specs.Prelude.{◌≡◌, ℕ, ◌≤◌, Bool, true, false, List, [], ◌∷◌, Option, Some, None}
+use Rattle.cc_lists.specs.Members.{Among}
+use Rattle.cc_names.specs.Names.{native}
 use Rattle.cc_model.specs.Ranges.{in_range}
 use Rattle.cc_model.specs.Answers.{Answer}
 use Rattle.cc_model.specs.Mutating.{so_many, whole, Class, says, does, forgets, reads_weak, runs, collects_scripts, class_of}
@@ -8,6 +10,7 @@ use Rattle.cc_model.specs.Heap.{Heap}
 use Rattle.cc_model.specs.View.{view}
 use Rattle.cc_model.specs.WellMade.{IsWellMade}
 use Rattle.cc_model.specs.StandsFor.{StandsFor}
+use Rattle.cc_model.specs.Ended.{EndedAgrees}
 use Rattle.cc_model.specs.Colours.{HasColourInvariant}
 use Rattle.cc_model.specs.Snapshot.{Snapshot}
 use Rattle.cc_model.specs.Fresh.{IsFresh}
@@ -22,7 +25,8 @@ abbrev pub IsFreshNow : Heap → Option Snapshot → Type 0
 IsFreshNow h None = Unit {0}
 IsFreshNow h (Some s) = IsFresh h.natives_made (view h) s
 
--- the heaps are sound and stand for the graph, their snapshot is fresh, and their objects are those listed
+-- the heaps are sound and stand for the graph, their snapshot is fresh, and their objects are those listed; the weak registers note
+-- what the graph's note, and the natives that have ended are those that are gone or were unlinked
 pub record IsRunning (m : Machine) (s : State) : Type 0 where
   pub sound : IsSound [] m.heap
   pub colours : HasColourInvariant (view m.heap)
@@ -30,6 +34,9 @@ pub record IsRunning (m : Machine) (s : State) : Type 0 where
   pub well_made : IsWellMade s.graph
   pub stands : StandsFor m.heap s.graph
   pub listed : census_names m.heap ≡ census_order s.listed
+  pub weak : m.weak ≡ s.graph.weak_registers
+  pub ended : EndedAgrees m.heap s.ended
+  pub ended_made : (k : ℕ) → Among (native k) s.ended → k ≤ m.heap.natives_made
 
 -- the numbers of an ask are in range
 abbrev pub ask_in_range : Ask → Bool

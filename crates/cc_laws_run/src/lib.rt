@@ -11,6 +11,7 @@
 //! - `specs/Doomed.antt`: no unreached native is forgotten (`IsSuspectedNow`), and names that a collection can't miss
 //!   (`IsDoomedNow`);
 //! - `specs/Followed.antt`: one collection followed through asks (`first_collection`);
+//! - `specs/Returning.antt`: what a weak reference may have brought back (`MayBeBack`), for laws of a collection after `gc`;
 //! - `specs/Missing.antt`: what a collection after `gc` unlinks (`lost`, `MissesNone`, `MissesNothing`);
 //! - `specs/Spent.antt`: what it has unlinked (`IsSpent`), for `unlinked_are_gone_after_gc` alone;
 //! - `specs/UnitsTaken.antt`: how many units a collection has taken (`units_taken`), for `collections_take_a_unit_a_node`

@@ -10,7 +10,8 @@ ghost use Rattle.cc_model.specs.Collecting.{empty_machine};
 ghost use Rattle.cc_model.specs.Run.{machine_after, plain_run};
 ghost use Rattle.cc_laws_run.specs.Running.{IsRunning, ask_in_range, state_after};
 ghost use Rattle.cc_laws_run.specs.Doomed.{IsSuspectedNow};
-ghost use Rattle.cc_laws_run.specs.Missing.{BeginsAfterGc, MissesNothing};
+ghost use Rattle.cc_laws_run.specs.Returning.{brings_none_back};
+ghost use Rattle.cc_laws_run.specs.Missing.{BeginsAfterGc, MissesNothing, MissesNothingAtAll};
 
 /// After any asks in range the machine runs: its heaps are sound and stand for the graph that the replies make, its
 /// snapshot is fresh, and its objects are those that a census would list.
@@ -27,9 +28,19 @@ pub fn runs_forget_nothing()
 
 /// A COLLECTION AFTER `gc` MISSES NOTHING, in any run from the empty heaps: for all limits, answers of memory and asks in
 /// range, with blank lines and comments between `gc` and the ask that begins the collection. Every native that was
-/// unreached when it began is told unlinked at its end, unless this collection was abandoned, and after the `gc` that comes
-/// next, or that ends it, none of them is in the heaps.
+/// unreached when it began, and that no weak reference may have brought back since, is told unlinked at its end, unless this
+/// collection was abandoned, and after the `gc` that comes next, or that ends it, none of these is in the heaps.
+///
+/// What may be back is what the graph gives from all names that were reached at some moment since the collection began, by its
+/// own rules and in place of the registers: with a native all comes back that it leads to. It is not only what was reached:
+/// the map of an entry may come back at one moment and its key at another, when the map is dropped again, and then the
+/// collection keeps the value.
+///
+/// Where the asks read no weak register nothing comes back, and every native that was unreached is told unlinked.
 pub fn runs_after_gc_miss_nothing()
-    ensures { (limits : Allowance) (memory : List Bool) (before blanks : List Ask) (ask : Ask) (asks : List Ask) →
+    ensures nothing { (limits : Allowance) (memory : List Bool) (before blanks : List Ask) (ask : Ask) (asks : List Ask) →
         BeginsAfterGc before blanks ask asks → MissesNothing limits memory (before ++ taken Gc ∷ blanks) (ask ∷ asks) }
+    ensures nothing_at_all { (limits : Allowance) (memory : List Bool) (before blanks : List Ask) (ask : Ask) (asks : List Ask) →
+        BeginsAfterGc before blanks ask asks → IsTrue (list_all brings_none_back asks) →
+        MissesNothingAtAll limits memory (before ++ taken Gc ∷ blanks) (ask ∷ asks) }
 {}

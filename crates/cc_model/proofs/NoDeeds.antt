@@ -12,7 +12,7 @@ use Rattle.cc_model.specs.Graph.{Graph, objects_of, done_to, changed, unless_ref
 use Rattle.cc_model.specs.Heap.{Heap}
 use Rattle.cc_model.specs.Effects.{takes_memory}
 use Rattle.cc_model.specs.Listed.{after_reply}
-use Rattle.cc_model.specs.Lawful.{step_of, graph_after}
+use Rattle.cc_model.specs.Lawful.{step_of, step_with, reply_of_class, reply_with, graph_after}
 
 -- a command that runs units of a collection is in range
 pub units-in_range : (c : Command) → is_units (class_of c) ≡ true → in_range c ≡ true
@@ -50,6 +50,16 @@ module _ (c : Command) (none : is_deed (class_of c) ≡ false) where
   -- where it reads no weak register, it takes none beside ended names either
   step_of-leaves : (ended : List Name) (g : Graph) (k : Class) → is_mutator k ≡ false → step_of ended g c k ≡ g
   step_of-leaves ended g k e = grind (arith, no_deed-leaves)
+
+  pub no_deed-steps : is_mutator (class_of c) ≡ false → (ended : List Name) (g : Graph) → step_with ended g c ≡ g
+  no_deed-steps e ended g = step_of-leaves ended g (class_of c) e
+
+  -- its reply is `= ok` there too
+  reply_of-done : (ended : List Name) (g : Graph) (k : Class) → is_mutator k ≡ false → reply_of_class ended g c k ≡ Done
+  reply_of-done ended g k e = grind (arith, no_deed-reply)
+
+  pub no_deed-replies : is_mutator (class_of c) ≡ false → (ended : List Name) (g : Graph) → reply_with ended g c ≡ Done
+  no_deed-replies e ended g = reply_of-done ended g (class_of c) e
 
   -- whatever is replied
   pub no_deed-graph : is_mutator (class_of c) ≡ false → (ended : List Name) (g : Graph) (reply : Option Reply) → graph_after ended g c reply ≡ g

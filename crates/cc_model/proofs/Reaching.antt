@@ -63,7 +63,7 @@ script-named g k o e = Among-right (object k) (flat_map with_reflector (numbers_
     (Among-map object k (numbers_from 1 g.scripts) (numbers-of g.scripts k o e))
 
 -- so does one that has an edge
-with-edge-named : (g : Graph) (x y : Name) → Among y (edges_of g x) → Among x (names_of g)
+pub with-edge-named : (g : Graph) (x y : Name) → Among y (edges_of g x) → Among x (names_of g)
 with-edge-named g (Native k) y m = go (native_in g k.0) refl m
   where
     go : (o : Option GraphNative) → native_in g k.0 ≡ o → Among y (contents (slots_or_none (option_map (places_of_made_native k.0) o))) → Among (native k.0) (names_of g)

@@ -47,3 +47,9 @@ pub why_without_a_line_feed : Works default_limits ample input.why_without_a_lin
     (codes "= ok\n= #1\n: #1 n0\n= ok\n")
 unfolding all_of_a_run
 why_without_a_line_feed = record { writes = refl; passes = refl; audited = refl }
+
+-- A suspect that a register reaches is no candidate once suspects are forgotten, so the collection takes three units.
+pub forgotten_suspect_is_no_candidate : Works default_limits ample input.forgotten_suspect_is_no_candidate
+    (codes "= ok\n= #1\n= #1\n= ok\n= #2\n= ok\n= ok\n= ok\n- unlink #2\n- free #2\n= ok\n")
+unfolding all_of_a_run
+forgotten_suspect_is_no_candidate = record { writes = refl; passes = refl; audited = refl }

@@ -37,4 +37,6 @@ pub mod Examples27
 pub mod Examples28
 pub mod Examples29
 pub mod Examples30
+pub mod Examples31
+pub mod Examples32
 pub mod Examples

@@ -957,3 +957,63 @@ why_of_one_byte_too_many = codes "version 2\nnative n0 0\nwhy #1\nwhy #1\n"
 -- It is answered in a last line that no line feed ends.
 abbrev pub why_without_a_line_feed : List ℕ
 why_without_a_line_feed = codes "version 2\nnative n0 0\nwhy #1"
+
+-- A suspect that a register reaches is no candidate once suspects are forgotten, so the collection takes three units.
+abbrev pub forgotten_suspect_is_no_candidate : List ℕ
+forgotten_suspect_is_no_candidate = codes "version 2\nnative n0 0\ncopy n1 n0\ndrop n1\nnative n2 1\nset n2 0 n2\ndrop n2\nforget\nslice 3\n"
+
+-- Without forget the same collection takes four units.
+abbrev pub suspect_that_is_not_forgotten_is_a_candidate : List ℕ
+suspect_that_is_not_forgotten_is_a_candidate = codes "version 2\nnative n0 0\ncopy n1 n0\ndrop n1\nnative n2 1\nset n2 0 n2\ndrop n2\nslice 3\nslice 1\n"
+
+-- A native that a register reaches over its reflector alone is no candidate once suspects are forgotten, and goes with the reflector.
+abbrev pub suspect_behind_a_reflector_is_forgotten : List ℕ
+suspect_behind_a_reflector_is_forgotten = codes "version 2\nnative n0 0\nwrap s0 n0\ndrop n0\nforget\nslice 2\ndrop s0\ngc\ncensus\n"
+
+-- Slots of natives and script objects, preserved reflectors, delegates and the natives of reflectors lead to what is forgotten: one of five suspects is left.
+abbrev pub suspects_are_forgotten_over_every_edge : List ℕ
+suspects_are_forgotten_over_every_edge = codes "version 2\nnative n0 1\nnative n1 1\nnative n2 0\nnative n3 0\nwrap s1 n0\nwrap s3 n3\nscript s4 1\nput s4 0 s3\nset n0 0 n1\nset n1 0 s4\nwrap s2 n1\nwrap s5 n2\nput s2 0 s5\nproxy s0 s1\ndrop s1\ndrop s2\ndrop s3\ndrop s4\ndrop s5\ndrop n0\ndrop n1\ndrop n2\ndrop n3\nnative n4 1\nset n4 0 n4\ndrop n4\nforget\nslice 3\n"
+
+-- A suspect that is reached as the value of an entry alone keeps its mark, so the collection takes four units.
+abbrev pub suspects_are_not_forgotten_over_entries : List ℕ
+suspects_are_not_forgotten_over_entries = codes "version 2\nnative n0 0\nwrap s2 n0\nweakmap s0\nscript s1 0\nwset s0 s1 s2\ndrop s2\ndrop n0\nnative n1 1\nset n1 0 n1\ndrop n1\nforget\nslice 3\nslice 1\n"
+
+-- A suspect whose reflector is black still, though no register reaches it, keeps its mark, so the collection takes four units.
+abbrev pub suspect_of_a_black_reflector_is_not_forgotten : List ℕ
+suspect_of_a_black_reflector_is_not_forgotten = codes "version 2\nnative n2 2\nwrap s1 n2\ndrop s1\ndrop n2\nnative n1 1\nset n1 0 n1\ndrop n1\nforget\nslice 3\nslice 1\n"
+
+-- A cycle through a black reflector is found by the next collection after gc.
+abbrev pub unreached_cycle_is_not_forgotten : List ℕ
+unreached_cycle_is_not_forgotten = codes "version 2\nnative n2 1\nwrap s1 n2\nset n2 0 s1\ndrop s1\ndrop n2\nforget\ngc\ncollect\ncensus\ngc\n"
+
+-- A native whose mark is taken in mid-collection stays in the buffer: what was counted at two moments looks like garbage, and is kept.
+abbrev pub forgotten_suspect_is_still_touched : List ℕ
+forgotten_suspect_is_still_touched = codes "version 2\nnative n1 1\nnative n0 1\nset n1 0 n0\nset n0 0 n1\ndrop n1\nslice 2\nget n1 n0 0\ncopy n2 n1\ndrop n2\ndrop n0\nforget\nslice 9\ncensus\ndrop n1\ncollect\ncensus\n"
+
+-- A collection that runs keeps its candidates, and ends after as many units.
+abbrev pub forget_leaves_a_running_collection : List ℕ
+forget_leaves_a_running_collection = codes "version 2\nnative n0 1\nset n0 0 n0\nnative n1 0\ncopy n2 n1\ndrop n2\ndrop n0\nslice 1\nforget\nslice 2\nforget\nslice 1\n"
+
+-- A native whose mark was taken is a candidate once a reference to it is given up again.
+abbrev pub suspected_again_after_forget : List ℕ
+suspected_again_after_forget = codes "version 2\nnative n0 1\nset n0 0 n0\ncopy n1 n0\ndrop n1\nforget\ndrop n0\ncollect\n"
+
+-- A second forget finds nothing more, and neither changes what is there.
+abbrev pub forgotten_twice : List ℕ
+forgotten_twice = codes "version 2\nnative n0 0\ncopy n1 n0\ndrop n1\nnative n2 1\nset n2 0 n2\ndrop n2\nforget\nforget\ncensus\nslice 3\nforget\ncensus\n"
+
+-- It is answered where there is nothing, before a collection and behind it.
+abbrev pub forgotten_with_no_suspects : List ℕ
+forgotten_with_no_suspects = codes "version 2\nforget\nforget\ncollect\nforget\ngc\nforget\nslice 2\nforget\ncensus\n"
+
+-- The word stands alone, in small letters, with spaces around it at most.
+abbrev pub refused_forms_of_forget : List ℕ
+refused_forms_of_forget = codes "version 2\nforget 1\nforget n0\nforget none\nforget forget\nForget\nforgets\nforge\n  forget  \nforget % all\nforget\n"
+
+-- Version 1 has no such word, and neither has the first line.
+abbrev pub forget_is_a_word_of_version_2 : List ℕ
+forget_is_a_word_of_version_2 = codes "forget\nversion 2\nnative n0 0\nforget\ndrop n0\n"
+
+-- It is no wish for memory: the second one is that of the second native.
+abbrev pub forget_takes_no_memory : List ℕ
+forget_takes_no_memory = codes "version 2\nnative n0 1\nforget\nnative n1 0\nnative n1 0\nforget\n"

@@ -53,7 +53,10 @@ const ROWS: &str = "\
     why_touches_nothing|version 2\nnative n0 1\nset n0 0 n0\nnative n1 1\nnative n2 0\nset n1 0 n2\ndrop n2\ncollect\ncopy n3 n0\ndrop n3\ndrop n0\nwhy #1\nwhy #2\nwhy #3\nslice 2\nwhy #3\nslice 1\n|= ok\n= #1\n= ok\n= #2\n= #3\n= ok\n= ok\n= ok\n= #1\n= ok\n= ok\n= none\n: #2 n1\n= ok\n: #2 n1\n: #3 #2\n= ok\n= ok\n: #2 n1\n: #3 #2\n= ok\n- unlink #1\n- free #1\n= ok\n;\
     why_changes_no_register_and_no_census|version 2\nnative n0 1\nwrap s0 n0\nscript s1 0\nput s0 0 s1\nset n0 0 s0\ncensus\nwhy @1\ncensus\nget s2 n0 0\ntake s3 s2 0\nwhy @1\n|= ok\n= #1\n= ~1\n= @1\n= ok\n= ok\n+ #1\n+ ~1\n+ @1\n= census 3\n: @1 s1\n= ok\n+ #1\n+ ~1\n+ @1\n= census 3\n= ~1\n= @1\n: @1 s1\n= ok\n;\
     why_in_a_row_of_collections|version 2\nnative n0 1\nscript s0 0\nset n0 0 s0\ndrop s0\nnative n1 1\nset n1 0 n1\ndrop n1\ngc\nwhy @1\ncollect\nwhy #2\ngc\nwhy @1\ncensus\n|= ok\n= #1\n= @1\n= ok\n= ok\n= #2\n= ok\n= ok\n= ok\n: #1 n0\n: @1 #1\n= ok\n- unlink #2\n- free #2\n= ok\n= none\n= ok\n: #1 n0\n: @1 #1\n= ok\n+ #1\n+ @1\n= census 2\n;\
-    why_without_a_line_feed|version 2\nnative n0 0\nwhy #1|= ok\n= #1\n: #1 n0\n= ok\n";
+    why_without_a_line_feed|version 2\nnative n0 0\nwhy #1|= ok\n= #1\n: #1 n0\n= ok\n;\
+    forgotten_suspect_is_no_candidate|version 2\nnative n0 0\ncopy n1 n0\ndrop n1\nnative n2 1\nset n2 0 n2\ndrop n2\nforget\nslice 3\n|= ok\n= #1\n= #1\n= ok\n= #2\n= ok\n= ok\n= ok\n- unlink #2\n- free #2\n= ok\n;\
+    suspect_that_is_not_forgotten_is_a_candidate|version 2\nnative n0 0\ncopy n1 n0\ndrop n1\nnative n2 1\nset n2 0 n2\ndrop n2\nslice 3\nslice 1\n|= ok\n= #1\n= #1\n= ok\n= #2\n= ok\n= ok\n= ok\n- unlink #2\n- free #2\n= ok\n;\
+    suspect_behind_a_reflector_is_forgotten|version 2\nnative n0 0\nwrap s0 n0\ndrop n0\nforget\nslice 2\ndrop s0\ngc\ncensus\n|= ok\n= #1\n= ~1\n= ok\n= ok\n= ok\n= ok\n- free ~1\n- free #1\n= ok\n= census 0\n";
 
 #[test]
 fn worked_examples_are_answered(rt: HostRuntime) {

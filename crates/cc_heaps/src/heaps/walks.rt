@@ -27,6 +27,7 @@ impl Heaps {
     pub fn walk_add(&mut self, object: Held)
         requires there { IsThere self.old (Some object) }
         ensures walk { self.new ≡ with_state_in self.old object entered }
+        ensures came { state_in self.new object ≡ entered (state_in self.old object) }
         ensures heap { self.new.heap ≡ self.old.heap }
         ensures kept { KeepsAll self.old self.new }
     {

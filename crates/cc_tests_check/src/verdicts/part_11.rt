@@ -5,7 +5,7 @@
 use crate::example::{Example, are_judged};
 use cc_check::Verdict;
 
-const EXAMPLES: [Example; 10] = [
+const EXAMPLES: [Example; 15] = [
     // A native that no register reaches is gone after gc, collect and gc.
     Example {
         name: "garbage_is_kept",
@@ -115,6 +115,61 @@ const EXAMPLES: [Example; 10] = [
         transcript: b"= #1\n- free #1\n= ok\n= ok\n= ok\n= census 0\n",
         verdict: Verdict::Unlawful,
         told: b"line 2, answer to line 2 (gc): #1 is freed, but n0 leads to it: n0 #1\n",
+    },
+    // Another collector may free a native when suspects are forgotten.
+    Example {
+        name: "native_freed_by_forget",
+        natives: 1000000,
+        scripts: 1000000,
+        bytes: 4294967295,
+        script: b"version 2\nnative n0 0\ndrop n0\nforget\ncensus\n",
+        transcript: b"= ok\n= #1\n= ok\n- free #1\n= ok\n= census 0\n",
+        verdict: Verdict::Lawful,
+        told: b"lawful\n",
+    },
+    // Forget between them breaks the row of gc, collect and gc.
+    Example {
+        name: "row_broken_by_forget",
+        natives: 1000000,
+        scripts: 1000000,
+        bytes: 4294967295,
+        script: b"version 2\nnative n0 0\ndrop n0\ngc\ncollect\nforget\ngc\ncensus\n",
+        transcript: b"= ok\n= #1\n= ok\n= ok\n= ok\n= ok\n= ok\n+ #1\n= census 1\n",
+        verdict: Verdict::Lawful,
+        told: b"lawful\n",
+    },
+    // Suspects are forgotten without memory.
+    Example {
+        name: "forget_refused_memory",
+        natives: 1000000,
+        scripts: 1000000,
+        bytes: 4294967295,
+        script: b"version 2\nnative n0 0\nforget\n",
+        transcript: b"= ok\n= #1\n! nomem\n",
+        verdict: Verdict::Unlawful,
+        told: b"line 3, answer to line 3 (forget): the reply is = ok\n",
+    },
+    // No native is unlinked when suspects are forgotten, not even an unreached one.
+    Example {
+        name: "unlinked_by_forget",
+        natives: 1000000,
+        scripts: 1000000,
+        bytes: 4294967295,
+        script: b"version 2\nnative n0 1\nset n0 0 n0\ndrop n0\nforget\n",
+        transcript: b"= ok\n= #1\n= ok\n= ok\n- unlink #1\n- free #1\n= ok\n",
+        verdict: Verdict::Unlawful,
+        told: b"line 5, answer to line 5 (forget): #1 is unlinked, and this command may not unlink it\n",
+    },
+    // No script object is freed when suspects are forgotten.
+    Example {
+        name: "script_object_freed_by_forget",
+        natives: 1000000,
+        scripts: 1000000,
+        bytes: 4294967295,
+        script: b"version 2\nscript s0 0\ndrop s0\nforget\n",
+        transcript: b"= ok\n= @1\n= ok\n- free @1\n= ok\n",
+        verdict: Verdict::Unlawful,
+        told: b"line 4, answer to line 4 (forget): @1 is freed, and this command may not free it\n",
     },
 ];
 

@@ -1,10 +1,14 @@
-use Rattle.std.proofs.Common.{refl}
+use Rattle.std.proofs.Common.{Some, refl, sym, subst}
+use Rattle.std.specs.Prelude.{IsTrue}
 use Rattle.cc_counted.specs.declared.held.Held.TheVariants as held
 use Rattle.cc_walk.specs.Walks.{entered}
+use Rattle.cc_script.specs.Objects.{is_there}
+use Rattle.cc_heaps.specs.Changes.{IsThere}
 use Rattle.cc_heaps.specs.Fields.{keyed_of}
+use Rattle.cc_heaps.specs.Keyed.{Keyed}
 use Rattle.cc_heaps.specs.Walking.{with_state_in}
 use Rattle.cc_heaps.proofs.Linked.{with_counted}
-use Rattle.cc_heaps.proofs.Walking.{IsWalked, native-stated, script-stated}
+use Rattle.cc_heaps.proofs.Walking.{IsWalked, native-stated, script-stated, state-changed}
 use Rattle.cc_heaps.proofs.heaps.Heaps.walk_add.Goals as goal
 
 of-native : (c : goal.After-walk_add) → IsWalked c.self.inside (with_counted c.self.inside c.walk_add.new.self) (with_state_in (keyed_of c.self.inside) (held.Native c.in-Native.key) entered)
@@ -19,6 +23,17 @@ invariant_of-self c = (of-native c).linked
 
 pub invariant_of-self-in-Script : goal.invariant_of-self-in-Script
 invariant_of-self-in-Script c = (of-script c).linked
+
+pub returns-in-Native-clause-came : goal.returns-in-Native-clause-came
+returns-in-Native-clause-came c = rw (← c.self.view_is, c.in-Native.is) c.walk_add.ensures.came
+
+pub returns-in-Script-clause-came : goal.returns-in-Script-clause-came
+returns-in-Script-clause-came c =
+    let v = c.args.self.now in
+    let key = c.in-Script.key.0 in
+    let there : IsTrue (is_there v.scripts key) = subst (λ o. IsThere v (Some o)) c.in-Script.is c.requires.there in
+    let inside : IsTrue (is_there c.self.inside.scripts key) = subst (λ (w : Keyed). IsTrue (is_there w.scripts key)) (sym c.self.view_is) there in
+    rw (← c.self.view_is, c.in-Script.is, c.walk_add-in-Script.ensures) (state-changed c.self.inside.scripts key entered inside)
 
 pub returns-in-Native-clause-kept : goal.returns-in-Native-clause-kept
 returns-in-Native-clause-kept c = rw (← c.self.view_is) (of-native c).kept

@@ -114,6 +114,7 @@ returns-clause-change c =
       doomed = λ d. doomed-then u.heap v.heap w.heap (b.doomed (d.1, d.2))
           (subst (KeepsDoomed v.heap) (sym heap)
           (set_entry-doomed v.heap c.expose_key-2.ensures.ready.order.sound.well_formed (name_at v.scripts c.args.the_map.0) (name_at v.scripts c.args.key.0) (name_at v.scripts c.args.value.0)
+          (subst (IsReached v.heap) (sym (b.same c.args.the_map.0 (map-there u.scripts c.args.the_map.0 c.requires.the_map)).name) (b.reached _ d.0))
           (subst (IsReached v.heap) (sym key.name) (b.reached _ d.1))
           (subst (IsReached v.heap) (sym (b.same c.args.value.0 c.requires.value).name) (b.reached _ d.2))));
     })

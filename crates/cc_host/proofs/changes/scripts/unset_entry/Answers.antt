@@ -22,7 +22,7 @@ returns-clause-change c =
       spared = beside-spared c.args.heaps.now c.unset_entry.new.self (beside c) c.requires.ready.spared;
       stands = λ d. e.stands d.0 d.1;
       doomed = λ d. subst (KeepsDoomed v.heap) (sym e.heap)
-          (set_entry-doomed v.heap c.requires.ready.order.sound.well_formed (name_at v.scripts c.args.the_map.0) (name_at v.scripts c.args.key.0) None d.1 tt);
+          (set_entry-doomed v.heap c.requires.ready.order.sound.well_formed (name_at v.scripts c.args.the_map.0) (name_at v.scripts c.args.key.0) None d.0 d.1 tt);
     }
 
 pub returns-clause-none_left : goal.returns-clause-none_left
