@@ -41,11 +41,11 @@ every-can p (taken Nothing ∷ asks) quiet = every-can p asks quiet
 every-can p (ask ∷ asks) quiet = quiet ask
 
 -- where the row is not over, all can be answered
-pub row-can : (g : Graph) (names : List Name) (row : Row) (asks : List Ask) → ¬ (row ≡ AfterAll) → CanAnswer (place g names [] (row_meant row)) asks
-row-can g names NothingYet asks n = every-can (place g names [] (row_meant NothingYet)) asks (λ ask. tt)
-row-can g names AfterGc asks n = every-can (place g names [] (row_meant AfterGc)) asks (λ ask. tt)
-row-can g names AfterCollect asks n = every-can (place g names [] (row_meant AfterCollect)) asks (λ ask. tt)
-row-can g names AfterAll asks n = absurd (n refl)
+pub row-can : (g : Graph) (names ended : List Name) (row : Row) (asks : List Ask) → ¬ (row ≡ AfterAll) → CanAnswer (place g names ended (row_meant row)) asks
+row-can g names ended NothingYet asks n = every-can (place g names ended (row_meant NothingYet)) asks (λ ask. tt)
+row-can g names ended AfterGc asks n = every-can (place g names ended (row_meant AfterGc)) asks (λ ask. tt)
+row-can g names ended AfterCollect asks n = every-can (place g names ended (row_meant AfterCollect)) asks (λ ask. tt)
+row-can g names ended AfterAll asks n = absurd (n refl)
 
 -- what is asked next is quiet where it can be answered
 pub can-next : (p : Place) (asks left : List Ask) (ask : Ask) → from_next asks ≡ ask ∷ left → CanAnswer p asks → CensusIsQuiet p.row p.state ask
@@ -54,17 +54,17 @@ can-next p (taken Nothing ∷ asks) left ask e can = can-next p asks left ask e 
 can-next p (a ∷ asks) left ask e can = subst (CensusIsQuiet p.row p.state) (let same : a ≡ ask = cc in same) can
 
 -- where nothing can be answered, all of the row was asked last, and a census is asked next that is not quiet
-pub record IsStuck (g : Graph) (names : List Name) (row : Row) (asks : List Ask) : Type 0 where
+pub record IsStuck (g : Graph) (names ended : List Name) (row : Row) (asks : List Ask) : Type 0 where
   pub over : row ≡ AfterAll
   pub census : begins_with_census (from_next asks) ≡ true
-  pub unquiet : ¬ (CensusIsQuiet (row_meant AfterAll) (state_of g names []) (taken Census))
+  pub unquiet : ¬ (CensusIsQuiet (row_meant AfterAll) (state_of g names ended) (taken Census))
 
-pub stuck : (g : Graph) (names : List Name) (row : Row) (asks : List Ask) → ¬ (CanAnswer (place g names [] (row_meant row)) asks) → IsStuck g names row asks
-stuck g names NothingYet asks n = absurd (n (row-can g names NothingYet asks (λ e. cc)))
-stuck g names AfterGc asks n = absurd (n (row-can g names AfterGc asks (λ e. cc)))
-stuck g names AfterCollect asks n = absurd (n (row-can g names AfterCollect asks (λ e. cc)))
-stuck g names AfterAll asks n = go (begins_with_census (from_next asks)) refl
+pub stuck : (g : Graph) (names ended : List Name) (row : Row) (asks : List Ask) → ¬ (CanAnswer (place g names ended (row_meant row)) asks) → IsStuck g names ended row asks
+stuck g names ended NothingYet asks n = absurd (n (row-can g names ended NothingYet asks (λ e. cc)))
+stuck g names ended AfterGc asks n = absurd (n (row-can g names ended AfterGc asks (λ e. cc)))
+stuck g names ended AfterCollect asks n = absurd (n (row-can g names ended AfterCollect asks (λ e. cc)))
+stuck g names ended AfterAll asks n = go (begins_with_census (from_next asks)) refl
   where
-    go : (b : Bool) → begins_with_census (from_next asks) ≡ b → IsStuck g names AfterAll asks
-    go false e = absurd (n (no_census-can (place g names [] (row_meant AfterAll)) asks e))
-    go true e = record { over = refl; census = e; unquiet = λ q. n ((census-can (place g names [] (row_meant AfterAll)) asks e).1 q) }
+    go : (b : Bool) → begins_with_census (from_next asks) ≡ b → IsStuck g names ended AfterAll asks
+    go false e = absurd (n (no_census-can (place g names ended (row_meant AfterAll)) asks e))
+    go true e = record { over = refl; census = e; unquiet = λ q. n ((census-can (place g names ended (row_meant AfterAll)) asks e).1 q) }

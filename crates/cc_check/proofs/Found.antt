@@ -42,18 +42,18 @@ census-listed names x m = ⊎_elim
     (λ b. Among-filtered is_script x names b)
     (Among-append x (filter is_native names) (filter is_script names) m)
 
-module _ (g : Graph) (k : Known) (w : IsWellMade g) (found : IsFoundIn k g) (listed names : List Name) (census : names ≡ census_order listed) where
+module _ (g : Graph) (k : Known) (w : IsWellMade g) (found : IsFoundIn k g) (listed ended names : List Name) (census : names ≡ census_order listed) where
   -- EXACTLY THE REACHED OBJECTS ARE LISTED where all that is listed was found, and all that was found is listed,
   pub exactly-from : ((x : Name) → Among x names → Among x (named k.reach)) → ((x : Name) → Among x (named k.reach) → Among x listed) →
-      ListsReached (state_of g listed [])
+      ListsReached (state_of g listed ended)
   exactly-from all there x = (
     (λ m. found-reached g k x w found (has-there same_name same_name-exact (named k.reach) x (all x (subst (Among x) (sym census) (census-there listed x m))))),
     (λ r. there x (has-among same_name same_name-exact (named k.reach) x (reached-found g k x w found r))),
   )
 
   -- and there alone.
-  pub exactly-found : ListsReached (state_of g listed []) → (x : Name) → Among x names → Among x (named k.reach)
+  pub exactly-found : ListsReached (state_of g listed ended) → (x : Name) → Among x names → Among x (named k.reach)
   exactly-found e x m = has-among same_name same_name-exact (named k.reach) x (reached-found g k x w found ((e x).0 (census-listed listed x (subst (Among x) census m))))
 
-  pub exactly-listed : ListsReached (state_of g listed []) → (x : Name) → Among x (named k.reach) → Among x listed
+  pub exactly-listed : ListsReached (state_of g listed ended) → (x : Name) → Among x (named k.reach) → Among x listed
   exactly-listed e x m = (e x).1 (found-reached g k x w found (has-there same_name same_name-exact (named k.reach) x m))

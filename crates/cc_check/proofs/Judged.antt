@@ -50,6 +50,11 @@ recites-as items told p q asks lines e f = (
   (λ r. subst (λ (is : List Item). Recites is q asks lines) e (subst (λ (o : Place). Recites items o asks lines) f r)),
 )
 
+-- what holds after a call that is right, holds by what follows
+pub OnOk-then : {A E : Type 0} (r : Result A E) (P Q : Type 0) → (P → Q) → OnOk r P → OnOk r Q
+OnOk-then (Ok x) P Q f h = f h
+OnOk-then (Err e) P Q f h = h
+
 -- what holds where a call is right, holds of what it says
 pub IfOk-at : {A E : Type 0} (r : Result A E) (P : A → Type 0) (x : A) → IfOk r P → r ≡ Ok x → P x
 IfOk-at r P x h e = subst (λ s. IfOk s P) e h

@@ -3,14 +3,16 @@ pub mod Trials
 pub mod Endings
 pub mod Stays
 pub mod Naming
+pub mod BesideEnded
+pub mod Placed
 pub mod Through
 pub mod Found
-pub mod EndedNames
 pub mod Kept
 pub mod Judged
 pub mod Passing
 pub mod Over
 pub mod Ahead
+pub mod Unread
 pub mod Ranges
 pub mod Causing
 pub mod Read

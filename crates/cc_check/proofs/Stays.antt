@@ -30,7 +30,7 @@ Stays-then g f e a b = record { limits = b.limits ∙ a.limits; made = λ x m. b
 
 -- One thing written
 
-Stays-register : (g : Graph) (r : Reg) (x : Option Name) → Stays g (set_register g r x)
+pub Stays-register : (g : Graph) (r : Reg) (x : Option Name) → Stays g (set_register g r x)
 Stays-register g (N d) x = record { limits = refl; made = λ y m. m }
 Stays-register g (S d) x = record { limits = refl; made = λ y m. m }
 Stays-register g (W d) x = Stays-same g

@@ -12,7 +12,7 @@ use Rattle.cc_model.specs.Graph.{empty_graph}
 use Rattle.cc_model.specs.Lines.{lines_of}
 use Rattle.cc_model.specs.Texts.{words_of}
 use Rattle.cc_verdict.specs.Following.{Follows, Place, first_place, lines_of_items}
-use Rattle.cc_verdict.specs.GoingOn.{AreInRange, CanGoOn, ListsAll, ListsAllAt}
+use Rattle.cc_verdict.specs.GoingOn.{AreInRange, CanGoOn, ListsAll, ListsAllAt, ReadNone}
 use Rattle.cc_verdict.specs.Hearing.{Hearing, Hears, ends, comes}
 use Rattle.cc_verdict.specs.Parting.{HasParted, IsLawfulSoFar}
 use Rattle.cc_verdict.specs.Positions.{Position, GoesOn, reciting, within}
@@ -25,11 +25,13 @@ use Rattle.cc_check.specs.declared.trial.Trial.{Trial}
 use Rattle.cc_check.specs.Standing.{IsHeard, asks_left, position_of}
 use Rattle.cc_check.specs.declared.row.Row.TheVariants.{NothingYet}
 use Rattle.cc_check.specs.Causes.{IsBlamed, IsCause, IsDeadEnd, IsPart, at_line, behind_line, part_behind, part_here}
-use Rattle.cc_check.specs.Judging.{GoesAlong, HasAnswer}
+use Rattle.cc_check.specs.declared.script.Script.{Script}
+use Rattle.cc_check.specs.Judging.{GoesAlong, HasAnswer, IsReadOf}
 use Rattle.cc_check.specs.Parted.{IsEarly, PartsFor}
 use Rattle.cc_check.specs.Tried.{AnswersScript, IsBlamedIn, IsTried, Tries, bytes_of}
 use Rattle.cc_check.proofs.Ahead.{row-can}
 use Rattle.cc_check.proofs.Ranges.{left-in_range}
+use Rattle.cc_check.proofs.Unread.{ReadNone-left}
 
 -- A LINE THAT GOES ON IS AN ITEM'S
 first-item : (items : List Item) (line : List ℕ) (lines : List (List ℕ)) → line ∷ lines ≡ lines_of_items items → (i : Item) × (line ≡ words_of i)
@@ -146,14 +148,15 @@ blamed-there limits script lines line p asks left heard asked c lawful hd is las
 
 -- NOTHING WAS TRIED YET
 pub tried-new : (limits : Allowance) (script : List ℕ) (t : Trial) → t.is_lawful ≡ true → t.cause ≡ None → t.lines ≡ 0 → t.bytes ≡ 0 →
-    position_of t.judge ≡ reciting [] (first_place limits) → asks_left t.script ≡ asks_of script → t.script.asked ≡ 0 → ListsAll (empty_graph limits) [] →
-    ((p : Position) (asks : List Ask) → AreInRange asks → ListsAllAt p → CanGoOn p asks → (lines : List (List ℕ)) × GoesOn p asks lines) → IsSoFarLaw → IsTried limits script t []
-tried-new limits script t is uncaused none bytes stands asks unasked all goes law = record {
+    position_of t.judge ≡ reciting [] (first_place limits) → asks_left t.script ≡ asks_of script → t.script.asked ≡ 0 → t.judge.has_read ≡ false → ListsAll (empty_graph limits) [] →
+    ((p : Position) (asks : List Ask) → AreInRange asks → ReadNone asks → ListsAllAt p → CanGoOn p asks → (lines : List (List ℕ)) × GoesOn p asks lines) → IsSoFarLaw → IsTried limits script t []
+tried-new limits script t is uncaused none bytes stands asks unasked unread all goes law = record {
   lawful = λ e rest. subst (λ (p : Position). AnswersScript limits script rest ↔ GoesOn p (asks_left t.script) rest) (sym stands)
       (subst (λ (a : List Ask). AnswersScript limits script rest ↔ GoesOn (reciting [] (first_place limits)) a rest) (sym asks) ((λ a. a), (λ a. a)));
   counted = λ e rest a. bytes;
   unlawful = λ e rest a. true≢false (sym is ∙ e);
-  so_far = subst (λ n. IsLawfulSoFar limits script (take n [])) (sym none) (law limits script [] first.0 (answers-follow limits script first.0 first.1));
+  unread = λ e plain. unread;
+  so_far = λ plain. subst (λ n. IsLawfulSoFar limits script (take n [])) (sym none) (law limits script [] (first plain).0 (answers-follow limits script (first plain).0 (first plain).1));
   all = λ e. none;
   parted = λ e. absurd (true≢false (sym is ∙ e));
   asked = λ e. record { left = asks ∙ ap (λ n. drop n (asks_of script)) (sym unasked); last = subst (HasAnswer (asks_of script)) (sym unasked) tt };
@@ -161,16 +164,20 @@ tried-new limits script t is uncaused none bytes stands asks unasked all goes la
   blamed = subst (IsBlamedIn limits script [] t.lines t.script.asked) (sym uncaused) tt;
 }
   where
-    first : (lines : List (List ℕ)) × GoesOn (reciting [] (first_place limits)) (asks_of script) lines
-    first = goes (reciting [] (first_place limits)) (asks_of script) (subst AreInRange asks (left-in_range t.script)) all
-        (row-can (empty_graph limits) [] NothingYet (asks_of script) (λ e. cc))
+    first : ReadNone (asks_of script) → (lines : List (List ℕ)) × GoesOn (reciting [] (first_place limits)) (asks_of script) lines
+    first plain = goes (reciting [] (first_place limits)) (asks_of script) (subst AreInRange asks (left-in_range t.script)) plain all
+        (row-can (empty_graph limits) [] [] NothingYet (asks_of script) (λ e. cc))
 
 -- A LINE THAT WAS JUDGED, and may come
 pub tries-lawful : (t u : Trial) (heard : Heard) → t.is_lawful ≡ true → u.is_lawful ≡ true → u.bytes ≡ t.bytes + bytes_of heard → u.lines ≡ t.lines + 1 →
     u.cause ≡ t.cause → GoesAlong t.script u.script → ((line : List ℕ) (rest : List (List ℕ)) → IsHeard heard line →
     GoesOn (position_of t.judge) (asks_left t.script) (line ∷ rest) ↔ GoesOn (position_of u.judge) (asks_left u.script) rest) →
-    (lines : List (List ℕ)) × GoesOn (position_of u.judge) (asks_left u.script) lines → IsSoFarLaw → Tries t u heard
-tries-lawful t u heard was now bytes count same along goes on law = λ limits script lines line is tried.
+    (t.judge.has_read ≡ false → ReadNone (asks_left t.script) → u.judge.has_read ≡ false) →
+    (u.judge.has_read ≡ false → ReadNone (asks_left u.script) → (lines : List (List ℕ)) × GoesOn (position_of u.judge) (asks_left u.script) lines) → IsSoFarLaw → Tries t u heard
+tries-lawful t u heard was now bytes count same along goes reads on law = λ limits script lines line is tried.
+    let plain-left = λ (s : Script) (read : IsReadOf s (asks_of script)) (plain : ReadNone (asks_of script)). ReadNone-left s.asked (asks_of script) (asks_left s) read.left plain in
+    let unread = λ (plain : ReadNone (asks_of script)). reads (tried.unread was plain) (plain-left t.script (tried.asked was) plain) in
+    let after = λ (plain : ReadNone (asks_of script)). on (unread plain) (plain-left u.script (along (asks_of script) (tried.asked was)) plain) in
     let back = λ (rest : List (List ℕ)) (g : GoesOn (position_of u.judge) (asks_left u.script) rest). parted limits script lines line rest ((tried.lawful was (line ∷ rest)).1 ((goes line rest is).1 g)) in
     let whole : take u.lines (lines ++ line ∷ []) ≡ lines ++ line ∷ [] = take_all u.lines (lines ++ line ∷ []) (omega (arith, count, tried.all was, more-length lines line)) in
     record {
@@ -180,7 +187,9 @@ tries-lawful t u heard was now bytes count same along goes on law = λ limits sc
           counted-more (position_of t.judge) (position_of u.judge) (asks_left t.script) (asks_left u.script) heard t.bytes u.bytes lines line rest
           (λ l. goes l rest) is bytes (tried.counted was (line ∷ rest) b) ((tried.lawful was (line ∷ rest)).0 b);
       unlawful = λ e. absurd (true≢false (sym now ∙ e));
-      so_far = subst (IsLawfulSoFar limits script) (sym whole) (law limits script (lines ++ line ∷ []) on.0 (answers-follow limits script ((lines ++ line ∷ []) ++ on.0) (back on.0 on.1)));
+      unread = λ e plain. unread plain;
+      so_far = λ plain. let rest = after plain in
+          subst (IsLawfulSoFar limits script) (sym whole) (law limits script (lines ++ line ∷ []) rest.0 (answers-follow limits script ((lines ++ line ∷ []) ++ rest.0) (back rest.0 rest.1)));
       all = λ e. omega (arith, count, tried.all was, more-length lines line);
       parted = λ e. absurd (true≢false (sym now ∙ e));
       asked = λ e. along (asks_of script) (tried.asked was);
@@ -200,7 +209,8 @@ tries-parted t u heard c was now count cause along part stops law = λ limits sc
       lawful = λ e. absurd (false≢true (sym now ∙ e));
       counted = λ e. absurd (false≢true (sym now ∙ e));
       unlawful = λ e rest a. none rest a;
-      so_far = subst (IsLawfulSoFar limits script) (sym front) tried.so_far;
+      unread = λ e. absurd (false≢true (sym now ∙ e));
+      so_far = λ plain. subst (IsLawfulSoFar limits script) (sym front) (tried.so_far plain);
       all = λ e. absurd (false≢true (sym now ∙ e));
       parted = λ e. (
         omega (arith, count, tried.all was, more-length lines line),
@@ -227,7 +237,8 @@ tries-after t heard was = λ limits script lines line is tried.
       lawful = λ e. absurd (false≢true (sym was ∙ e));
       counted = λ e. absurd (false≢true (sym was ∙ e));
       unlawful = λ e rest a. tried.unlawful was (line ∷ rest) (joined limits script lines line rest a);
-      so_far = subst (IsLawfulSoFar limits script) (sym (take-append-le t.lines lines (line ∷ []) (omega (arith, place.0)))) tried.so_far;
+      unread = λ e. absurd (false≢true (sym was ∙ e));
+      so_far = λ plain. subst (IsLawfulSoFar limits script) (sym (take-append-le t.lines lines (line ∷ []) (omega (arith, place.0)))) (tried.so_far plain);
       all = λ e. absurd (false≢true (sym was ∙ e));
       parted = λ e. (
         omega (arith, place.0, more-length lines line),
@@ -258,7 +269,7 @@ parts-there limits script t lines b c e is tried = subst (PartsFor limits script
     first = omega arith;
     within = omega (arith, (tried.parted was).0);
     parts_here = (tried.parted was).1;
-    lawful_until = subst (λ n. IsLawfulSoFar limits script (take n lines)) before tried.so_far;
+    lawful_until = λ plain. subst (λ n. IsLawfulSoFar limits script (take n lines)) before (tried.so_far plain);
   };
   blamed = subst (λ n. (line : List ℕ) → slice_get lines n ≡ Some line → IsBlamed limits script (take n lines) line t.script.asked c) before
       (subst (IsBlamedIn limits script lines t.lines t.script.asked) e tried.blamed);
@@ -278,6 +289,6 @@ taken-same limits script t o lines e f tried = subst (λ (k : Option Cause). IsT
 pub early-there : (limits : Allowance) (script : List ℕ) (t : Trial) (text : List ℕ) → t.cause ≡ None → ¬ (IsLawfulTranscript limits script text) → IsTried limits script t (lines_of text) →
     IsEarly limits script text
 early-there limits script t text e none tried = record {
-  so_far = subst (IsLawfulSoFar limits script) (take_all t.lines (lines_of text) (omega (arith, tried.all (uncaused-lawful limits script t (lines_of text) e tried)))) tried.so_far;
+  so_far = λ plain. subst (IsLawfulSoFar limits script) (take_all t.lines (lines_of text) (omega (arith, tried.all (uncaused-lawful limits script t (lines_of text) e tried)))) (tried.so_far plain);
   unlawful = none;
 }

@@ -123,8 +123,9 @@ IsCause (cause.Reply r) q asks line = Within q (λ h. IsOtherThanReply r h line)
 IsCause (cause.Item i) q asks line = IsOtherThanItem i q line
 IsCause (cause.Refused r) q asks line = ⊥
 IsCause (cause.Kept x) q asks line = ⊥
+IsCause (cause.Lost x) q asks line = ⊥
 
--- The two dead ends
+-- The three dead ends
 
 -- a command that the graph refuses has no events, and one came
 pub record IsRefusedWith (r : Reply) (h : Hearing) : Type 0 where
@@ -142,10 +143,21 @@ pub record IsKeptBefore (x : Name) (q : Position) (asks : List Ask) : Type 0 whe
   pub listed : Among x place.state.listed
   pub unreached : ¬ (Reached place.state.graph x)
 
+-- such a census is asked next, and lists this object not, which is reached: it was freed, and what leads to it was brought back
+pub record IsLostBefore (x : Name) (q : Position) (asks : List Ask) : Type 0 where
+  pub items : List Item
+  pub place : Place
+  pub stands : q ≡ reciting items place
+  pub row : place.row ≡ after_all
+  pub census : begins_with_census (from_next asks) ≡ true
+  pub unlisted : ¬ (Among x place.state.listed)
+  pub reached : Reached place.state.graph x
+
 -- THE CAUSE HOLDS BEHIND THE LINE, where no line may come at all
 abbrev pub IsDeadEnd : Cause → Position → List Ask → Type 0
 IsDeadEnd (cause.Refused r) q asks = Within q (IsRefusedWith r)
 IsDeadEnd (cause.Kept x) q asks = IsKeptBefore x q asks
+IsDeadEnd (cause.Lost x) q asks = IsLostBefore x q asks
 IsDeadEnd _ q asks = ⊥
 
 -- WHERE A CHECK STANDS

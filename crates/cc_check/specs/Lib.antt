@@ -1,3 +1,4 @@
+pub mod EndedNames
 pub mod Standing
 pub mod Judging
 pub mod Items

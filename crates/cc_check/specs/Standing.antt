@@ -1,5 +1,5 @@
 -- WHAT THE CHECKER'S VALUES MEAN: the asks that are left, a line, an answer so far, and where the check stands.
-use Rattle.std.specs.Prelude.{◌≡◌, ℕ, ◌≤◌, ◌<◌, Bool, true, false, IsTrue, List, [], length, reverse, Option, Some, None}
+use Rattle.std.specs.Prelude.{◌≡◌, ℕ, ◌≤◌, ◌<◌, Bool, true, false, ◌||◌, IsTrue, List, [], length, reverse, Option, Some, None}
 use Rattle.cc_lists.specs.Members.{Among, has}
 use Rattle.cc_names.specs.declared.name.Name.{Name}
 use Rattle.cc_names.specs.Names.{number_of, same_name}
@@ -9,7 +9,9 @@ use Rattle.cc_model.specs.declared.item.Event.{Event}
 use Rattle.cc_model.specs.declared.item.Event.TheVariants.{Unlinked, Freed, Abandoned}
 use Rattle.cc_model.specs.declared.item.Reply.TheVariants.{Named}
 use Rattle.cc_model.specs.Asks.{Ask, long, bad, taken, asks_from}
+use Rattle.cc_model.specs.Lawful.{is_gc, is_refused, runs_units}
 use Rattle.cc_model.specs.Lines.{lines_of}
+use Rattle.cc_model.specs.Mutating.{reads_weakly}
 use Rattle.cc_model.specs.Graph.{Graph}
 use Rattle.cc_model.specs.WellMade.{IsWellMade, was_made}
 use Rattle.cc_model.specs.Derivations.{derivation, leads_made}
@@ -63,24 +65,17 @@ told_of a names ended = record { names = names; ended = ended; last = a.last; ru
 abbrev pub hearing_of : Answer → Graph → List Name → List Name → Row → Hearing
 hearing_of a g names ended row = record { command = a.command; reply = a.reply; graph = g; row = row_meant row; told = told_of a names ended }
 
--- The judge keeps no ended names: what may come does not depend on them. So it stands where it would stand with any, and where it
--- is said to stand they are left out.
-
 -- between two answers, or within one that is recited, and within one that is heard
 abbrev pub place_of : Judge → Place
-place_of j = place j.graph j.listed [] (row_meant j.row)
+place_of j = place j.graph j.listed j.ended (row_meant j.row)
 
 abbrev pub hearing_in : Judge → Answer → Hearing
-hearing_in j a = hearing_of a j.graph j.listed [] j.row
+hearing_in j a = hearing_of a j.graph j.listed j.ended j.row
 
--- WHERE THE CHECK STANDS, with these ended names
-abbrev pub position_with : List Name → Judge → Option Answer → Position
-position_with ended j None = reciting (reverse j.recital.items) (place j.graph j.listed ended (row_meant j.row))
-position_with ended j (Some a) = within (hearing_of a j.graph j.listed ended j.row)
-
--- and with none
+-- WHERE THE CHECK STANDS
 abbrev pub position_in : Judge → Option Answer → Position
-position_in j answer = position_with [] j answer
+position_in j None = reciting (reverse j.recital.items) (place_of j)
+position_in j (Some a) = within (hearing_in j a)
 
 abbrev pub position_of : Judge → Position
 position_of j = position_in j j.answer
@@ -91,6 +86,11 @@ IsFoundIn k g = k.reach ≡ derivation (leads_made g)
 
 abbrev pub IsOf : Known → Graph → Type 0
 IsOf k g = k.is_found ≡ true → IsFoundIn k g
+
+-- whether an ask reads a weak register
+abbrev pub ask_reads : Ask → Bool
+ask_reads (taken c) = reads_weakly c
+ask_reads _ = false
 
 -- whether a command makes an object that no census listed before
 abbrev pub makes : Command → Bool
@@ -114,17 +114,23 @@ abbrev pub IsNewIn : Judge → Option Answer → Type 0
 IsNewIn j None = Unit {0}
 IsNewIn j (Some a) = IsNew j.graph j.listed a × (j.recital.items ≡ [])
 
+-- the graph refuses no collection that is heard
+abbrev pub IsGranted : Option Answer → Type 0
+IsGranted None = Unit {0}
+IsGranted (Some a) = IsTrue (is_gc a.command || runs_units a.command) → is_refused a.reply ≡ false
+
 -- all that is reached is listed, between two answers or where the graph's reply ends one
 abbrev pub ListsAllOf : Judge → Option Answer → Type 0
 ListsAllOf j None = ListsAll j.graph j.listed
 ListsAllOf j (Some a) = ListsAllIn (hearing_in j a)
 
--- WHAT STAYS SO: the graph is well made, what is listed was made, all that is reached is listed, and what is known of the reached is
--- of this graph
+-- WHAT STAYS SO: the graph is well made, what is listed was made, and what is known of the reached is of this graph. All that is
+-- reached is listed where no weak register was read: one may bring back what led to an object that was freed
 pub record IsKept (j : Judge) : Type 0 where
   pub well_made : IsWellMade j.graph
   pub limits : (j.graph.limits.natives ≤ 1000000) × (j.graph.limits.scripts ≤ 1000000)
   pub listed : (x : Name) → Among x j.listed → IsTrue (was_made j.graph x)
   pub new : IsNewIn j j.answer
-  pub all_listed : ListsAllOf j j.answer
+  pub granted : IsGranted j.answer
+  pub all_listed : j.has_read ≡ false → ListsAllOf j j.answer
   pub known : IsOf j.known j.graph

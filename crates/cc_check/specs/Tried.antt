@@ -6,7 +6,7 @@ use Rattle.cc_model.specs.Lines.{lines_of}
 use Rattle.cc_reader.specs.Given.{HasGiven}
 use Rattle.cc_reader.specs.Pending.{Pending}
 use Rattle.cc_verdict.specs.Following.{first_place}
-use Rattle.cc_verdict.specs.GoingOn.{CanGoOn}
+use Rattle.cc_verdict.specs.GoingOn.{CanGoOn, ReadNone}
 use Rattle.cc_verdict.specs.Parting.{HasParted, IsLawfulSoFar}
 use Rattle.cc_verdict.specs.Positions.{GoesOn, reciting}
 use Rattle.cc_verdict.specs.Verdicts.{length_of_lines}
@@ -39,13 +39,15 @@ IsBlamedIn limits script lines n asked (Some c) = (line : List ℕ) → slice_ge
     IsBlamed limits script (take n lines) line asked c
 
 -- THE LINES WERE TRIED: whatever lines come behind them, they answer the script exactly where the judge lets them come; and
--- where some can, the bytes of those tried are counted. So are the lines with which a lawful transcript begins: all of them, or those
--- before the first with which none does, which parts for its cause
+-- where some can, the bytes of those tried are counted. So are the lines that did not part: all of them, or those before the first with
+-- which no lawful transcript begins, which parts for its cause. Where the script reads no weak register, a lawful transcript begins with
+-- the lines that did not part
 pub record IsTried (limits : Allowance) (script : List ℕ) (t : Trial) (lines : List (List ℕ)) : Type 0 where
   pub lawful : t.is_lawful ≡ true → (rest : List (List ℕ)) → AnswersScript limits script (lines ++ rest) ↔ GoesOn (position_of t.judge) (asks_left t.script) rest
   pub counted : t.is_lawful ≡ true → (rest : List (List ℕ)) → AnswersScript limits script (lines ++ rest) → t.bytes ≡ length_of_lines lines
   pub unlawful : t.is_lawful ≡ false → (rest : List (List ℕ)) → ¬ (AnswersScript limits script (lines ++ rest))
-  pub so_far : IsLawfulSoFar limits script (take t.lines lines)
+  pub unread : t.is_lawful ≡ true → ReadNone (asks_of script) → t.judge.has_read ≡ false
+  pub so_far : ReadNone (asks_of script) → IsLawfulSoFar limits script (take t.lines lines)
   pub all : t.is_lawful ≡ true → t.lines ≡ length lines
   pub parted : t.is_lawful ≡ false → (t.lines < length lines) × HasParted limits script (take (t.lines + 1) lines)
   pub asked : t.is_lawful ≡ true → IsReadOf t.script (asks_of script)

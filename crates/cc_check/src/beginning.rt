@@ -11,6 +11,7 @@ ghost use Rattle.cc_model.specs.Checks.{refusal_of};
 ghost use Rattle.cc_model.specs.Derivations.{done_or_nothing};
 ghost use Rattle.cc_model.specs.Graph.{objects_of};
 ghost use Rattle.cc_model.specs.Lawful.{may_want_memory, runs_units, state_of};
+ghost use Rattle.cc_model.specs.Mutating.{reads_weakly};
 ghost use Rattle.cc_model.specs.Quiet.{CensusIsQuiet, row_after};
 ghost use Rattle.cc_model.specs.Ranges.{in_range};
 ghost use Rattle.cc_model.specs.Texts.{text_of_reply};
@@ -18,15 +19,16 @@ ghost use Rattle.cc_verdict.specs.Following.{place_after};
 ghost use Rattle.cc_verdict.specs.Hearing.{hearing, is_heard};
 ghost use Rattle.cc_verdict.specs.Positions.{reciting};
 ghost use Rattle.cc_check.specs.Judging.{IsBetween, IsJudged, IsRefusal, MayAnswer, MayRecite, asks_nothing};
-ghost use Rattle.cc_check.specs.Standing.{IsHeard, IsKept, ask_meant, hearing_in, place_of, position_of, row_meant};
+ghost use Rattle.cc_check.specs.Standing.{IsHeard, IsKept, ask_meant, ask_reads, hearing_in, place_of, position_of, row_meant};
 
 use crate::answer::Answer;
 use crate::asked::Asked;
-use crate::commands::{may_want_memory, runs_units};
+use crate::commands::{has_read_after, may_want_memory, runs_units};
 use crate::heard::Heard;
 use crate::judge::Judge;
 use crate::reciting::{explain, list};
 use crate::row::Row;
+use crate::stepping::step;
 use cc_model::{Command, Item, Refusal, Reply};
 use cc_names::{Name, NoMemory, narrow_key};
 use cc_verdict::{
@@ -40,8 +42,9 @@ impl Judge {
         requires between { IsBetween self.old }
         requires in_range { IsTrue (ask_in_range (ask_meant asked)) }
         requires answered { asks_nothing (ask_meant asked) ≡ false }
-        requires quiet { CensusIsQuiet (row_meant self.old.row) (state_of self.old.graph self.old.listed []) (ask_meant asked) }
-        ensures { IfOk result (IsJudged heard.entry (MayAnswer (place_of self.old) (ask_meant asked)) self.new) }
+        requires quiet { CensusIsQuiet (row_meant self.old.row) (state_of self.old.graph self.old.listed self.old.ended) (ask_meant asked) }
+        ensures judged { IfOk result (IsJudged heard.entry (MayAnswer (place_of self.old) (ask_meant asked)) self.new) }
+        ensures reads { OnOk result (self.old.has_read ≡ false → ask_reads (ask_meant asked) ≡ false → self.new.has_read ≡ false) }
     {
         match asked {
             Asked::Long => self.refuse(asked, Refusal::Long, heard),
@@ -56,7 +59,8 @@ impl Judge {
     fn refuse(&mut self, asked: Asked, refusal: Refusal, heard: Heard<'_>) -> Result<bool, NoMemory>
         requires between { IsBetween self.old }
         requires refused { IsRefusal (ask_meant asked) refusal }
-        ensures { IfOk result (IsJudged heard.entry (MayAnswer (place_of self.old) (ask_meant asked)) self.new) }
+        ensures judged { IfOk result (IsJudged heard.entry (MayAnswer (place_of self.old) (ask_meant asked)) self.new) }
+        ensures reads { OnOk result (self.new.has_read ≡ self.old.has_read) }
     {
         exact_answers_are_recited();
         let reply = Reply::Refused(refusal);
@@ -69,8 +73,9 @@ impl Judge {
     /// Begins a census. Where it must list exactly the reached objects, it does.
     fn begin_census(&mut self, heard: Heard<'_>) -> Result<bool, NoMemory>
         requires between { IsBetween self.old }
-        requires quiet { CensusIsQuiet (row_meant self.old.row) (state_of self.old.graph self.old.listed []) (taken command.Census) }
-        ensures { IfOk result (IsJudged heard.entry (MayAnswer (place_of self.old) (taken command.Census)) self.new) }
+        requires quiet { CensusIsQuiet (row_meant self.old.row) (state_of self.old.graph self.old.listed self.old.ended) (taken command.Census) }
+        ensures judged { IfOk result (IsJudged heard.entry (MayAnswer (place_of self.old) (taken command.Census)) self.new) }
+        ensures reads { OnOk result (self.new.has_read ≡ self.old.has_read) }
     {
         exact_answers_are_recited();
         let names = self.listed.census(self.alloc)?;
@@ -83,7 +88,8 @@ impl Judge {
     /// Begins to say why an object is reached. Want of memory may come in its place.
     fn begin_reasons(&mut self, name: Name, heard: Heard<'_>) -> Result<bool, NoMemory>
         requires between { IsBetween self.old }
-        ensures { IfOk result (IsJudged heard.entry (MayAnswer (place_of self.old) (taken (command.Why name))) self.new) }
+        ensures judged { IfOk result (IsJudged heard.entry (MayAnswer (place_of self.old) (taken (command.Why name))) self.new) }
+        ensures reads { OnOk result (self.new.has_read ≡ self.old.has_read) }
     {
         reasons_are_recited();
         answers_are_recited_line_by_line();
@@ -103,7 +109,8 @@ impl Judge {
         requires between { IsBetween self.old }
         requires in_range { IsTrue (in_range command) }
         requires is_heard { IsTrue (is_heard command) }
-        ensures { IfOk result (IsJudged heard.entry (MayAnswer (place_of self.old) (taken command)) self.new) }
+        ensures judged { IfOk result (IsJudged heard.entry (MayAnswer (place_of self.old) (taken command)) self.new) }
+        ensures reads { OnOk result (self.old.has_read ≡ false → reads_weakly command ≡ false → self.new.has_read ≡ false) }
     {
         answers_are_heard();
         answers_are_recited_line_by_line();
@@ -123,6 +130,7 @@ impl Judge {
     fn want_memory(&mut self, command: Command) -> bool
         requires between { IsBetween self.old }
         ensures kept { result ≡ true → IsKept self.new }
+        ensures reads { self.new.has_read ≡ self.old.has_read }
         ensures place { result ≡ true →
             position_of self.new ≡ reciting [] (place_after (place_of self.old) (taken command) (replying [] (replies.Refused refusals.NoMemory))) }
         ensures same { result ≡ false → self.new ≡ self.old }
@@ -155,10 +163,12 @@ impl Judge {
         ensures kept { OnOk result (IsKept self.new) }
         ensures answer { IfOk result (λ a. self.new.answer ≡ Some a) }
         ensures hearing { IfOk result (λ a. hearing_in self.new a ≡ hearing (place_of self.old) command) }
+        ensures reads { OnOk result (self.old.has_read ≡ false → reads_weakly command ≡ false → self.new.has_read ≡ false) }
     {
         all_that_is_reached_is_listed();
-        let reply = self.graph.step(&command)?;
+        let reply = step(&mut self.graph, &self.ended, command)?;
         self.known.go_on(command);
+        self.has_read = has_read_after(self.has_read, command);
         let answer = Answer::new(command, reply);
         self.answer = Some(answer);
         Ok(answer)
@@ -168,6 +178,7 @@ impl Judge {
     fn hear_reply(&mut self, asked: Asked, reply: Reply, heard: Heard<'_>) -> bool
         requires between { IsBetween self.old }
         ensures between { IsBetween self.new }
+        ensures reads { self.new.has_read ≡ self.old.has_read }
         ensures place { place_of self.new ≡ record (place_of self.old) { row = row_after (row_meant self.old.row) (ask_meant asked) (replying [] reply) } }
         ensures heard { (line : List ℕ) → IsHeard heard.entry line → IsTrue result ↔ (line ≡ text_of_reply reply) }
     {
@@ -181,7 +192,8 @@ impl Judge {
         requires kept { IsKept self.old }
         requires answer { self.old.answer ≡ None }
         requires left { 0 < length self.old.recital.items }
-        ensures { IsJudged heard.entry (MayRecite (reverse self.old.recital.items) (place_of self.old)) self.new result }
+        ensures judged { IsJudged heard.entry (MayRecite (reverse self.old.recital.items) (place_of self.old)) self.new result }
+        ensures reads { self.new.has_read ≡ self.old.has_read }
     {
         answers_are_recited_line_by_line();
         let last = self.recital.len() - 1;

@@ -28,4 +28,7 @@ pub enum Cause {
     Refused(Reply),
     /// The census behind the line must list exactly what is reached, and this object is listed and not reached.
     Kept(Name),
+    /// The census behind the line must list exactly what is reached, and this object is reached and not listed: it was freed, and a native
+    /// that leads to it was brought back by a weak register.
+    Lost(Name),
 }

@@ -17,6 +17,7 @@ use crate::cause::Cause;
 use crate::heard::Heard;
 use crate::judge::Judge;
 use crate::script::Script;
+use cc_listed::Listed;
 use cc_model::Event;
 use cc_names::{Name, NoMemory};
 use cc_search::Reach;
@@ -88,7 +89,7 @@ impl Judge {
     /// Why an object may not be freed or unlinked where others may: it is not listed, or reached.
     fn cause_of_name(&mut self, answer: Answer, event: Event, name: Name) -> Result<Cause, NoMemory>
         requires kept { IsKept self.old }
-        requires may { IsTrue (may_come answer.command (told_of answer self.old.listed []) event) }
+        requires may { IsTrue (may_come answer.command (told_of answer self.old.listed self.old.ended) event) }
         requires of { names_in event ≡ name ∷ [] }
         requires refused { ¬ (MayCome (hearing_in self.old answer) event) }
         ensures { IfOk result (λ c. (asks : List Ask) (line : List ℕ) → line ≡ text_of_event event →
@@ -115,9 +116,24 @@ impl Judge {
         self.known.find(&self.graph)?;
         match first_unfound(&self.known.reach, names.as_slice()) {
             Some(name) => Ok(Cause::Kept(name)),
-            None => unreachable!(),
+            None => Ok(Cause::Lost(first_unlisted(&self.known.reach, &self.listed))),
         }
     }
+}
+
+/// The first of the objects that were found that is not listed, where there is one.
+fn first_unlisted(reach: &Reach, listed: &Listed) -> Name
+    requires some { ¬ ((x : TheName) → Among x (named reach.now) → Among x listed.now) }
+    ensures found { Among result (named reach.now) }
+    ensures unlisted { ¬ (Among result listed.now) }
+{
+    for i in 0..reach.len() {
+        let found = reach.name(i);
+        if !listed.has(&found) {
+            return found;
+        }
+    }
+    unreachable!()
 }
 
 /// The first of some objects that was not found, if there is one.

@@ -130,7 +130,8 @@ fn try_all<'a, S: Source>(
 /// The source is read to its end before there is a verdict, whatever it gives. `Fault` where a read failed. `Limit` where script and
 /// transcript together have more bytes than the limits allow. `NoMemory` where memory was wanted and not there, at any time.
 ///
-/// It keeps the graph that the script makes, which nothing leaves, and no more of the transcript than one line.
+/// It keeps the graph that the script makes, which nothing leaves, and of the transcript the names that were unlinked or freed, and no
+/// more than one line.
 pub fn check<S: Source>(
     alloc: Global,
     limits: Limits,
@@ -168,9 +169,11 @@ pub fn check<S: Source>(
 
 /// Where what the source gives, to its end, parts from every lawful transcript of the script, within the limits of the run that it is of.
 ///
-/// The line that it names is the first with which no lawful transcript begins, counted from one: the lines before it are those of one.
-/// A transcript that ends too early is so far lawful, to its last line. It is `Lawful` exactly where `check` finds it lawful, and it
-/// stops for the causes of `check`.
+/// With the lines up to the one that it names, counted from one, no lawful transcript begins. Where the script reads no weak register, it
+/// is the first such line: the lines before it are those of a lawful transcript, and one that ends too early is so far lawful, to its
+/// last line. Where it reads one, this is not promised: an object that was freed may be led to again by the native that the register
+/// gives later, and whether a census then must list it, which none can, the lines so far do not tell. It is `Lawful` exactly where
+/// `check` finds it lawful, and it stops for the causes of `check`.
 pub fn find_parting<S: Source>(
     alloc: Global,
     limits: Limits,
@@ -179,10 +182,10 @@ pub fn find_parting<S: Source>(
 ) -> Result<Parting, CheckStop>
     requires within { length script.now ≤ limits.bytes }
     // No lawful transcript begins with the lines up to the one that is named, for the cause that is told, and one begins with the lines
-    // before it,
+    // before it, where the script reads no weak register,
     ensures line { (blame : TheBlame) → result ≡ Ok (Parting.Line blame) →
         IsFoundParted limits script.now (ends S.left S.reads source.old source.new) blame }
-    // or one begins with all lines, and these bytes are none,
+    // or one begins with all lines, where the script reads none, and these bytes are none,
     ensures end { result ≡ Ok Parting.End → IsFoundEarly limits script.now (ends S.left S.reads source.old source.new) }
     // or they are one.
     ensures lawful { result ≡ Ok Parting.Lawful → IsFoundLawful limits script.now (ends S.left S.reads source.old source.new) }

@@ -1,8 +1,9 @@
 //! What kinds of commands there are.
-ghost use Rattle.std.specs.Prelude.{◌≡◌, [], IsTrue};
-ghost use Rattle.cc_model.specs.Graph.{step};
+ghost use Rattle.std.specs.Prelude.{◌≡◌, ◌||◌, IsTrue, List};
+ghost use Rattle.cc_names.specs.declared.name.Name.{Name as TheName};
 ghost use Rattle.cc_model.specs.Graph as graph;
-ghost use Rattle.cc_model.specs.Lawful.{is_gc, may_free, may_unlink, may_want_memory, runs_allowed, runs_units, state_of};
+ghost use Rattle.cc_model.specs.Lawful.{is_gc, may_free, may_unlink, may_want_memory, runs_allowed, runs_units, state_of, step_with};
+ghost use Rattle.cc_model.specs.Mutating.{reads_weakly};
 ghost use Rattle.cc_check.specs.Standing.{lists};
 
 use cc_listed::Listed;
@@ -62,10 +63,11 @@ pub(crate) fn runs_allowed(command: Command) -> u32
 
 /// Whether it leaves the graph as it is, whatever it holds.
 pub(crate) fn leaves_graph(command: Command) -> bool
-    ensures { IsTrue result → (g : graph.Graph) → step g command ≡ g }
+    ensures { IsTrue result → (ended : List TheName) (g : graph.Graph) → step_with ended g command ≡ g }
 {
     match command {
-        Command::Forget | Command::Slice(_) | Command::Collect | Command::Gc => true,
+        Command::Forget | Command::Slice(_) | Command::Collect | Command::Gc | Command::Mark(_) =>
+            true,
         _ => false,
     }
 }
@@ -73,7 +75,7 @@ pub(crate) fn leaves_graph(command: Command) -> bool
 /// Whether it may want memory, where the graph does not refuse it: `wset` for a new entry alone, `wrap` where the reflector is not
 /// listed.
 pub(crate) fn may_want_memory(graph: &ObjectGraph, listed: &Listed, command: Command) -> bool
-    ensures { result ≡ may_want_memory (state_of graph.now listed.now []) command }
+    ensures { (ended : List TheName) → result ≡ may_want_memory (state_of graph.now listed.now ended) command }
 {
     match command {
         Command::Native(_, _)
@@ -89,6 +91,16 @@ pub(crate) fn may_want_memory(graph: &ObjectGraph, listed: &Listed, command: Com
             _ => true,
         },
         _ => false,
+    }
+}
+
+/// Whether a weak register was read, once the command is done.
+pub(crate) fn has_read_after(has_read: bool, command: Command) -> bool
+    ensures { result ≡ (has_read || reads_weakly command) }
+{
+    match command {
+        Command::Deref(_, _) => true,
+        _ => has_read,
     }
 }
 

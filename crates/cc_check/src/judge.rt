@@ -2,7 +2,7 @@
 ghost use Rattle.std.specs.Prelude.{◌≡◌, ◌≢◌, ◌↔◌, ℕ, List, [], ◌∷◌, false, true, None, Ok, IfOk, IfSome, IsTrue, OnOk};
 ghost use Rattle.cc_names.specs.Allowance.{Allowance};
 ghost use Rattle.cc_verdict.specs.Following.{first_place};
-ghost use Rattle.cc_verdict.specs.GoingOn.{CanAnswer, CanGoOn};
+ghost use Rattle.cc_verdict.specs.GoingOn.{CanAnswer, CanGoOn, ReadNone};
 ghost use Rattle.cc_verdict.specs.Positions.{GoesOn, reciting};
 ghost use Rattle.cc_check.specs.Causes.{IsPart};
 ghost use Rattle.cc_check.specs.Judging.{GoesAlong, IsRefusedAt, no_memory_line};
@@ -11,6 +11,7 @@ ghost use Rattle.cc_check.specs.Standing.{IsHeard, IsKept, asks_left, place_of, 
 use crate::answer::Answer;
 use crate::asking::{census_is_next, next_asked};
 use crate::cause::Cause;
+use crate::ended::Ended;
 use crate::heard::Heard;
 use crate::known::Known;
 use crate::row::Row;
@@ -31,12 +32,14 @@ use std::alloc::Global;
 ///
 /// An answer that can be but one way is kept as the items that are left of it, the next one last. Of another one it is kept
 /// what was told so far; the graph is then the one after its command, and the row the one before it. The names that have ended
-/// are not kept: nothing that is asked depends on them.
+/// decide what a weak register gives. Whether one was read so far is kept: what it gave may lead to objects that were freed.
 #[derive(Drop)]
 pub(crate) struct Judge {
     pub(crate) alloc: Global,
     pub(crate) graph: ObjectGraph,
     pub(crate) listed: Listed,
+    pub(crate) ended: Ended,
+    pub(crate) has_read: bool,
     pub(crate) row: Row,
     pub(crate) recital: Vec<Item>,
     pub(crate) answer: Option<Answer>,
@@ -48,12 +51,15 @@ impl Judge {
     pub(crate) fn new(alloc: Global, limits: Limits) -> Result<Judge, NoMemory>
         ensures start { IfOk result (λ j. position_of j ≡ reciting [] (first_place limits)) }
         ensures kept { IfOk result (λ j. IsKept j) }
+        ensures unread { IfOk result (λ j. j.has_read ≡ false) }
     {
         all_that_is_reached_is_listed();
         Ok(Judge {
             alloc,
             graph: ObjectGraph::new(alloc, limits)?,
             listed: Listed::new(alloc),
+            ended: Ended::new(alloc),
+            has_read: false,
             row: Row::NothingYet,
             recital: Vec::new(alloc),
             answer: None,
@@ -77,7 +83,9 @@ impl Judge {
         ensures no { IfOk result (λ o. IfSome o (λ c. (line : List ℕ) (lines : List (List ℕ)) → IsHeard heard.entry line →
             ¬ (GoesOn (position_of self.old) (asks_left script.old) (line ∷ lines)))) }
         ensures cause { IfOk result (λ o. IfSome o (IsPart (position_of self.old) (asks_left script.old) heard.entry (asks_left script.new))) }
-        ensures goes_on { result ≡ Ok None → (lines : List (List ℕ)) × GoesOn (position_of self.new) (asks_left script.new) lines }
+        ensures goes_on { result ≡ Ok None → self.new.has_read ≡ false → ReadNone (asks_left script.new) →
+            (lines : List (List ℕ)) × GoesOn (position_of self.new) (asks_left script.new) lines }
+        ensures reads { result ≡ Ok None → self.old.has_read ≡ false → ReadNone (asks_left script.old) → self.new.has_read ≡ false }
         ensures along { OnOk result (GoesAlong script.old script.new) }
     {
         dead_ends_lead_nowhere();
@@ -96,6 +104,7 @@ impl Judge {
         requires kept { IsKept self.old }
         ensures kept { OnOk result (IsKept self.new) }
         ensures same { OnOk result (position_of self.new ≡ position_of self.old) }
+        ensures reads { OnOk result (self.new.has_read ≡ self.old.has_read) }
         ensures can { IfOk result (λ b. IsTrue b ↔ CanGoOn (position_of self.old) (asks_left script.entry)) }
     {
         if let Some(answer) = self.answer {
@@ -113,6 +122,7 @@ impl Judge {
         requires answer { self.old.answer ≡ None }
         ensures kept { OnOk result (IsKept self.new) }
         ensures same { OnOk result (position_of self.new ≡ position_of self.old) }
+        ensures reads { OnOk result (self.new.has_read ≡ self.old.has_read) }
         ensures can { IfOk result (λ b. IsTrue b ↔ CanAnswer (place_of self.old) (asks_left script.entry)) }
     {
         if !census_is_next(script) {
@@ -137,6 +147,7 @@ impl Judge {
             GoesOn (position_of self.old) (asks_left script.old) (line ∷ lines) ↔ GoesOn (position_of self.new) (asks_left script.new) (line ∷ lines) }
         ensures refused { result ≡ Ok false → (line : List ℕ) → IsHeard heard.entry line →
             IsRefusedAt (position_of self.new) (asks_left script.new) line }
+        ensures reads { OnOk result (self.old.has_read ≡ false → ReadNone (asks_left script.old) → self.new.has_read ≡ false) }
         ensures along { OnOk result (GoesAlong script.old script.new) }
     {
         lines_that_ask_nothing_have_no_answer();

@@ -1,5 +1,5 @@
 //! What the registers of the graph reach, found when it is first asked for.
-ghost use Rattle.std.specs.Prelude.{◌≡◌, ◌↔◌, [], IfOk, IsTrue, OnOk};
+ghost use Rattle.std.specs.Prelude.{◌≡◌, ◌↔◌, IfOk, IsTrue, List, OnOk};
 ghost use Rattle.cc_lists.specs.Members.{Among, has};
 ghost use Rattle.cc_names.specs.Names.{same_name};
 ghost use Rattle.cc_names.specs.declared.name.Name.{Name as TheName};
@@ -7,12 +7,11 @@ ghost use Rattle.cc_model.specs.declared.command.Command.TheVariants as command;
 ghost use Rattle.cc_model.specs.Asks.{taken};
 ghost use Rattle.cc_model.specs.Derivations.{named};
 ghost use Rattle.cc_model.specs.Graph as graph;
-ghost use Rattle.cc_model.specs.Graph.{step};
 ghost use Rattle.cc_model.specs.Listed.{census_order};
 ghost use Rattle.cc_model.specs.Quiet.{CensusIsQuiet, ListsReached};
 ghost use Rattle.cc_model.specs.Reached.{Reached};
 ghost use Rattle.cc_model.specs.WellMade.{IsWellMade};
-ghost use Rattle.cc_model.specs.Lawful.{state_of};
+ghost use Rattle.cc_model.specs.Lawful.{state_of, step_with};
 ghost use Rattle.cc_verdict.specs.Hearing.{IsOfGarbage};
 ghost use Rattle.cc_check.specs.Standing.{IsFoundIn, IsOf, row_meant};
 
@@ -45,7 +44,7 @@ impl Known {
 
     /// Goes on with the graph after a command: nothing is known of it, unless the command leaves the graph.
     pub(crate) fn go_on(&mut self, command: Command)
-        ensures { (g : graph.Graph) → IsOf self.old g → IsOf self.new (step g command) }
+        ensures { (ended : List TheName) (g : graph.Graph) → IsOf self.old g → IsOf self.new (step_with ended g command) }
     {
         if !leaves_graph(command) {
             self.is_found = false;
@@ -115,7 +114,7 @@ impl Known {
         requires well_made { IsWellMade graph.now }
         requires known { IsOf self.old graph.now }
         requires names { names.now ≡ census_order listed.now }
-        ensures quiet { IfOk result (λ b. IsTrue b ↔ CensusIsQuiet (row_meant row) (state_of graph.now listed.now []) (taken command.Census)) }
+        ensures quiet { IfOk result (λ b. (ended : List TheName) → IsTrue b ↔ CensusIsQuiet (row_meant row) (state_of graph.now listed.now ended) (taken command.Census)) }
         ensures known { OnOk result (IsOf self.new graph.now) }
     {
         match row {
@@ -134,7 +133,7 @@ impl Known {
         requires well_made { IsWellMade graph.now }
         requires known { IsOf self.old graph.now }
         requires names { names.now ≡ census_order listed.now }
-        ensures exactly { IfOk result (λ b. IsTrue b ↔ ListsReached (state_of graph.now listed.now [])) }
+        ensures exactly { IfOk result (λ b. (ended : List TheName) → IsTrue b ↔ ListsReached (state_of graph.now listed.now ended)) }
         ensures known { OnOk result (IsOf self.new graph.now) }
     {
         self.find(graph)?;

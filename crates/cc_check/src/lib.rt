@@ -1,7 +1,8 @@
 //! A checker of transcripts: whether a collector's answers to a script are those of an object graph from which nothing is freed.
 //!
 //! It reads the transcript line by line, and keeps the object graph that the script made so far, the names that a census would
-//! list, and the answer that it is in. Each line is compared with what may come there: a reply with the graph's, a census with
+//! list, and the answer that it is in, and the
+//! names that have ended, which decide what a weak register gives. Each line is compared with what may come there: a reply with the graph's, a census with
 //! the listed names, an event with what no register reaches. What the registers reach is found once for a command that frees or
 //! unlinks something, in time that goes with what is reached.
 //!
@@ -19,6 +20,7 @@ mod cause;
 mod causes;
 mod checking;
 mod commands;
+mod ended;
 mod heard;
 mod judge;
 mod known;
@@ -29,6 +31,7 @@ mod reading;
 mod reciting;
 mod row;
 mod script;
+mod stepping;
 mod telling;
 mod trial;
 mod verdict;

@@ -18,8 +18,10 @@ pub struct Blame {
 pub enum Parting {
     /// Nowhere: it is lawful.
     Lawful,
-    /// At this line: a lawful transcript begins with the lines before it, and none with this one too.
+    /// At this line: no lawful transcript begins with the lines up to this one, and one with those before it, where the script reads no
+    /// weak register.
     Line(Blame),
-    /// At its end: a lawful transcript begins with its lines, but more comes there, or the line feed of the last line is missing.
+    /// At its end: more comes there in a lawful transcript, or the line feed of the last line is missing. One begins with its lines, where
+    /// the script reads no weak register.
     End,
 }

@@ -107,6 +107,14 @@ fn put_cause(out: &mut Vec<u8>, cause: &Cause) -> Result<(), NoMemory> {
             put_name(out, *name)?;
             put(out, b" is not")
         }
+        Cause::Lost(name) => {
+            put(
+                out,
+                b"the census behind it lists exactly what is reached, and ",
+            )?;
+            put_name(out, *name)?;
+            put(out, b" is, but it was freed")
+        }
     }
 }
 

@@ -21,8 +21,8 @@ use cc_verdict::{
 };
 use std::alloc::Global;
 
-/// A trial: the judge, the lines of the script that are left, whether a lawful transcript begins with the lines so far, and else why
-/// not, how many of them one begins with, and how many bytes those have, each with a line feed.
+/// A trial: the judge, the lines of the script that are left, whether no line has parted so far, and else why one has, how many lines came
+/// before it, and how many bytes those have, each with a line feed.
 #[derive(Drop)]
 pub(crate) struct Trial<'a> {
     judge: Judge,

@@ -4,12 +4,12 @@ ghost use Rattle.cc_lists.specs.Members.{has};
 ghost use Rattle.cc_names.specs.declared.name.Name.{Name as TheName};
 ghost use Rattle.cc_names.specs.Names.{same_name};
 ghost use Rattle.cc_model.specs.declared.item.Reply.TheVariants as replies;
-ghost use Rattle.cc_model.specs.Listed.{after_event, after_reply, ended_with};
+ghost use Rattle.cc_model.specs.Listed.{after_event, after_reply};
 ghost use Rattle.cc_verdict.specs.GoingOn.{CanGoOn};
 ghost use Rattle.cc_verdict.specs.Hearing.{MayCome, MayEnd, place_ended, with_told};
 ghost use Rattle.cc_verdict.specs.Positions.{reciting, within};
 ghost use Rattle.cc_check.specs.Judging.{IsJudged, MayGoOn};
-ghost use Rattle.cc_check.specs.Standing.{IsKept, hearing_in, makes, position_of, position_with};
+ghost use Rattle.cc_check.specs.Standing.{IsKept, hearing_in, makes, position_of};
 
 use crate::answer::Answer;
 use crate::asked::Asked;
@@ -31,7 +31,8 @@ impl Judge {
         requires kept { IsKept self.old }
         requires answer { self.old.answer ≡ Some answer }
         requires can { CanGoOn (within (hearing_in self.old answer)) [] }
-        ensures { IfOk result (IsJudged heard.entry (MayGoOn (hearing_in self.old answer)) self.new) }
+        ensures judged { IfOk result (IsJudged heard.entry (MayGoOn (hearing_in self.old answer)) self.new) }
+        ensures reads { OnOk result (self.new.has_read ≡ self.old.has_read) }
     {
         answers_are_heard_line_by_line();
         answers_are_recited_line_by_line();
@@ -56,10 +57,10 @@ impl Judge {
         requires answer { self.old.answer ≡ Some answer }
         ensures kept { OnOk result (IsKept self.new) }
         ensures yes { IfOk result (λ b. b ≡ true → MayCome (hearing_in self.old answer) event) }
-        ensures place { IfOk result (λ b. b ≡ true →
-            position_with (ended_with [] event) self.new self.new.answer ≡ within (with_told (hearing_in self.old answer) event)) }
+        ensures place { IfOk result (λ b. b ≡ true → position_of self.new ≡ within (with_told (hearing_in self.old answer) event)) }
         ensures no { IfOk result (λ b. b ≡ false → ¬ (MayCome (hearing_in self.old answer) event)) }
         ensures stays { IfOk result (λ b. b ≡ false → position_of self.new ≡ within (hearing_in self.old answer)) }
+        ensures reads { OnOk result (self.new.has_read ≡ self.old.has_read) }
     {
         all_that_is_reached_is_listed();
         if !answer.may_come(event) {
@@ -69,6 +70,7 @@ impl Judge {
             return Ok(false);
         }
         take_out(&mut self.listed, event);
+        self.ended.add(event)?;
         self.answer = Some(answer.after(event));
         Ok(true)
     }
@@ -80,6 +82,7 @@ impl Judge {
         requires may_end { MayEnd (hearing_in self.old answer) reply }
         ensures kept { OnOk result (IsKept self.new) }
         ensures place { OnOk result (position_of self.new ≡ reciting [] (place_ended (hearing_in self.old answer) reply)) }
+        ensures reads { OnOk result (self.new.has_read ≡ self.old.has_read) }
     {
         all_that_is_reached_is_listed();
         self.row = self.row.after(Asked::Taken(answer.command), reply);

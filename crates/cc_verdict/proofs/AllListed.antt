@@ -121,8 +121,8 @@ there-put names c reply x m = inl m
 
 -- A step
 
--- the graph refuses no collection
-collection-granted : (g : Graph) (c : Command) → IsTrue (is_gc c || runs_units c) → is_refused (reply_to g c) ≡ false
+-- THE GRAPH REFUSES NO COLLECTION.
+pub collection-granted : (g : Graph) (c : Command) → IsTrue (is_gc c || runs_units c) → is_refused (reply_to g c) ≡ false
 unfolding refusal_of reply_if_taken
 collection-granted g command.Gc e = refl
 collection-granted g (command.Mark n) e = refl

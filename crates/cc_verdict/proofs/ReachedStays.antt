@@ -73,7 +73,14 @@ ArePart-same (x ∷ xs) = inl (refl, ArePart-same xs)
 husk-follows : (P : Name → Type 0) (g : Graph) → IsBlank g → IsClosed P g → Follows P (husk g) g
 husk-follows P g b c = record {
   beside = record { native_registers = refl; script_registers = refl; limits = refl; natives_made = refl; scripts_made = refl };
-  objects = record { natives = λ n m. absurd m; alike = λ n m. absurd m; scripts = λ o m. absurd m; named = λ o m. absurd m };
+  objects = record {
+    natives = λ n m. absurd m;
+    living = λ n m u. absurd m;
+    spent = λ n m u p. absurd m;
+    alike = λ n m. absurd m;
+    scripts = λ o m. absurd m;
+    named = λ o m. absurd m;
+  };
   entries = record { values = λ m k p q. refl; part = ArePart-same g.entries };
   blank = b;
   closed = c;

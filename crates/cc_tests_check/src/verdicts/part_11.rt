@@ -5,7 +5,7 @@
 use crate::example::{Example, are_judged};
 use cc_check::Verdict;
 
-const EXAMPLES: [Example; 15] = [
+const EXAMPLES: [Example; 20] = [
     // A native that no register reaches is gone after gc, collect and gc.
     Example {
         name: "garbage_is_kept",
@@ -170,6 +170,61 @@ const EXAMPLES: [Example; 15] = [
         transcript: b"= ok\n= @1\n= ok\n- free @1\n= ok\n",
         verdict: Verdict::Unlawful,
         told: b"line 4, answer to line 4 (forget): @1 is freed, and this command may not free it\n",
+    },
+    // A weak register gives the native that it notes as long as that has not ended.
+    Example {
+        name: "native_is_given_by_a_weak_register",
+        natives: 1000000,
+        scripts: 1000000,
+        bytes: 4294967295,
+        script: b"version 2\nnative n0 0\nweak w0 n0\nderef n1 w0\ndrop n0\ncensus\n",
+        transcript: b"= ok\n= #1\n= #1\n= #1\n= ok\n+ #1\n= census 1\n",
+        verdict: Verdict::Lawful,
+        told: b"lawful\n",
+    },
+    // What a weak register alone notes may be freed, and it gives nothing from then on.
+    Example {
+        name: "weak_register_is_no_root",
+        natives: 1000000,
+        scripts: 1000000,
+        bytes: 4294967295,
+        script: b"version 2\nnative n0 0\nweak w0 n0\ndrop n0\nderef n1 w0\ncensus\n",
+        transcript: b"= ok\n= #1\n= #1\n- free #1\n= ok\n= none\n= census 0\n",
+        verdict: Verdict::Lawful,
+        told: b"lawful\n",
+    },
+    // What no register reaches and what has not ended is given, and is reached again.
+    Example {
+        name: "garbage_is_brought_back",
+        natives: 1000000,
+        scripts: 1000000,
+        bytes: 4294967295,
+        script: b"version 2\nnative n0 1\nset n0 0 n0\nweak w0 n0\ndrop n0\nderef n1 w0\ngc\ncollect\ngc\ncensus\n",
+        transcript: b"= ok\n= #1\n= ok\n= #1\n= ok\n= #1\n= ok\n= ok\n= ok\n+ #1\n= census 1\n",
+        verdict: Verdict::Lawful,
+        told: b"lawful\n",
+    },
+    // A native that was unlinked has ended, though a census lists it still.
+    Example {
+        name: "unlinked_native_is_given_no_more",
+        natives: 1000000,
+        scripts: 1000000,
+        bytes: 4294967295,
+        script: b"version 2\nnative n0 1\nset n0 0 n0\nweak w0 n0\ndrop n0\ncollect\nderef n1 w0\ncensus\n",
+        transcript: b"= ok\n= #1\n= ok\n= #1\n= ok\n- unlink #1\n= ok\n= none\n+ #1\n= census 1\n",
+        verdict: Verdict::Lawful,
+        told: b"lawful\n",
+    },
+    // A weak register that was emptied gives nothing.
+    Example {
+        name: "weak_register_is_emptied",
+        natives: 1000000,
+        scripts: 1000000,
+        bytes: 4294967295,
+        script: b"version 2\nnative n0 0\nweak w0 n0\ndrop w0\nderef n1 w0\n",
+        transcript: b"= ok\n= #1\n= #1\n= ok\n= none\n",
+        verdict: Verdict::Lawful,
+        told: b"lawful\n",
     },
 ];
 

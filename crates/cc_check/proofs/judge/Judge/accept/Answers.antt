@@ -9,7 +9,8 @@ use Rattle.cc_check.specs.declared.script.Script.{Script}
 use Rattle.cc_check.specs.Judging.{GoesAlong, IsJudged, MayAnswer, MayGoOn, from_next}
 use Rattle.cc_check.specs.Standing.{ask_meant, asks_left, hearing_in, place_of, position_in, position_of}
 use Rattle.cc_check.proofs.Ahead.{can-next}
-use Rattle.cc_check.proofs.Judged.{IfOk-at, between, judged-kept, nothing_left, refused-same}
+use Rattle.cc_check.proofs.Judged.{IfOk-at, OnOk-then, between, judged-kept, nothing_left, refused-same}
+use Rattle.cc_check.proofs.Unread.{next-unread}
 use Rattle.cc_check.proofs.Passing.{Follows-from_next, PassesOver, stands}
 use Rattle.cc_check.proofs.judge.Judge.accept.Goals as goal
 
@@ -40,19 +41,19 @@ begin-requires-clause-quiet c =
     can-next (place_of j) (asks_left c.args.script.now) (asks_left c.next_asked.new.script) (ask_meant c.in-Some-next_asked.asked) c.in-Some-next_asked.ensures.some can
 
 pub returns-in-Some-clause-kept : goal.returns-in-Some-clause-kept
-returns-in-Some-clause-kept c = judged-kept c.args.heard (MayGoOn (hearing_in c.args.self.now c.in-Some.answer)) c.hear_within.new.self c.hear_within.result c.hear_within.ensures
+returns-in-Some-clause-kept c = judged-kept c.args.heard (MayGoOn (hearing_in c.args.self.now c.in-Some.answer)) c.hear_within.new.self c.hear_within.result c.hear_within.ensures.judged
 
 pub returns-in-Some-clause-stands : goal.returns-in-Some-clause-stands
 returns-in-Some-clause-stands c = λ e line lines n.
     let h = hearing_in c.args.self.now c.in-Some.answer in
-    let judged = IfOk-at c.hear_within.result (IsJudged c.args.heard (MayGoOn h) c.hear_within.new.self) false c.hear_within.ensures e in
+    let judged = IfOk-at c.hear_within.result (IsJudged c.args.heard (MayGoOn h) c.hear_within.new.self) false c.hear_within.ensures.judged e in
     subst (λ (p : Position). GoesOn p (asks_left c.args.script.now) (line ∷ lines) ↔ GoesOn (position_of c.hear_within.new.self) (asks_left c.args.script.now) (line ∷ lines))
     (sym (ap (position_in c.args.self.now) c.in-Some.is)) (judged.stands refl (asks_left c.args.script.now) line lines n)
 
 pub returns-in-Some-clause-refused : goal.returns-in-Some-clause-refused
 returns-in-Some-clause-refused c = λ e line hd.
     let h = hearing_in c.args.self.now c.in-Some.answer in
-    let judged = IfOk-at c.hear_within.result (IsJudged c.args.heard (MayGoOn h) c.hear_within.new.self) false c.hear_within.ensures e in
+    let judged = IfOk-at c.hear_within.result (IsJudged c.args.heard (MayGoOn h) c.hear_within.new.self) false c.hear_within.ensures.judged e in
     judged.refused refl (asks_left c.args.script.now) line hd
 
 pub returns-then-not-is_empty-clause-stands : goal.returns-then-not-is_empty-clause-stands
@@ -60,16 +61,16 @@ returns-then-not-is_empty-clause-stands c = λ e line lines n.
     let j = c.args.self.now in
     let no : c.recite.result ≡ false = cc in
     subst (λ (p : Position). GoesOn p (asks_left c.args.script.now) (line ∷ lines) ↔ GoesOn (position_of c.recite.new.self) (asks_left c.args.script.now) (line ∷ lines))
-    (sym (ap (position_in j) c.in_default.is)) (c.recite.ensures.stands no (asks_left c.args.script.now) line lines n)
+    (sym (ap (position_in j) c.in_default.is)) (c.recite.ensures.judged.stands no (asks_left c.args.script.now) line lines n)
 
 pub returns-then-not-is_empty-clause-refused : goal.returns-then-not-is_empty-clause-refused
 returns-then-not-is_empty-clause-refused c = λ e line hd.
     let no : c.recite.result ≡ false = cc in
-    c.recite.ensures.refused no (asks_left c.args.script.now) line hd
+    c.recite.ensures.judged.refused no (asks_left c.args.script.now) line hd
 
 pub returns-in-Some-next_asked-clause-kept : goal.returns-in-Some-next_asked-clause-kept
 returns-in-Some-next_asked-clause-kept c =
-    judged-kept c.args.heard (MayAnswer (place_of c.args.self.now) (ask_meant c.in-Some-next_asked.asked)) c.begin.new.self c.begin.result c.begin.ensures
+    judged-kept c.args.heard (MayAnswer (place_of c.args.self.now) (ask_meant c.in-Some-next_asked.asked)) c.begin.new.self c.begin.result c.begin.ensures.judged
 
 pub returns-in-Some-next_asked-clause-stands : goal.returns-in-Some-next_asked-clause-stands
 returns-in-Some-next_asked-clause-stands c = λ e line lines n.
@@ -77,7 +78,7 @@ returns-in-Some-next_asked-clause-stands c = λ e line lines n.
     let asked = ask_meant c.in-Some-next_asked.asked in
     let left = asks_left c.next_asked.new.script in
     let judged : IsJudged c.args.heard (MayAnswer (place_of j) asked) c.begin.new.self false =
-    IfOk-at c.begin.result (IsJudged c.args.heard (MayAnswer (place_of j) asked) c.begin.new.self) false c.begin.ensures e in
+    IfOk-at c.begin.result (IsJudged c.args.heard (MayAnswer (place_of j) asked) c.begin.new.self) false c.begin.ensures.judged e in
     let y = judged.stands refl left line lines n in
     let on = subst (λ (asks : List Ask). GoesOn (position_of j) (asks_left c.args.script.now) (line ∷ lines) ↔ Follows (place_of j) asks (line ∷ lines))
     c.in-Some-next_asked.ensures.some
@@ -89,7 +90,7 @@ pub returns-in-Some-next_asked-clause-refused : goal.returns-in-Some-next_asked-
 returns-in-Some-next_asked-clause-refused c = λ e line hd.
     let asked = ask_meant c.in-Some-next_asked.asked in
     let judged : IsJudged c.args.heard (MayAnswer (place_of c.args.self.now) asked) c.begin.new.self false =
-    IfOk-at c.begin.result (IsJudged c.args.heard (MayAnswer (place_of c.args.self.now) asked) c.begin.new.self) false c.begin.ensures e in
+    IfOk-at c.begin.result (IsJudged c.args.heard (MayAnswer (place_of c.args.self.now) asked) c.begin.new.self) false c.begin.ensures.judged e in
     judged.refused refl (asks_left c.next_asked.new.script) line hd
 
 pub returns-in-None-clause-stands : goal.returns-in-None-clause-stands
@@ -110,7 +111,7 @@ returns-in-Some-next_asked-clause-yes c = λ e line lines hd.
     let asked = ask_meant c.in-Some-next_asked.asked in
     let left = asks_left c.next_asked.new.script in
     let judged : IsJudged c.args.heard (MayAnswer (place_of j) asked) c.begin.new.self true =
-    IfOk-at c.begin.result (IsJudged c.args.heard (MayAnswer (place_of j) asked) c.begin.new.self) true c.begin.ensures e in
+    IfOk-at c.begin.result (IsJudged c.args.heard (MayAnswer (place_of j) asked) c.begin.new.self) true c.begin.ensures.judged e in
     let y = judged.yes refl left line lines hd in
     let on = subst (λ (asks : List Ask). GoesOn (position_of j) (asks_left c.args.script.now) (line ∷ lines) ↔ Follows (place_of j) asks (line ∷ lines))
     c.in-Some-next_asked.ensures.some
@@ -124,7 +125,7 @@ returns-in-Some-next_asked-clause-no c = λ e line lines hd g.
     let asked = ask_meant c.in-Some-next_asked.asked in
     let left = asks_left c.next_asked.new.script in
     let judged : IsJudged c.args.heard (MayAnswer (place_of j) asked) c.begin.new.self false =
-    IfOk-at c.begin.result (IsJudged c.args.heard (MayAnswer (place_of j) asked) c.begin.new.self) false c.begin.ensures e in
+    IfOk-at c.begin.result (IsJudged c.args.heard (MayAnswer (place_of j) asked) c.begin.new.self) false c.begin.ensures.judged e in
     let on = subst (λ (asks : List Ask). GoesOn (position_of j) (asks_left c.args.script.now) (line ∷ lines) ↔ Follows (place_of j) asks (line ∷ lines))
     c.in-Some-next_asked.ensures.some
     (next-on j (asks_left c.args.script.now) (line ∷ lines) (stands j c.in_default.is (nothing_left j.recital (sym c.is_empty.ensures ∙ c.if-not-is_empty.false)))
@@ -140,3 +141,9 @@ returns-in-None-clause-no c = λ e line lines hd g.
     c.answers_are_recited_line_by_line.ensures.nothing c.lines_that_ask_nothing_have_no_answer.ensures.nothing) in
     let over : line ∷ lines ≡ [] = (c.lines_that_ask_nothing_have_no_answer.ensures.over (place_of j) (line ∷ lines)).0 (on.0 g) in
     absurd (cc)
+
+pub returns-in-Some-next_asked-clause-reads : goal.returns-in-Some-next_asked-clause-reads
+returns-in-Some-next_asked-clause-reads c = OnOk-then c.begin.result _ _
+    (λ reads unread none. reads unread
+    (next-unread (asks_left c.args.script.now) (asks_left c.next_asked.new.script) (ask_meant c.in-Some-next_asked.asked) none c.in-Some-next_asked.ensures.some))
+    c.begin.ensures.reads

@@ -6,14 +6,13 @@ use Rattle.cc_model.specs.declared.item.Reply.{Reply}
 use Rattle.cc_model.specs.declared.item.Reply.TheVariants as replies
 use Rattle.cc_model.specs.Answers.{replying}
 use Rattle.cc_model.specs.Asks.{Ask, taken}
-use Rattle.cc_model.specs.Graph.{reply_to}
-use Rattle.cc_model.specs.Lawful.{is_without_memory}
+use Rattle.cc_model.specs.Lawful.{is_without_memory, reply_with}
 use Rattle.cc_model.specs.Texts.{text_of_reply}
 use Rattle.cc_verdict.specs.Following.{Follows, place_after}
 use Rattle.cc_verdict.specs.Hearing.{Hearing, Hears, hearing}
 use Rattle.cc_verdict.specs.GoingOn.{CanGoOn}
 use Rattle.cc_verdict.specs.Positions.{Position, GoesOn, within}
-use Rattle.cc_verdict.proofs.Stays.{graph-granted}
+use Rattle.cc_verdict.proofs.Stays.{reply-granted}
 use Rattle.cc_check.specs.declared.judge.Judge.{Judge}
 use Rattle.cc_check.specs.Judging.{IsJudged, IsRefusedAt, MayAnswer, MayGoOn, reply_due}
 use Rattle.cc_check.specs.Standing.{hearing_in, place_of, position_in, position_of}
@@ -23,8 +22,8 @@ use Rattle.cc_check.proofs.judge.Judge.begin_command.Goals as goal
 abbrev no_memory : Reply
 no_memory = replies.Refused refusals.NoMemory
 
-pub returns-then-want_memory : goal.returns-then-want_memory
-returns-then-want_memory c =
+pub returns-then-want_memory-clause-judged : goal.returns-then-want_memory-clause-judged
+returns-then-want_memory-clause-judged c =
     let p = place_of c.args.self.now in
     let after = place_after p (taken c.args.command) (replying [] no_memory) in
     record {
@@ -42,8 +41,8 @@ returns-then-want_memory c =
       refused = λ no. absurd (true≢false no);
     }
 
-pub returns-then-is : goal.returns-then-is
-returns-then-is c =
+pub returns-then-is-clause-judged : goal.returns-then-is-clause-judged
+returns-then-is-clause-judged c =
     let p = place_of c.args.self.now in
     let there : position_of c.step.new.self ≡ within (hearing p c.args.command) =
     ap (position_in c.step.new.self) c.in_ok-step.ensures.answer ∙ (ap within c.in_ok-step.ensures.hearing
@@ -64,18 +63,18 @@ returns-then-is c =
           subst (λ (q : Position). IsRefusedAt q asks line) (sym there) (
             (λ e same may. c.lines_tell_items_apart.ensures.apart e no_memory (sym same ∙ is)),
             (λ same.
-                let due : reply_due (hearing p c.args.command) ≡ reply_to p.state.graph c.args.command = grind (arith, and_right) in
-                let want : no_memory ≡ reply_to p.state.graph c.args.command =
-                c.lines_tell_items_apart.ensures.replies no_memory (reply_to p.state.graph c.args.command) (omega arith) (sym is ∙ (same ∙ ap text_of_reply due)) in
-                true≢false (ap is_without_memory want ∙ graph-granted p.state.graph c.args.command)),
+                let due : reply_due (hearing p c.args.command) ≡ reply_with p.state.ended p.state.graph c.args.command = grind (arith, and_right) in
+                let want : no_memory ≡ reply_with p.state.ended p.state.graph c.args.command =
+                c.lines_tell_items_apart.ensures.replies no_memory (reply_with p.state.ended p.state.graph c.args.command) (omega arith) (sym is ∙ (same ∙ ap text_of_reply due)) in
+                true≢false (ap is_without_memory want ∙ reply-granted p.state.ended p.state.graph c.args.command)),
           );
     }
 
 pub hear_within-requires-clause-can : goal.hear_within-requires-clause-can
 hear_within-requires-clause-can c = subst (λ (h : Hearing). CanGoOn (within h) []) (sym c.in_ok-answer.ensures.hearing) (λ r. refl)
 
-pub returns : goal.returns
-returns c =
+pub returns-clause-judged : goal.returns-clause-judged
+returns-clause-judged c =
     let p = place_of c.args.self.now in
     let h = hearing_in c.step-2.new.self c.in_ok-answer.answer in
     let heard_lines : (asks : List Ask) (line : List ℕ) (lines : List (List ℕ)) → line ≢ text_of_reply no_memory → Follows p (taken c.args.command ∷ asks) (line ∷ lines) ↔ Hears asks h (line ∷ lines) =
@@ -88,4 +87,4 @@ returns c =
     (λ asks line lines hd. heard_lines asks line lines (λ e. true≢false (sym ((c.is.ensures line hd).1 e) ∙ c.if-is.false)))
     (λ asks line lines n. heard_lines asks line lines n)
     j)
-    c.hear_within.ensures
+    c.hear_within.ensures.judged

@@ -25,8 +25,8 @@ use Rattle.cc_check.proofs.judge.Judge.begin_reasons.Goals as goal
 abbrev no_memory : Reply
 no_memory = replies.Refused refusals.NoMemory
 
-pub returns-then-hear_reply : goal.returns-then-hear_reply
-returns-then-hear_reply c =
+pub returns-then-hear_reply-clause-judged : goal.returns-then-hear_reply-clause-judged
+returns-then-hear_reply-clause-judged c =
     let p = place_of c.args.self.now in
     let after = place_after p (taken (Why c.args.name)) (replying [] no_memory) in
     record {
@@ -51,16 +51,16 @@ reasons-are g x found steps b e f i =
     ∙ (ap (λ (b : Bool). items_of (explaining (needed_for found (x ∷ [])).steps (done_or_nothing b))) i
     ∙ ap (λ (ss : List Step). items_of (explaining (needed_for ss (x ∷ [])).steps (done_or_nothing (has same_name (named ss) x)))) e)
 
-pub returns : goal.returns
-returns c =
+pub returns-clause-judged : goal.returns-clause-judged
+returns-clause-judged c =
     let g = c.args.self.now.graph in
     let x = c.args.name in
     let p = place_of c.args.self.now in
     let led = is_led_to (leads_made g) x in
     let after = place_after p (taken (Why x)) (why_of (leads_made g) x) in
-    let graph_is : graph_after g (Why x) (Some (done_or_nothing led)) ≡ g = no_deed-graph (Why x) refl g (Some (done_or_nothing led)) in
+    let graph_is : graph_after c.args.self.now.ended g (Why x) (Some (done_or_nothing led)) ≡ g = no_deed-graph (Why x) refl refl c.args.self.now.ended g (Some (done_or_nothing led)) in
     let place_is : place_of c.hear_reply.new.self ≡ after = c.hear_reply.ensures.place
-    ∙ ap (λ (h : Graph). place h c.args.self.now.listed [] nothing_yet) (sym graph_is) in
+    ∙ ap (λ (h : Graph). place h c.args.self.now.listed c.args.self.now.ended nothing_yet) (sym graph_is) in
     let told = items_of (why_of (leads_made g) x) in
     let found : c.find.new.self.reach ≡ derivation (leads_made c.hear_reply.new.self.graph) = c.in_ok-find.ensures in
     let same_graph : c.hear_reply.new.self.graph ≡ g = ap (λ (o : Place). o.state.graph) c.hear_reply.ensures.place in
@@ -76,4 +76,4 @@ returns c =
     IsJudged-as c.args.heard (MayRecite (reverse c.explain.new.recital.items) (place_of c.hear_reply.new.self)) (MayAnswer p (taken (Why x))) c.recite.new.self c.recite.result
     (λ asks line lines hd. told_lines asks line lines (λ e. true≢false (sym ((c.hear_reply.ensures.heard line hd).1 e) ∙ c.if-hear_reply.false)))
     (λ asks line lines n. told_lines asks line lines n)
-    c.recite.ensures
+    c.recite.ensures.judged

@@ -1,4 +1,4 @@
-use Rattle.std.proofs.Common.{List, [], refl, sym, ◌∙◌, subst}
+use Rattle.std.proofs.Common.{List, refl, sym, ◌∙◌, subst}
 use Rattle.cc_names.specs.declared.name.Name.{Name}
 use Rattle.cc_model.specs.declared.command.Command.TheVariants.{Census}
 use Rattle.cc_model.specs.Asks.{taken}
@@ -19,8 +19,8 @@ pub returns-clause-can : goal.returns-clause-can
 returns-clause-can c =
     let j = c.args.self.now in
     let next = census-can (place_of j) (asks_left c.args.script) (sym c.census_is_next.ensures ∙ c.if-not-census_is_next.false) in
-    let quiet = λ (q : CensusIsQuiet (row_meant j.row) (state_of j.graph c.census.new.self []) (taken Census)).
-    subst (λ (names : List Name). CensusIsQuiet (row_meant j.row) (state_of j.graph names []) (taken Census)) c.in_ok-names.ensures.same q in
-    let back = λ (q : CensusIsQuiet (row_meant j.row) (state_of j.graph j.listed []) (taken Census)).
-    subst (λ (names : List Name). CensusIsQuiet (row_meant j.row) (state_of j.graph names []) (taken Census)) (sym c.in_ok-names.ensures.same) q in
-    IfOk-then c.is_quiet.result _ _ (λ b d. ((λ t. next.1 (quiet (d.0 t))), (λ a. d.1 (back (next.0 a))))) c.is_quiet.ensures.quiet
+    let quiet = λ (q : CensusIsQuiet (row_meant j.row) (state_of j.graph c.census.new.self j.ended) (taken Census)).
+    subst (λ (names : List Name). CensusIsQuiet (row_meant j.row) (state_of j.graph names j.ended) (taken Census)) c.in_ok-names.ensures.same q in
+    let back = λ (q : CensusIsQuiet (row_meant j.row) (state_of j.graph j.listed j.ended) (taken Census)).
+    subst (λ (names : List Name). CensusIsQuiet (row_meant j.row) (state_of j.graph names j.ended) (taken Census)) (sym c.in_ok-names.ensures.same) q in
+    IfOk-then c.is_quiet.result _ _ (λ b d. ((λ t. next.1 (quiet ((d j.ended).0 t))), (λ a. (d j.ended).1 (back (next.0 a))))) c.is_quiet.ensures.quiet

@@ -1,4 +1,4 @@
-use Rattle.std.proofs.Common.{[], sym, ap, subst, refl}
+use Rattle.std.proofs.Common.{sym, ap, subst, refl}
 use Rattle.std.specs.Prelude.{◌↔◌, IsTrue}
 use Rattle.cc_verdict.specs.GoingOn.{CanGoOn}
 use Rattle.cc_verdict.specs.Positions.{Position}
@@ -10,7 +10,7 @@ pub returns-in-Some-clause-can : goal.returns-in-Some-clause-can
 returns-in-Some-clause-can c =
     let j = c.args.self.now in
     subst (λ (p : Position). IsTrue c.can_go_on.result ↔ CanGoOn p (asks_left c.args.script)) (sym (ap (position_in j) c.in-Some.is))
-    (c.can_go_on.ensures j.graph j.listed [] j.row (asks_left c.args.script))
+    (c.can_go_on.ensures j.graph j.listed j.ended j.row (asks_left c.args.script))
 
 pub returns-in_default-row : goal.returns-in_default-row
 returns-in_default-row c =
@@ -18,9 +18,10 @@ returns-in_default-row c =
     record {
       kept = c.requires.kept;
       same = refl;
+      reads = refl;
       can = (
         (λ _. subst (λ (p : Position). CanGoOn p (asks_left c.args.script)) (sym (ap (position_in j) c.in_default.is))
-            (row-can j.graph j.listed j.row (asks_left c.args.script) c.in_default-row.not-AfterAll)),
+            (row-can j.graph j.listed j.ended j.row (asks_left c.args.script) c.in_default-row.not-AfterAll)),
         (λ _. refl),
       );
     }

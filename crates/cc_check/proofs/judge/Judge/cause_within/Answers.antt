@@ -1,4 +1,4 @@
-use Rattle.std.proofs.Common.{◌≡◌, [], Some, None, refl, sym, ap, ◌∙◌}
+use Rattle.std.proofs.Common.{◌≡◌, Some, None, refl, sym, ap, ◌∙◌}
 use Rattle.cc_model.specs.Texts.{text_of_reply}
 use Rattle.cc_check.specs.Standing.{hearing_in}
 use Rattle.cc_check.proofs.Causing.{heard-some}
@@ -13,7 +13,7 @@ pub returns-in-None : goal.returns-in-None
 returns-in-None c = λ asks line hd.
     let j = c.args.self.now in
     let h = hearing_in j c.args.answer in
-    let due = c.reply_due.ensures j.graph j.listed [] j.row in (
+    let due = c.reply_due.ensures j.graph j.listed j.ended j.row in (
       h,
       refl,
       record {

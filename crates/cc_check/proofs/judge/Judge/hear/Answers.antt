@@ -9,13 +9,13 @@ use Rattle.cc_check.proofs.Ranges.{left-in_range}
 use Rattle.cc_check.proofs.judge.Judge.hear.Goals as goal
 
 pub returns-then-branch-clause-goes_on : goal.returns-then-branch-clause-goes_on
-returns-then-branch-clause-goes_on c = λ is.
+returns-then-branch-clause-goes_on c = λ is unread none.
     let mid = c.accept.new.self in
     let asks = asks_left c.accept.new.script in
     let kept : IsKept mid = c.in_ok-accept.ensures.kept in
     let can : CanGoOn (position_of mid) asks = c.in_ok-can_go_on.ensures.can.0 c.if-branch.true in
     let same : position_of c.can_go_on.new.self ≡ position_of mid = c.in_ok-can_go_on.ensures.same in
-    let g = c.other_ends_lead_on.ensures (position_of mid) asks (left-in_range c.accept.new.script) (all-at mid kept) can in
+    let g = c.other_ends_lead_on.ensures (position_of mid) asks (left-in_range c.accept.new.script) none (all-at mid kept (sym c.in_ok-can_go_on.ensures.reads ∙ unread)) can in
     (g.0, subst (λ (p : Position). GoesOn p asks g.0) (sym same) g.1)
 
 pub returns-then-not-branch-clause-cause : goal.returns-then-not-branch-clause-cause

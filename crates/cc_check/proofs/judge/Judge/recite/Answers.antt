@@ -3,13 +3,13 @@ use Rattle.std.proofs.lemmas.Bool.{true≢false, false≢true}
 use Rattle.cc_model.specs.declared.item.Item.{Item}
 use Rattle.cc_verdict.specs.Following.{Recites}
 use Rattle.cc_verdict.specs.Positions.{Position, GoesOn, reciting}
-use Rattle.cc_check.specs.Standing.{IsNewIn, ListsAllOf, place_of, position_in, position_of}
+use Rattle.cc_check.specs.Standing.{IsGranted, IsNewIn, ListsAllOf, place_of, position_in, position_of}
 use Rattle.cc_check.proofs.Kept.{all-of}
 use Rattle.cc_check.proofs.Judged.{last-first, refused-same, stands-same}
 use Rattle.cc_check.proofs.judge.Judge.recite.Goals as goal
 
-pub returns-then-not-is : goal.returns-then-not-is
-returns-then-not-is c =
+pub returns-then-not-is-clause-judged : goal.returns-then-not-is-clause-judged
+returns-then-not-is-clause-judged c =
     let j = c.args.self.now in
     let i = c.index.result.now in
     let rest = reverse (take (c.len-last.result - 1) j.recital.items) in
@@ -27,8 +27,8 @@ returns-then-not-is c =
           (λ e. true≢false (sym ((c.is.ensures line hd).1 e) ∙ c.if-not-is.true));
     }
 
-pub returns : goal.returns
-returns c =
+pub returns-clause-judged : goal.returns-clause-judged
+returns-clause-judged c =
     let j = c.args.self.now in
     let i = c.index.result.now in
     let rest = reverse (take (c.len-last.result - 1) j.recital.items) in
@@ -42,7 +42,8 @@ returns c =
         limits = c.requires.kept.limits;
         listed = c.requires.kept.listed;
         new = subst (IsNewIn new) (sym c.requires.answer) tt;
-        all_listed = subst (ListsAllOf new) (sym c.requires.answer) (all-of j c.requires.kept c.requires.answer);
+        granted = subst IsGranted (sym c.requires.answer) tt;
+        all_listed = λ unread. subst (ListsAllOf new) (sym c.requires.answer) (all-of j c.requires.kept unread c.requires.answer);
         known = c.requires.kept.known;
       };
       yes = λ yes asks line lines hd.

@@ -15,11 +15,11 @@ use Rattle.cc_check.proofs.Judged.{IsJudged-as, recites-as}
 use Rattle.cc_check.proofs.judge.Judge.refuse.Goals as goal
 
 -- a refused line leaves the graph and what is listed
-refused-place : (g : Graph) (names : List Name) (row : Row) (ask : Ask) (r : Refusal) → IsRefusal ask r →
-    place g names [] (row_after row ask (replying [] (Refused r))) ≡ place_after (place g names [] row) ask (replying [] (Refused r))
-refused-place g names row long r is = refl
-refused-place g names row bad r is = refl
-refused-place g names row (taken c) r is = absurd is
+refused-place : (g : Graph) (names ended : List Name) (row : Row) (ask : Ask) (r : Refusal) → IsRefusal ask r →
+    place g names ended (row_after row ask (replying [] (Refused r))) ≡ place_after (place g names ended row) ask (replying [] (Refused r))
+refused-place g names ended row long r is = refl
+refused-place g names ended row bad r is = refl
+refused-place g names ended row (taken c) r is = absurd is
 
 abbrev Refuses : Ask → Refusal → Type 0
 Refuses ask r = (p : Place) (asks : List Ask) (lines : List (List ℕ)) →
@@ -30,15 +30,15 @@ refuses of_long of_bad long r is = subst (Refuses long) (sym is) of_long
 refuses of_long of_bad bad r is = subst (Refuses bad) (sym is) of_bad
 refuses of_long of_bad (taken c) r is = absurd is
 
-pub returns : goal.returns
-returns c =
+pub returns-clause-judged : goal.returns-clause-judged
+returns-clause-judged c =
     let j = c.args.self.now in
     let ask = ask_meant c.args.asked in
     let p = place_of j in
     let after = place_after p ask (replying [] (Refused c.args.refusal)) in
-    let now = place j.graph j.listed [] (row_meant c.after-self.result) in
+    let now = place j.graph j.listed j.ended (row_meant c.after-self.result) in
     let told = items_of (replying [] (Refused c.args.refusal)) in
-    let place_is : now ≡ after = ap (place j.graph j.listed []) c.after-self.ensures ∙ refused-place j.graph j.listed (row_meant j.row) ask c.args.refusal c.requires.refused in
+    let place_is : now ≡ after = ap (place j.graph j.listed j.ended) c.after-self.ensures ∙ refused-place j.graph j.listed j.ended (row_meant j.row) ask c.args.refusal c.requires.refused in
     let items_are : reverse c.list.new.recital.items ≡ told = c.in_ok-list.ensures.items
     ∙ ap (λ (names : List Name). items_of (listing names (Refused c.args.refusal))) c.new.ensures.items in
     let law = refuses c.exact_answers_are_recited.ensures.long c.exact_answers_are_recited.ensures.bad ask c.args.refusal c.requires.refused in
@@ -48,4 +48,4 @@ returns c =
     IsJudged-as c.args.heard (MayRecite (reverse c.list.new.recital.items) now) (MayAnswer p ask) c.recite.new.self c.recite.result
     (λ asks line lines hd. same_lines asks (line ∷ lines))
     (λ asks line lines n. same_lines asks (line ∷ lines))
-    c.recite.ensures
+    c.recite.ensures.judged

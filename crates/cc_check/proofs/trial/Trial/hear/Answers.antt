@@ -24,4 +24,4 @@ returns-clause-tried c =
     let yes = c.in_ok-cause.was ∙ ap Ok c.in_default.is in
     let was : c.args.self.now.is_lawful ≡ true = grind arith in
     tries-lawful c.args.self.now _ c.args.heard was was (ap (λ n. c.args.self.now.bytes + n) c.bytes.ensures) refl refl c.in_ok-cause.ensures.along
-    (c.hear.ensures.yes yes) (c.hear.ensures.goes_on yes) c.transcripts_part_line_by_line.ensures.so_far
+    (c.hear.ensures.yes yes) (c.hear.ensures.reads yes) (c.hear.ensures.goes_on yes) c.transcripts_part_line_by_line.ensures.so_far
