@@ -15,8 +15,8 @@
  *   an allocator of its own writes its own three.
  *
  * OBJECTS. A `cc_object` names an object for good; it may be kept for ever, and keeping it keeps nothing alive. Once the object
- * is no more each call that it is handed to answers CC_GONE, whatever stands in its place by then; only a reflector that was
- * made anew for the same native may stand for the one before. One whose kind is CC_NOTHING is no object: so a root or a slot is
+ * was told as freed or unlinked each call that it is handed to answers CC_GONE, whatever stands in its place by then; only a
+ * reflector that was made anew for the same native may stand for the one before. One whose kind is CC_NOTHING is no object: so a root or a slot is
  * emptied, and so an empty one is answered. Where an object must be it is CC_FOREIGN or CC_GONE, by its mark. Numbers count
  * from 1, in two numberings (natives; plain objects, weak maps and proxies); a reflector has the number of its native. No
  * number is used twice.
@@ -25,6 +25,11 @@
  * stands in one of them. Beside them cc_hold keeps any object until cc_release, as many as wanted; a cc_root that was released is
  * refused (CC_GONE) for ever. They stand in tables, which are natives of the library's own, one for 255 roots and a few above
  * them: a table takes a number, counts for cc_open's limit and among cc_natives, and stays.
+ *
+ * WEAK REFERENCES. A `cc_weak` is of a native and keeps nothing alive; it may be kept for ever, and costs the library nothing.
+ * Until its native is told as unlinked or freed it can be brought back by cc_upgrade, with all that it holds, whether a root
+ * still reaches it or not; from then on the answer is CC_NONE, for ever. One that all zeros make is CC_FOREIGN, or has ended.
+ * What is brought back while a collection runs may be what that one would have unlinked: it stays then.
  *
  * WHAT IS TOLD. Calls that delete and collections tell what they did, in its order, and cc_next_told hands it out. CC_UNLINKED: a
  * collection took the native's references away; it may be told again at a later collection, while a script object still holds
@@ -35,13 +40,14 @@
  *
  * SLICES. Call cc_gc, and then cc_slice for some units in each frame. What no root reached when the first of them began the
  * collection is told as unlinked at its end, each native of it, whatever calls come between the slices; the next cc_gc frees it.
- * So it is unless the collection is abandoned, or a call between was handed an object that no root reached any more.
+ * So it is unless the collection is abandoned, or a call between was handed an object that no root reached any more. cc_forget
+ * between cc_gc and the first slice changes nothing of this, and spares the collection suspects that are alive.
  *
  * STATUS. Each call answers one of the CC_ numbers: of those that apply the first of CC_CLOSED; CC_INDEX of a numbered root; then
  * of the objects in the order in which they are handed in CC_FOREIGN, CC_GONE, CC_KIND of each; CC_INDEX of slots; CC_FULL. Where
  * memory is wanted CC_NO_MEMORY may come in place of any of these but CC_CLOSED and CC_INDEX of a numbered root. Unless it is
  * CC_OK nothing was changed and no out-parameter written; but of cc_slice, cc_collect and cc_settle CC_NO_MEMORY means that a
- * collection was given up, and nothing is lost; and cc_wrap, cc_set_entry, cc_new_proxy and cc_hold leave every object as it is
+ * collection was given up, and nothing is lost; and cc_wrap, cc_set_entry, cc_new_proxy, cc_hold and cc_upgrade leave every object as it is
  * then, but may have made a suspect, shown an object to script, or made a table. */
 #ifndef CCOLLECT_H
 #define CCOLLECT_H
@@ -55,13 +61,13 @@ enum {
     CC_CLOSED = 1,    /* the collector is not open */
     CC_OPEN = 2,      /* it is open already */
     CC_FOREIGN = 3,   /* an object or root is of another collector */
-    CC_GONE = 4,      /* an object is not there; a root is not in use */
+    CC_GONE = 4,      /* an object is not there, or was told unlinked; a root is not in use */
     CC_KIND = 5,      /* an object is of the wrong kind */
     CC_INDEX = 6,     /* there is no such root or slot; or too many slots */
     CC_FULL = 7,      /* as many objects as the limit were ever made; or no place is left for a root */
     CC_NO_MEMORY = 8,
     CC_LIMIT = 9,     /* a limit above 1000000 */
-    CC_NONE = 10,     /* nothing more was told */
+    CC_NONE = 10,     /* nothing more was told; or a weak reference's native was told unlinked or freed */
     CC_UNFETCHED = 11 /* a collection found no room beside what waits to be fetched, and did nothing */
 };
 enum { CC_NOTHING = 0, CC_NATIVE = 1, CC_SCRIPT = 2, CC_REFLECTOR = 3 };
@@ -72,6 +78,7 @@ enum { CC_BY_ROOT = 1, CC_BY_OBJECT = 2, CC_BY_ENTRY = 3 };
 typedef struct cc_collector { uint64_t state; void *at; } cc_collector;
 typedef struct cc_object { uint64_t mark; uint32_t key; uint32_t number; uint32_t kind; } cc_object;
 typedef struct cc_root { uint64_t mark; uint64_t serial; uint32_t index; } cc_root;
+typedef struct cc_weak { uint64_t mark; uint32_t key, number; } cc_weak;
 /* `data` is 0 of what is no native. */
 typedef struct cc_told { uint64_t data; uint32_t what; uint32_t kind; uint32_t number; } cc_told;
 /* An object on the way to one that was asked for, and why it is reached: a root holds it (by_kind CC_NATIVE or CC_SCRIPT, and
@@ -103,6 +110,14 @@ uint32_t cc_hold(cc_collector *, const cc_object *, cc_root *root);
 uint32_t cc_release(cc_collector *, const cc_root *);
 uint32_t cc_held(cc_collector *, const cc_root *, cc_object *held);
 
+/* Weak references to natives. cc_upgrade makes a root, which *root is then, and *native is what it holds; cc_upgrade_into takes
+ * numbered root r, and no memory. CC_NONE where the native was told as unlinked or freed: *native is not written then, no root is
+ * made, and numbered root r is emptied. *ended is 1 exactly then. cc_upgrade is refused as cc_hold is. */
+uint32_t cc_weak_of(cc_collector *, const cc_object *native, cc_weak *);
+uint32_t cc_upgrade(cc_collector *, const cc_weak *, cc_root *root, cc_object *native);
+uint32_t cc_upgrade_into(cc_collector *, uint16_t r, const cc_weak *, cc_object *native);
+uint32_t cc_ended(cc_collector *, const cc_weak *, uint32_t *ended);
+
 /* Slots, counted from 0. Natives hold natives and script objects; script objects hold script objects. */
 uint32_t cc_slots(cc_collector *, const cc_object *, uint16_t *slots);
 uint32_t cc_slot(cc_collector *, const cc_object *, uint16_t i, cc_object *held);
@@ -128,6 +143,10 @@ uint32_t cc_gc(cc_collector *);
 /* Leaves exactly what the roots reach. (cc_gc wants no memory: where a collection that it ends is refused some, that is told.) */
 uint32_t cc_settle(cc_collector *);
 uint32_t cc_running(cc_collector *, uint32_t *running);
+/* Forgets suspects that are alive, *marks of them: those that roots reach over slots, reflectors and delegates. A collection that
+ * begins then does not begin at them. What roots reach by entries of weak maps alone stays a suspect. It may come at any time, also
+ * while a collection runs; it tells nothing, wants no memory, and takes time by what roots reach. */
+uint32_t cc_forget(cc_collector *, uint32_t *marks);
 
 /* What was told: CC_NONE where all was fetched. */
 uint32_t cc_next_told(cc_collector *, cc_told *);

@@ -696,6 +696,17 @@ static void collect(void) {
 
 static void collect_scripts(void) { TRY(cc_gc(&c)); }
 
+/* Suspects that are alive are forgotten once. A collection that runs goes on. */
+static void forget_suspects(void) {
+    uint32_t marks, again, running, runs;
+    TRY(cc_running(&c, &running));
+    TRY(cc_forget(&c, &marks));
+    TRY(cc_forget(&c, &again));
+    TRY(cc_running(&c, &runs));
+    SO(marks <= live + tables && again == 0, "more suspects were forgotten than there are", 0);
+    SO(runs == running, "a collection began, or ended, when suspects were forgotten", 0);
+}
+
 static void check_roots(void) {
     cc_object found;
     for (uint16_t r = 0; r < NUMBERED; r++) {
@@ -834,7 +845,7 @@ static const struct {
     {210, store},      {10, store_unreached}, {30, move_slot},    {70, wrap},       {80, set_script_root},
     {50, set_entry},   {20, unset_entry},     {30, read_entry},   {25, hold},       {25, release},
     {60, read_thing},  {10, change_data},     {30, call_wrongly}, {6, ask_why},     {4, ask_why_not},
-    {50, slice},       {2, collect},          {6, collect_scripts},
+    {50, slice},       {2, collect},          {6, collect_scripts}, {4, forget_suspects},
 };
 enum { KINDS = sizeof operations / sizeof operations[0] };
 

@@ -195,12 +195,17 @@ static void collect_in_slices(cc_collector *c, struct page *p) {
 /* Other things that a program does. */
 static void move_and_proxy(cc_collector *c) {
     cc_object parent, child, proxy, found, reflector;
-    uint32_t kind, some;
+    uint32_t kind, some, marks;
     printf("A reference is moved, and a proxy is made.\n");
     TRY(cc_new_native(c, 2, 2, &parent));
     TRY(cc_new_native(c, 3, 0, &child));
     TRY(cc_store(c, &parent, 0, &child));
     TRY(cc_set_native_root(c, 3, &nothing));
+    /* the parent was written, and the child lost a reference: both are suspects, and a root reaches them */
+    TRY(cc_forget(c, &marks));
+    HOLDS(marks == 2);
+    TRY(cc_forget(c, &marks));
+    HOLDS(marks == 0);
     TRY(cc_move_slot(c, &parent, 1, &parent, 0));
     TRY(cc_slot(c, &parent, 0, &found));
     HOLDS(found.kind == CC_NOTHING);
@@ -232,6 +237,60 @@ static void move_and_proxy(cc_collector *c) {
     WANT(cc_is_there(c, &proxy), CC_GONE);
 }
 
+/* A native that only a weak reference knows is brought back, until a collection unlinked it. */
+static void refer_weakly(cc_collector *c) {
+    cc_object kept, found;
+    cc_root root;
+    cc_weak weak, second;
+    uint32_t ended;
+    printf("A native is referred to weakly.\n");
+    TRY(cc_new_native(c, 2, 1, &kept));
+    TRY(cc_weak_of(c, &kept, &weak));
+    TRY(cc_store(c, &kept, 0, &kept));
+    TRY(cc_set_native_root(c, 2, &nothing));
+    /* nothing leads to it any more, and it is brought back */
+    TRY(cc_upgrade_into(c, 2, &weak, &found));
+    HOLDS(is_same(&found, &kept));
+    TRY(cc_set_native_root(c, 2, &nothing));
+    TRY(cc_upgrade(c, &weak, &root, &found));
+    HOLDS(is_same(&found, &kept));
+    TRY(cc_held(c, &root, &found));
+    HOLDS(is_same(&found, &kept));
+    TRY(cc_weak_of(c, &found, &second));
+    TRY(cc_settle(c));
+    HOLDS(fetch(c) == 0);
+    TRY(cc_ended(c, &weak, &ended));
+    HOLDS(ended == 0);
+    TRY(cc_release(c, &root));
+    TRY(cc_settle(c));
+    HOLDS(fetch(c) == 1);
+    WANT(cc_upgrade(c, &weak, &root, &found), CC_NONE);
+    WANT(cc_upgrade_into(c, 2, &second, &found), CC_NONE);
+    WANT(cc_weak_of(c, &kept, &weak), CC_GONE);
+    TRY(cc_ended(c, &weak, &ended));
+    HOLDS(ended == 1);
+    weak.mark = 2;
+    WANT(cc_ended(c, &weak, &ended), CC_FOREIGN);
+    WANT(cc_upgrade(c, &weak, &root, &found), CC_FOREIGN);
+    WANT(cc_upgrade_into(c, 128, &second, &found), CC_INDEX);
+
+    /* a script object holds one that was unlinked: no call takes it from then on */
+    TRY(cc_new_native(c, 2, 1, &kept));
+    TRY(cc_weak_of(c, &kept, &weak));
+    TRY(cc_wrap(c, &kept, &found));
+    TRY(cc_store(c, &found, 0, &found));
+    TRY(cc_set_native_root(c, 2, &nothing));
+    TRY(cc_gc(c));
+    TRY(cc_collect(c));
+    HOLDS(fetch(c) == 0);
+    WANT(cc_upgrade_into(c, 2, &weak, &found), CC_NONE);
+    WANT(cc_set_native_root(c, 2, &kept), CC_GONE);
+    WANT(cc_is_there(c, &kept), CC_GONE);
+    TRY(cc_gc(c));
+    HOLDS(fetch(c) == 2);
+    WANT(cc_upgrade_into(c, 2, &weak, &found), CC_NONE);
+}
+
 /* A table of the roots that cc_hold made, which is a native of 256 slots. It is found by trying keys and numbers. */
 static cc_object table_of(cc_collector *c, uint64_t mark) {
     cc_object table = {mark, 0, 0, CC_NATIVE};
@@ -251,11 +310,13 @@ static void meet_each_status(cc_collector *c, const struct page *p) {
     cc_root root, strange_root;
     cc_told told;
     uint64_t natives, natives_after;
+    uint32_t marks;
     uint16_t slots;
     printf("Each status is met.\n");
 
     WANT(cc_gc(&closed), CC_CLOSED);
     WANT(cc_natives(&closed, &natives), CC_CLOSED);
+    WANT(cc_forget(&closed, &marks), CC_CLOSED);
     cc_close(&closed);
     printf("  CC_CLOSED: a collector that was never opened\n");
     WANT(cc_open(c, 8, 10, 10), CC_OPEN);
@@ -356,6 +417,7 @@ int main(void) {
     let_go(&c, &page);
     collect_in_slices(&c, &page);
     move_and_proxy(&c);
+    refer_weakly(&c);
     meet_each_status(&c, &page);
 
     printf("The roots are emptied, and what is left goes.\n");

@@ -6,6 +6,7 @@ use Rattle.cc_names.specs.declared.kind.Kind.TheVariants as kind
 use Rattle.cc_names.specs.Names.{native, object, reflector}
 use Rattle.cc_model.specs.End.{Progress, went_on, at_end, refused}
 use Rattle.cc_host.specs.declared.object.Object.{Object}
+use Rattle.cc_host.specs.declared.weak.Weak.{Weak}
 use Rattle.cc_host.specs.declared.stop.Stop.{Stop}
 use Rattle.cc_host.specs.declared.stop.Stop.TheVariants.{Foreign, Gone, Kind, Index, Full, NoMemory}
 use Rattle.cc_session.specs.declared.hindrance.Hindrance.{Hindrance}
@@ -13,6 +14,7 @@ use Rattle.cc_session.specs.declared.hindrance.Hindrance.TheVariants as hindranc
 use Rattle.cc_session.specs.declared.root.Root.{Root}
 use Rattle.cc_c.specs.declared.values.CObject.{CObject}
 use Rattle.cc_c.specs.declared.values.CRoot.{CRoot}
+use Rattle.cc_c.specs.declared.values.CWeak.{CWeak}
 
 -- Objects and roots
 
@@ -40,6 +42,10 @@ to_content x = elim (x.kind == 0) [ true ↦ None | false ↦ Some (to_object x)
 -- THE ROOT
 abbrev pub to_root : CRoot → Root
 to_root x = record { index = x.index; serial = x.serial; mark = x.mark }
+
+-- THE WEAK REFERENCE
+abbrev pub to_weak : CWeak → Weak
+to_weak x = record { number = record { 0 = x.number }; key = record { 0 = x.key }; mark = x.mark }
 
 -- Numbers
 

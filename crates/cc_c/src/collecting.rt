@@ -4,11 +4,11 @@ ghost use Rattle.cc_names.specs.declared.name.Name.{Name};
 ghost use Rattle.cc_model.specs.End.{at_end, refused};
 ghost use Rattle.cc_collector.specs.Collected.{IsCollected, IsSliced, IsSwept};
 ghost use Rattle.cc_collector.specs.Settled.{HasWhatIsReached};
-ghost use Rattle.cc_host.specs.Calls.{Collects};
+ghost use Rattle.cc_host.specs.Calls.{Always, Collects, Does, Forgets};
 ghost use Rattle.cc_host.specs.Hosted.{machine};
 ghost use Rattle.cc_host.specs.Missing.{CannotMiss, IsOfAGraph, Takes, TakesBySlice, TakesGarbage, TellsUnlinked, lost_in};
 ghost use Rattle.cc_host.specs.Queues.{told_all};
-ghost use Rattle.cc_session.specs.Sessions.{Aside, IsUnfetched};
+ghost use Rattle.cc_session.specs.Sessions.{Aside, IsUnfetched, Quiet};
 ghost use Rattle.cc_c.specs.Calls.{Open, Reads, Stays};
 ghost use Rattle.cc_c.specs.Values.{flag, progress_in};
 
@@ -125,6 +125,25 @@ pub extern "C" fn cc_settle(alloc: Global, c: &mut Collector) -> u32
         Ok(()) => OK,
         Err(hindrance) => of_hindrance(hindrance),
     }
+}
+
+/// Suspects that are alive are forgotten. `marks` is how many there were.
+#[unsafe(no_mangle)]
+pub extern "C" fn cc_forget(alloc: Global, c: &mut Collector, marks: &mut u32) -> u32
+    ensures stays { Stays c.old.handle.session c.new.handle.session result }
+    ensures ok { Reads c.old.handle.session (λ s. result ≡ 0) }
+    ensures does { Open c.old.handle.session c.new.handle.session (λ s t. Does Always (λ g. g) s.host t.host) }
+    ensures forgets { Open c.old.handle.session c.new.handle.session (λ s t. Forgets s.host t.host marks.new) }
+    ensures left { result ≢ 0 → marks.new ≡ marks.old }
+    ensures quiet { Open c.old.handle.session c.new.handle.session Quiet }
+{
+    let Some(mut session) = c.take(alloc) else {
+        return CLOSED;
+    };
+    let answer = session.forget();
+    *c = Collector::of(session);
+    *marks = answer;
+    OK
 }
 
 /// Whether a collection runs.

@@ -12,6 +12,7 @@ mod handle;
 mod making;
 mod opening;
 mod questions;
+mod referring;
 mod reflectors;
 mod roots;
 mod showing;

@@ -1,9 +1,9 @@
 //! What crosses between C and Rattle, and what it stands for.
 ghost use Rattle.std.specs.Prelude.{◌≡◌, Some};
-ghost use Rattle.cc_c.specs.Values.{flag, number_of_kind, to_content, to_object, to_root};
+ghost use Rattle.cc_c.specs.Values.{flag, number_of_kind, to_content, to_object, to_root, to_weak};
 
-use cc_host::Object;
-use cc_names::{Kind, Name, NativeNo, ScriptNo};
+use cc_host::{Object, Weak};
+use cc_names::{Kind, NKey, Name, NativeNo, ScriptNo};
 use cc_session::Root;
 
 /// What C holds of an object: nothing (kind 0), a native (1), a script object (2), or the reflector of a native (3).
@@ -23,6 +23,15 @@ pub struct CRoot {
     pub mark: u64,
     pub serial: u64,
     pub index: u32,
+}
+
+/// What C holds of a native that it does not keep.
+#[repr(C)]
+#[derive(Clone, Copy, Drop)]
+pub struct CWeak {
+    pub mark: u64,
+    pub key: u32,
+    pub number: u32,
 }
 
 /// What was told: a native was unlinked (1), an object was freed (2), a collection was abandoned (3). `value` is the program's
@@ -131,6 +140,28 @@ pub fn show_root(x: Root) -> CRoot
         mark: x.mark,
         serial: x.serial,
         index: x.index,
+    }
+}
+
+/// The weak reference that C means.
+pub fn weak_of(x: &CWeak) -> Weak
+    ensures { result ≡ to_weak x.now }
+{
+    Weak {
+        number: NativeNo(x.number),
+        key: NKey(x.key),
+        mark: x.mark,
+    }
+}
+
+/// A weak reference for C.
+pub fn show_weak(x: Weak) -> CWeak
+    ensures { to_weak result ≡ x }
+{
+    CWeak {
+        mark: x.mark,
+        key: x.key.0,
+        number: x.number.0,
     }
 }
 

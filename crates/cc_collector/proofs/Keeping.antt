@@ -15,10 +15,11 @@ use Rattle.cc_model.specs.Snapshot.{Snapshot, white_natives}
 use Rattle.cc_model.specs.Units.{begun, with_empty_buffer, first_untraversed}
 use Rattle.cc_model.specs.End.{went_on, at_end, refused, unit, may_be_refused, take_away, give_back, granted, abandoned, node_or_end, going_on, unit_came}
 use Rattle.cc_model.proofs.Tellings.{Tells-nil}
+use Rattle.cc_laws_heap.specs.Apart.{AreApart}
 use Rattle.cc_laws_heap.specs.Ending.{TakesAway}
 use Rattle.cc_laws_heap.specs.Rounds.{is_not_among, FreesNames}
 use Rattle.cc_laws_heap.proofs.Face.{collect_scripts-frees, take_away-takes}
-use Rattle.cc_laws_snapshot.proofs.Face.{give_back-buffer, white_natives-there, white_natives-unreached}
+use Rattle.cc_laws_snapshot.proofs.Face.{give_back-buffer, white_natives-apart, white_natives-there}
 use Rattle.cc_laws_run.specs.Running.{IsFreshNow}
 use Rattle.cc_laws_run.proofs.Face.{traversed-none}
 use Rattle.cc_graph.specs.Shown.{Shown}
@@ -28,8 +29,8 @@ use Rattle.cc_heaps.specs.Standing.{StillStands}
 use Rattle.cc_heaps.proofs.KeysKept.{KeepsKeys-same, KeepsKeys-changed, KeepsKeys-left}
 use Rattle.cc_heaps.proofs.Kept.{kept-alone}
 use Rattle.cc_builder.specs.Building.{Built, IsNodeUnit, snapshot_of}
-use Rattle.cc_unlink.specs.Whites.{whites_of, AreUnreached, AreWhiteIn}
-use Rattle.cc_collector.specs.Kept.{RunsIn, GoesOn, machine_of, running_snapshot}
+use Rattle.cc_unlink.specs.Whites.{whites_of, AreWhiteIn}
+use Rattle.cc_collector.specs.Kept.{RunsIn, GoesOn, running_snapshot}
 use Rattle.cc_collector.specs.Units.{Keeps, HasDoneUnit}
 
 -- Units one after the other
@@ -199,9 +200,9 @@ module _ (v : Keyed) (b : Built) (g : Shown) (r : RunsIn v (Some b)) (traversed 
   pub are-white : AreWhiteIn g v.heap (snapshot_of b)
   are-white = record { fresh = r.goes_on.fresh; traversed = traversed-none (snapshot_of b).nodes traversed; natives = whites }
 
-  -- so no register reaches them
-  pub are-unreached : AreUnreached v.heap (whites_of g v.heap)
-  are-unreached k m = white_natives-unreached v.heap (snapshot_of b) r.order.sound r.goes_on.fresh are-white.traversed k (subst (Among k) whites m)
+  -- so they are apart
+  pub are-apart : AreApart v.heap (whites_of g v.heap)
+  are-apart = subst (AreApart v.heap) (sym whites) (white_natives-apart v.heap (snapshot_of b) r.order.sound r.goes_on.fresh are-white.traversed)
 
   pub end-done : (w : Keyed) (t t₁ : Telling) → w ≡ left_with v (take_away (whites_of g v.heap) v.heap).heap → RunsIn w None → StillStands v.heap w.heap →
       (IsSuspected (view v.heap) (snapshot_of b).candidates → IsSuspected (view w.heap) []) → TellsEvents t t₁ (take_away (whites_of g v.heap) v.heap).events →

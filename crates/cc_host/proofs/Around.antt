@@ -11,7 +11,7 @@ use Rattle.cc_model.specs.Slots.{Slots}
 use Rattle.cc_model.specs.Telling.{Telling, TellsEvents}
 use Rattle.cc_model.specs.Graph as graph
 use Rattle.cc_model.specs.Graph.{Graph}
-use Rattle.cc_model.specs.Reached.{Reached}
+use Rattle.cc_model.specs.Given.{Given}
 use Rattle.cc_model.specs.Heap.{Heap, HeapNative, HeapScript, register, set_register}
 use Rattle.cc_model.specs.Cascade.{let_go, take_up}
 use Rattle.cc_model.specs.Effects.{hold_native}
@@ -120,8 +120,8 @@ module _ {key : NKey} (a b c : Keyed) (ready : IsReady a) (h : IsHeld key a b) (
         kept = kept;
         spared = l.change.spared;
         stands = λ g₀ m₀ s₀. (StandsAfter-from a.heap c.heap (λ g. g) ready.order.sound.well_formed (kept.order [] ready.order).sound.well_formed (λ g m s. m)
-            (λ g m s f. subst (λ k. Follows (Reached g) k g) (sym (emptied-is b c l.given_up))
-            (Follows-left (Reached g) emptied (let_go emptied (register b.heap (N spare))).heap g (Leaves-let_go emptied (register b.heap (N spare)))
-            (subst (λ k. Follows (Reached g) k g) (sym raised) (Follows-left (Reached g) a.heap (take_up a.heap content) g (Leaves-take_up a.heap content) f)))) g₀ m₀ s₀).1;
+            (λ g m s f. subst (λ k. Follows (Given a.heap g) k g) (sym (emptied-is b c l.given_up))
+            (Follows-left (Given a.heap g) emptied (let_go emptied (register b.heap (N spare))).heap g (Leaves-let_go emptied (register b.heap (N spare)))
+            (subst (λ k. Follows (Given a.heap g) k g) (sym raised) (Follows-left (Given a.heap g) a.heap (take_up a.heap content) g (Leaves-take_up a.heap content) f)))) g₀ m₀ s₀).1;
         doomed = λ p. doomed-then a.heap b.heap c.heap (h.doomed p) (l.change.doomed tt);
       }

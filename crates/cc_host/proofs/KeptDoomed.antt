@@ -20,7 +20,7 @@ use Rattle.cc_laws_run.specs.Doomed.{KeepsReflectors}
 use Rattle.cc_laws_run.proofs.Face.{IsApart, IsUntouched, Leaves, behind-untouched, doomed-effects, doomed-spared, leaves-exposed, leaves-hold_native, leaves-hold_script, leaves-let_go, leaves-make_proxy, leaves-preserve, leaves-refl, leaves-set_entry, leaves-slot, leaves-take_up, leaves-touched, leaves-wrapped, next_object-undoomed, one-untouched, reached-untouched, slot_of-untouched}
 use Rattle.cc_heaps.specs.Changes.{moved_in, slot_held, stored_in, taken_from, written_in}
 use Rattle.cc_heaps.specs.Standing.{IsReached, IsReachedOrReflects}
-use Rattle.cc_host.specs.Missing.{KeepsDoomed}
+use Rattle.cc_host.specs.Missing.{IsNoneOf, KeepsDoomed, KeepsDoomedBut}
 
 -- nothing changed
 pub still_doomed : (h : Heap) → KeepsDoomed h h
@@ -37,6 +37,12 @@ doomed-by : (h k : Heap) → ((ds : List Name) → KeepsReflectors ds → IsApar
 unfolding KeepsDoomed
 doomed-by h k f s ds keeps d =
     doomed-spared s ds (view h) (view k) (f ds keeps (record { unregistered = d.unregistered; holder = d.holder; joint = d.joint })).spares d
+
+-- What is none of them is untouched.
+none-untouched : (ds : List Name) (x : Option Name) → IsNoneOf ds x → IsUntouched ds x
+unfolding IsNoneOf
+none-untouched ds None n = λ y m i. m
+none-untouched ds (Some x) n = one-untouched ds x n
 
 module _ (ds : List Name) (h : Heap) (a : IsApart ds h) where
   -- what is reached is none of them
@@ -88,6 +94,13 @@ module _ (h : Heap) where
   -- what a native register comes to hold
   pub hold_native-doomed : (r : ℕ) (x : Option Name) → IsReached h x → KeepsDoomed h (hold_native h r x).heap
   hold_native-doomed r x p = doomed-by h (hold_native h r x).heap (λ ds keeps a. leaves-hold_native ds h h r x (out ds h a x p) (leaves-refl ds h a))
+
+  -- A native register leaves doomed, whatever it comes to hold, all names of which it comes to hold none.
+  pub hold_native-doomed_but : (r : ℕ) (x : Option Name) → KeepsDoomedBut x h (hold_native h r x).heap
+  unfolding KeepsDoomedBut
+  hold_native-doomed_but r x s ds keeps none d =
+      let a : IsApart ds h = record { unregistered = d.unregistered; holder = d.holder; joint = d.joint } in
+      doomed-spared s ds (view h) (view (hold_native h r x).heap) (leaves-hold_native ds h h r x (none-untouched ds x none) (leaves-refl ds h a)).spares d
 
   -- what is stored in a slot of a native
   pub stored-doomed : (k i : ℕ) (x : Option Name) → IsReached h (Some (native k)) → IsReached h x → KeepsDoomed h (stored_in h k i x).heap

@@ -1,3 +1,4 @@
+pub mod Referring
 pub mod KeptDoomed
 pub mod Keeping
 pub mod Spare
@@ -14,6 +15,8 @@ pub mod Finding
 pub mod Reading
 pub mod Stopping
 pub mod Collecting
+pub mod Forgetting
+pub mod Beside
 pub mod Taking
 pub mod Telling
 pub mod Rooted

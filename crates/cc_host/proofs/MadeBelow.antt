@@ -1,6 +1,6 @@
 -- A NATIVE IS MADE and put into an empty slot of a reached one: the host's own register holds it meanwhile. What is reached
 -- stays so, and it is reached itself.
-use Rattle.std.proofs.Common.{◌≡◌, ℕ, false, ◌+◌, ◌<◌, ◌++◌, ◌∷◌, [], length, get_or, set, Option, Some, None, option_map, refl, sym, ◌∙◌, ap, subst, ⊎_elim, arith, set-set}
+use Rattle.std.proofs.Common.{◌≡◌, ℕ, ◌+◌, ◌<◌, ◌++◌, ◌∷◌, [], length, get_or, set, Option, Some, None, option_map, refl, sym, ◌∙◌, ap, subst, ⊎_elim, arith, set-set}
 use Rattle.std.specs.List.{flat_map}
 use Rattle.std.proofs.lemmas.List.{get_or-set_same, set-get_or}
 use Rattle.cc_lists.specs.Members.{Among}
@@ -8,10 +8,10 @@ use Rattle.cc_lists.proofs.Members.{Among-append, Among-flat_map_cases, Among-le
 use Rattle.cc_names.specs.declared.name.Name.{Name}
 use Rattle.cc_names.specs.declared.register.Reg.TheVariants.{N}
 use Rattle.cc_names.specs.Names.{native}
-use Rattle.cc_model.specs.Slots.{Slots, contents, empty_slots}
+use Rattle.cc_model.specs.Slots.{Slots, contents}
 use Rattle.cc_model.specs.Checks.{slots_or_none}
 use Rattle.cc_model.specs.Entries.{joints}
-use Rattle.cc_model.specs.Heap.{Heap, HeapNative, native_at, register, set_register, with_native_slot, new_native, native_to_make}
+use Rattle.cc_model.specs.Heap.{Heap, HeapNative, native_at, register, set_register, with_native_slot, native_to_make}
 use Rattle.cc_model.specs.Cascade.{let_go}
 use Rattle.cc_model.specs.Effects.{make_native, with_native}
 use Rattle.cc_model.specs.End.{slots_now}

@@ -1,5 +1,5 @@
 -- WHAT IS MADE stands in its register, and the host's own register stays empty.
-use Rattle.std.proofs.Common.{◌≡◌, ◌≢◌, ◌⊎◌, ℕ, ◌+◌, ◌<◌, ◌≤◌, false, [], ◌∷◌, ◌++◌, length, get_or, Option, Some, None, refl, sym, ◌∙◌, ap, subst, inl, inr, ⊎_elim, arith}
+use Rattle.std.proofs.Common.{◌≡◌, ◌≢◌, ◌⊎◌, ℕ, ◌+◌, ◌<◌, ◌≤◌, [], ◌∷◌, ◌++◌, length, get_or, Option, Some, None, refl, sym, ◌∙◌, ap, subst, inl, inr, ⊎_elim, arith}
 use Rattle.std.proofs.lemmas.List.{get_or-set_same, get_or-set_other, map-append}
 use Rattle.cc_lists.specs.Members.{Among}
 use Rattle.std.specs.List.{flat_map}
@@ -10,10 +10,10 @@ use Rattle.cc_names.specs.declared.register.Reg.TheVariants.{N}
 use Rattle.cc_names.specs.Names.{native}
 use Rattle.cc_names.specs.Sizes.{bank_length, most_slots}
 use Rattle.cc_model.specs.Effects.{make_native, make_proxy, with_native}
-use Rattle.cc_model.specs.Heap.{Heap, HeapNative, register, set_register, new_native, native_to_make}
+use Rattle.cc_model.specs.Heap.{Heap, HeapNative, register, set_register, native_to_make}
 use Rattle.cc_model.specs.Cascade.{let_go}
 use Rattle.cc_model.specs.View.{view, ReachedIn, native_edges, script_edges}
-use Rattle.cc_model.specs.Slots.{contents, empty_slots}
+use Rattle.cc_model.specs.Slots.{contents}
 use Rattle.cc_model.specs.WellFormed.{IsWellFormed, native_names, names_there, script_names}
 use Rattle.cc_laws_heap.specs.Sound.{IsSound}
 use Rattle.cc_laws_heap.proofs.Face.{let_go-frees}

@@ -1,6 +1,6 @@
 -- THE SPARE REGISTER: what it is to write a native register that holds nothing, and what a change comes to round which it is
 -- written and emptied again.
-use Rattle.std.proofs.Common.{◌≡◌, ℕ, zero, suc, ◌<◌, [], ◌∷◌, get_or, set, Option, Some, None, option_map, refl, sym, ◌∙◌, ap, subst, inl, inr, ⊎_elim, arith, set-set}
+use Rattle.std.proofs.Common.{◌≡◌, ℕ, zero, suc, ◌<◌, [], ◌∷◌, length, get_or, set, Option, Some, None, option_map, refl, sym, ◌∙◌, ap, subst, inl, inr, ⊎_elim, arith, set-set}
 use Rattle.std.specs.Option.{option_to_list}
 use Rattle.std.proofs.lemmas.List.{get_or-set_other, get_or-set_same, set-get_or}
 use Rattle.cc_lists.specs.Members.{Among}
@@ -96,6 +96,12 @@ root-spared v w r x few ready is =
     ap (λ (u : Keyed). get_or u.heap.native_registers spare None) is
     ∙ (ap (λ (rs : Slots). get_or rs spare None) (hold_native-registers v.heap r x)
     ∙ (get_or-set_other v.heap.native_registers r spare x None (λ e. omega (arith, few, e)) ∙ ready.spared))
+
+-- A root written holds what it was given.
+pub root-held : (v w : Keyed) (r : ℕ) (x : Option Name) → r < length v.heap.native_registers → w ≡ left_with v (hold_native v.heap r x).heap → register w.heap (N r) ≡ x
+root-held v w r x few is =
+    ap (λ (u : Keyed). get_or u.heap.native_registers r None) is
+    ∙ (ap (λ (rs : Slots). get_or rs r None) (hold_native-registers v.heap r x) ∙ get_or-set_same v.heap.native_registers r x None few)
 
 -- THE HOST'S OWN REGISTER HOLDS what is at a key
 module _ (v : Keyed) (key : NKey) (ready : IsReady v) where

@@ -36,6 +36,7 @@ use Rattle.cc_collector.specs.Settled.{IsSettled, IsUnsettled}
 use Rattle.cc_collector.proofs.Keeping.{RunsIn-fresh}
 use Rattle.cc_collector.proofs.Spared.{listed-there}
 use Rattle.cc_host.specs.Hosted.{Hosted, IsKept, machine}
+use Rattle.cc_host.proofs.Beside.{ended-agrees, ended-made, ended_natives, unnoted, unnoted-made, unnoted-stands}
 use Rattle.cc_host.specs.Missing.{IsOfAGraph, CannotMiss, TakesGarbage, TellsUnlinked, TellsAbandoned, TakesBySlice, Takes}
 
 -- what holds of each result holds
@@ -151,7 +152,7 @@ module _ (h : Hosted) (r : RunsIn h.heaps h.running) (memory : List Bool) where
 
   -- beside a graph
   abbrev beside : Graph → State
-  beside g = state_of g (names_there h.heaps.heap) []
+  beside g = state_of (unnoted g) (names_there h.heaps.heap) (ended_natives h.heaps.heap)
 
   -- it runs beside each graph that its heaps stand for
   is-running : (g : IsOfAGraph h) → IsRunning plain (beside g.0)
@@ -159,9 +160,12 @@ module _ (h : Hosted) (r : RunsIn h.heaps h.running) (memory : List Bool) where
     sound = r.order.sound;
     colours = r.colours;
     fresh = RunsIn-fresh h.heaps h.running r;
-    well_made = g.1;
-    stands = g.2;
+    well_made = unnoted-made g.0 g.1;
+    stands = unnoted-stands h.heaps.heap g.0 r.order.sound.well_formed g.1 g.2;
     listed = listed-there h.heaps.heap r.order.sound.well_formed;
+    weak = refl;
+    ended = ended-agrees h.heaps.heap;
+    ended_made = ended-made h.heaps.heap;
   }
 
   -- the running collection, by a slice

@@ -1,10 +1,13 @@
 -- WHAT A CALL OF A HOST COMES TO.
-use Rattle.std.specs.Prelude.{◌≡◌, ◌⊎◌, ℕ, ◌+◌, ◌≤◌, List, length, Option, Some}
+use Rattle.std.specs.Prelude.{◌≡◌, ◌⊎◌, ◌↔◌, ℕ, ◌+◌, ◌≤◌, List, length, Option, Some}
 use Rattle.cc_lists.specs.Members.{Among}
 use Rattle.cc_names.specs.declared.name.Name.{Name}
+use Rattle.cc_names.specs.Names.{native}
 use Rattle.cc_model.specs.declared.item.Event.{Event}
 use Rattle.cc_model.specs.Graph.{Graph, preserve, set_slot}
+use Rattle.cc_model.specs.Skipping.{IsSkippable, forgotten}
 use Rattle.cc_model.specs.Telling.{Telling, TellsEvents}
+use Rattle.cc_model.specs.View.{view}
 use Rattle.cc_model.specs.WellFormed.{names_there}
 use Rattle.cc_gc.specs.Sparing.{KeepsWhatIsReached}
 use Rattle.cc_collector.specs.Collected.{TellsWhatLeaves}
@@ -13,7 +16,8 @@ use Rattle.cc_heaps.specs.Leaving.{NoneCame, TellsWhatIsFreed}
 use Rattle.cc_laws_told.specs.Told.{objects}
 use Rattle.cc_heaps.specs.Standing.{StandsAfter, StillStands}
 use Rattle.cc_host.specs.Hosted.{Hosted}
-use Rattle.cc_host.specs.Missing.{KeepsDoomed}
+use Rattle.cc_host.specs.Missing.{KeepsDoomed, KeepsDoomedBut, TakesGarbage}
+use Rattle.cc_host.specs.Stops.{stop_at}
 use Rattle.cc_host.specs.declared.object.Object.{Object}
 
 -- with no premise
@@ -26,6 +30,15 @@ Always = Unit {0}
 pub record Does (premise : Type 0) (change : Graph → Graph) (old new : Hosted) : Type 0 where
   pub stands : premise → StandsAfter old.heaps.heap new.heaps.heap change
   pub doomed : premise → KeepsDoomed old.heaps.heap new.heaps.heap
+  pub keys : KeepsKeys old.heaps new.heaps
+  pub running : new.running ≡ old.running
+  pub mark : new.mark ≡ old.mark
+
+-- A CALL HANDS A ROOT A NATIVE that is there, reached or not: it changes the graph so, with no premise. What the running collection
+-- can't miss it can't miss afterwards either, where it does not have that native.
+pub record Brings (brought : Option Name) (change : Graph → Graph) (old new : Hosted) : Type 0 where
+  pub stands : StandsAfter old.heaps.heap new.heaps.heap change
+  pub doomed : KeepsDoomedBut brought old.heaps.heap new.heaps.heap
   pub keys : KeepsKeys old.heaps new.heaps
   pub running : new.running ≡ old.running
   pub mark : new.mark ≡ old.mark
@@ -67,6 +80,17 @@ pub record IsFew (besides : ℕ) (old new : Hosted) (es : List Event) : Type 0 w
 -- A COLLECTION TELLS FEW ITEMS, and nothing else
 unfoldable pub TellsFew : ℕ → Hosted → Hosted → Telling → Telling → Type 0
 TellsFew besides old new before after = (es : List Event) × TellsEvents before after es × IsFew besides old new es
+
+-- SUSPECTS ARE FORGOTTEN, so many: those that the roots reach over references, entries aside, lose their mark, and no others do
+pub record Forgets (old new : Hosted) (marks : ℕ) : Type 0 where
+  pub heap : new.heaps.heap ≡ forgotten old.heaps.heap
+  pub count : marks + length (view new.heaps.heap).purple ≡ length (view old.heaps.heap).purple
+  pub exactly : (k : ℕ) → Among (native k) (view old.heaps.heap).purple →
+      (¬ (Among (native k) (view new.heaps.heap).purple)) ↔ IsSkippable old.heaps.heap (native k)
+  -- each object is there that was there, and no other
+  pub stays : (x : Object) → stop_at new x ≡ stop_at old x
+  -- a collection that begins then takes all that one that began before would take
+  pub begins : TakesGarbage old → TakesGarbage new
 
 -- slot i of an object written; a reflector is preserved before
 abbrev pub stored : Object → ℕ → Option Name → Graph → Graph

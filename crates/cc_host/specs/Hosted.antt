@@ -1,6 +1,7 @@
 -- WHAT A HOST IS: the heaps, the collection that runs in them, and the mark by which its objects are known.
-use Rattle.std.specs.Prelude.{◌≡◌, ℕ, Bool, false, Option, Some, None, option_map}
+use Rattle.std.specs.Prelude.{◌≡◌, ◌&&◌, ℕ, Bool, false, not, Option, Some, None, option_map}
 use Rattle.cc_names.specs.declared.name.Name.{Name}
+use Rattle.cc_names.specs.declared.number.NativeNo.{NativeNo}
 use Rattle.cc_names.specs.declared.name.Name.TheVariants as name
 use Rattle.cc_names.specs.declared.register.Reg.TheVariants.{N}
 use Rattle.cc_names.specs.Names.{native, same_name}
@@ -11,7 +12,8 @@ use Rattle.cc_model.specs.Slots.{Slots}
 use Rattle.cc_script.specs.Objects.{name_at}
 use Rattle.cc_builder.specs.Building.{Built}
 use Rattle.cc_laws_run.specs.Doomed.{IsSuspectedNow}
-use Rattle.cc_heaps.specs.Keyed.{Keyed, number_at}
+use Rattle.cc_counted.specs.Counts.{unlinked_of}
+use Rattle.cc_heaps.specs.Keyed.{Keyed, counts_of, number_at}
 use Rattle.cc_heaps.specs.Standing.{IsReached}
 use Rattle.cc_collector.specs.Kept.{RunsIn, machine_of}
 use Rattle.cc_host.specs.declared.host.TheConstants.{ROOTS}
@@ -55,11 +57,20 @@ abbrev pub is_name : Name → Option Name → Bool
 is_name x None = false
 is_name x (Some y) = same_name y x
 
--- whether an object is there: at its key stands what it names
-abbrev pub is_found : Hosted → Object → Bool
-is_found h x = is_name x.name (name_found h x)
+-- whether the native of this number stands at this key, and was not unlinked
+abbrev pub is_usable_at : Keyed → ℕ → NativeNo → Bool
+is_usable_at v key number = is_name (name.Native number) (option_map native (number_at v key)) && not (unlinked_of (counts_of v) key)
 
--- THE OBJECT IS THERE, and it is this host's
+-- WHETHER AN OBJECT IS THERE for who calls: at its key stands what it names, and it is no native that was unlinked
+abbrev pub is_found : Hosted → Object → Bool
+is_found h x = elim x.name [
+  | name.Native k ↦ is_usable_at h.heaps x.key k
+  | name.Script k ↦ is_name x.name (name_found h x)
+  | name.Reflector k ↦ is_name x.name (name_found h x)
+]
+
+-- AN OBJECT STANDS AT ITS KEY, and is this host's. A native that was unlinked stands there until it is freed, though it is gone for
+-- each call
 abbrev pub IsThere : Hosted → Object → Type 0
 IsThere h x = (x.mark ≡ h.mark) × (name_found h x ≡ Some x.name)
 

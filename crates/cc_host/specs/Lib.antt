@@ -1,6 +1,7 @@
 pub mod Hosted
 pub mod Missing
 pub mod Stops
+pub mod Referring
 pub mod Paths
 pub mod Calls
 pub mod Changes

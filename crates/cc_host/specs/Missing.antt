@@ -1,5 +1,6 @@
 -- WHAT THE RUNNING COLLECTION CAN'T MISS: that calls leave it alone, and that its end takes it.
-use Rattle.std.specs.Prelude.{◌≡◌, ◌⊎◌, List, ◌∷◌, None}
+use Rattle.std.specs.Prelude.{◌≡◌, ◌⊎◌, List, ◌∷◌, Option, None, Some}
+use Rattle.cc_lists.specs.Members.{Among}
 use Rattle.cc_names.specs.declared.name.Name.{Name}
 use Rattle.cc_model.specs.declared.item.Event.{Event}
 use Rattle.cc_model.specs.declared.item.Event.TheVariants.{Abandoned}
@@ -20,6 +21,16 @@ use Rattle.cc_host.specs.Hosted.{Hosted, machine}
 -- reflector is to be one of them only where its native is, since a reached native may be wrapped again.
 unfoldable pub KeepsDoomed : Heap → Heap → Type 0
 KeepsDoomed old new = (s : Snapshot) (ds : List Name) → KeepsReflectors ds → IsDoomed (view old) s ds → IsDoomed (view new) s ds
+
+-- what is brought is none of these
+unfoldable pub IsNoneOf : List Name → Option Name → Type 0
+IsNoneOf ds None = Unit {0}
+IsNoneOf ds (Some x) = ¬ (Among x ds)
+
+-- A CHANGE THAT BRINGS A NATIVE BACK leaves doomed what is doomed and does not have it: then it leads to none of them, since only what
+-- is doomed leads to what is
+unfoldable pub KeepsDoomedBut : Option Name → Heap → Heap → Type 0
+KeepsDoomedBut x old new = (s : Snapshot) (ds : List Name) → KeepsReflectors ds → IsNoneOf ds x → IsDoomed (view old) s ds → IsDoomed (view new) s ds
 
 -- the heaps stand for a graph, which is well made
 abbrev pub IsOfAGraph : Hosted → Type 0

@@ -19,8 +19,9 @@ ghost use Rattle.cc_counted.specs.Counts.{slots_of};
 ghost use Rattle.cc_heaps.specs.Keyed.{IsInOrder, counts_of, number_at, the_number};
 ghost use Rattle.cc_heaps.specs.Changes.{IsBlackHeld, IsNativeThere, IsThere, held_name, native_name, script_name, slot_held};
 ghost use Rattle.cc_heaps.specs.Leaving.{NoneCame, TellsWhatIsFreed};
-ghost use Rattle.cc_heaps.specs.Standing.{IsReached};
+ghost use Rattle.cc_heaps.specs.Standing.{IsReached, MayBeHeld, StandsAfter};
 ghost use Rattle.cc_host.specs.Hosted.{roots};
+ghost use Rattle.cc_host.specs.Missing.{KeepsDoomedBut};
 ghost use Rattle.cc_host.specs.Holding.{IsHeld, IsLetGo};
 ghost use Rattle.cc_host.specs.Paths.{hung};
 ghost use Rattle.cc_host.specs.Changes.{IsReady, IsChange, IsTried, OneCame, StaysThere};
@@ -49,6 +50,10 @@ pub(crate) fn root_native<N: Notices>(
     requires within { r < roots }
     requires there { IsNativeThere heaps.old content }
     ensures change { IsChange (IsReached heaps.old.heap (native_name heaps.old content)) (λ g. graph.set_register g (n_register r) (native_name heaps.old content)) heaps.old heaps.new }
+    ensures stands { MayBeHeld heaps.old.heap (native_name heaps.old content) →
+        StandsAfter heaps.old.heap heaps.new.heap (λ g. graph.set_register g (n_register r) (native_name heaps.old content)) }
+    ensures doomed { KeepsDoomedBut (native_name heaps.old content) heaps.old.heap heaps.new.heap }
+    ensures held { register heaps.new.heap (n_register r) ≡ native_name heaps.old content }
     ensures none_came { NoneCame heaps.old.heap heaps.new.heap }
     ensures tells { TellsWhatIsFreed heaps.old.heap heaps.new.heap (N.telling out.old) (N.telling out.new) }
 {

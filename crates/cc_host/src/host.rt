@@ -5,13 +5,15 @@ ghost use Rattle.cc_script.specs.Objects.{is_there, kind_at};
 ghost use Rattle.cc_names.specs.declared.kind.Kind.TheVariants.{Map};
 ghost use Rattle.cc_heaps.specs.Keyed.{number_at};
 ghost use Rattle.cc_heaps.specs.Changes.{IsNativeThere, IsScriptThere, IsThere as IsHeldThere, held_name, native_name, script_name};
-ghost use Rattle.cc_host.specs.Hosted.{Hosted, IsKept, IsThereIfAny, is_found, named};
+ghost use Rattle.cc_heaps.specs.Standing.{MayBeHeld};
+ghost use Rattle.cc_host.specs.Hosted.{Hosted, IsKept, IsThereIfAny, is_found, is_usable_at, named};
 ghost use Rattle.cc_host.specs.Stops.{IsStoppedBy, stop_at, stop_content, stop_if_any, stop_map, stop_native, stop_reflector, stop_script};
 
 mod collecting;
 mod entries;
 mod making;
 mod reading;
+mod referring;
 mod rooted;
 mod writing;
 
@@ -20,7 +22,7 @@ use crate::stop::Stop;
 use cc_collector::Collector;
 use cc_counted::Held;
 use cc_heaps::Heaps;
-use cc_names::{Kind, Limits, NKey, Name, NoMemory, RegNo, SKey};
+use cc_names::{Kind, Limits, NKey, Name, NativeNo, NoMemory, RegNo, SKey};
 use std::alloc::Global;
 use std::marker::Model;
 
@@ -76,26 +78,36 @@ impl Host {
         let _ = &self.heaps;
     }
 
-    /// Whether an object is there, and of this host.
+    /// Whether an object is there, and of this host: it was not freed, and is no native that was unlinked.
     pub fn is_there(&self, x: Object) -> bool
         ensures { result ≡ is_none (stop_at self.now x) }
     {
         self.look(x).is_ok()
     }
 
-    // Whether at an object's key stands what it names.
+    // Whether the native of this number stands at this key, and was not unlinked.
+    fn found_native(&self, key: NKey, number: NativeNo) -> bool
+        ensures { result ≡ is_usable_at self.now.heaps key.0 number }
+    {
+        match self.heaps.counted().number(key) {
+            Some(there) => there == number && !self.heaps.counted().unlinked(key),
+            None => false,
+        }
+    }
+
+    // Whether at an object's key stands what it names, and it is no native that was unlinked.
     fn found(&self, x: Object) -> bool
         ensures { result ≡ is_found self.now x }
     {
         match x.name {
-            Name::Native(number) => self.heaps.counted().number(NKey(x.key)) == Some(number),
+            Name::Native(number) => self.found_native(NKey(x.key), number),
             Name::Script(_) | Name::Reflector(_) => {
                 self.heaps.scripts().called(SKey(x.key)) == Some(x.name)
             }
         }
     }
 
-    // An object of this host, which is there.
+    // An object of this host, which is there and was not unlinked.
     fn look(&self, x: Object) -> Result<(), Stop>
         ensures { IsStoppedBy (stop_at self.now x) result }
     {
@@ -113,7 +125,9 @@ impl Host {
         ensures stops { IsStoppedBy (stop_native self.now x) result }
         ensures name { IfOk result (λ key. native_name self.now.heaps (Some key) ≡ Some x.name) }
         ensures live { IfOk result (λ key. IsSome (number_at self.now.heaps key.0)) }
+        ensures usable { IfOk result (λ key. MayBeHeld self.now.heaps.heap (native_name self.now.heaps (Some key))) }
     {
+        let _ = &self.heaps;
         self.look(x)?;
         match x.name {
             Name::Native(_) => Ok(NKey(x.key)),
@@ -167,6 +181,7 @@ impl Host {
         ensures stops { IsStoppedBy (stop_if_any stop_native self.now x) result }
         ensures name { IfOk result (λ key. native_name self.now.heaps key ≡ named x) }
         ensures there { IfOk result (λ key. IsNativeThere self.now.heaps key) }
+        ensures usable { IfOk result (λ key. MayBeHeld self.now.heaps.heap (native_name self.now.heaps key)) }
     {
         match x {
             Some(x) => Ok(Some(self.native(x)?)),

@@ -10,6 +10,9 @@
 //! the heaps want of a caller: what is stored is exposed to script before, a reflector that is written is preserved before,
 //! and a native that is written is held meanwhile, so that nothing is forgotten.
 //!
+//! A `Weak` is a reference to a native that keeps nothing alive: `upgrade` brings the native back as long as it was not told as
+//! unlinked or freed, and from then on it is gone, for each call.
+//!
 //! What goes is told to any receiver; `Queue` keeps it until the program fetches it.
 //!
 //! The contracts say of each call what it makes of an object graph from which nothing is freed (`Does`), and of each
@@ -18,6 +21,7 @@
 //!
 //! A collection in slices that begins right after `gc` takes each native that nothing reached by then, where the calls between
 //! its slices are handed what is reached, unless the collection is abandoned, which is told (`garbage`, `begins`, `takes`).
+//! `forget` before it spares it the suspects that are alive, and changes nothing of this (`forgets`).
 #![tactic(auto)]
 
 mod changes;
@@ -26,9 +30,11 @@ mod missing;
 mod object;
 mod queue;
 mod stop;
+mod weak;
 
 pub use host::{Host, ROOTS};
 pub use missing::calls_make_it_miss_nothing;
 pub use object::Object;
 pub use queue::Queue;
 pub use stop::Stop;
+pub use weak::Weak;

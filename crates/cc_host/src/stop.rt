@@ -16,7 +16,7 @@ pub enum Stop {
     /// An object is of another host.
     #[error("an object is of another host")]
     Foreign,
-    /// An object of this host is not there: it was freed, or there never was one.
+    /// An object of this host is not there: it was freed, or it is a native that was unlinked, or there never was one.
     #[error("an object is gone")]
     Gone,
     /// An object is of the wrong kind.

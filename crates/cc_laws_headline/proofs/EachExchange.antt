@@ -1,38 +1,42 @@
 -- EACH TURN OF A LAWFUL AND QUIET TRANSCRIPT: its answer is lawful in the state before it, and a census after the row is
 -- quiet there.
-use Rattle.std.proofs.Common.{arith, ◌≡◌, suc, Bool, true, false, List, [], ◌∷◌, ◌++◌, length, Option, Some, None, refl, sym, ◌∙◌, ap, subst, inl, inr, ◌⊎◌, ⊎_elim}
+use Rattle.std.proofs.Common.{arith, ◌≡◌, ℕ, slice_index_or, suc, Bool, true, false, List, [], ◌∷◌, ◌++◌, length, Option, Some, None, refl, sym, ◌∙◌, ap, subst, inl, inr, ◌⊎◌, ⊎_elim}
 use Rattle.std.proofs.lemmas.Bool.{true≢false, and_parts}
-use Rattle.std.specs.Prelude.{IsTrue}
+use Rattle.std.specs.Prelude.{IsTrue, option_and_then}
 use Rattle.std.specs.List.{list_all}
 use Rattle.cc_laws_run.specs.Missing.{asks_nothing}
-use Rattle.cc_lists.specs.Members.{Among}
+use Rattle.cc_lists.specs.Members.{Among, has}
+use Rattle.cc_lists.proofs.Members.{has-among, has-there}
+use Rattle.cc_names.specs.Names.{same_name}
+use Rattle.cc_names.proofs.NameTests.{same_name-exact}
 use Rattle.cc_names.specs.Allowance.{Allowance}
 use Rattle.cc_names.specs.declared.name.Name.{Name}
 use Rattle.cc_model.specs.declared.command.Command.{Command}
-use Rattle.cc_model.specs.declared.command.Command.TheVariants.{Nothing, Collect, Gc, Census}
+use Rattle.cc_model.specs.declared.command.Command.TheVariants.{Nothing, Collect, Gc, Census, Deref}
 use Rattle.cc_model.specs.declared.item.Reply.{Reply}
 use Rattle.cc_model.specs.declared.item.Reply.TheVariants.{Done, Nothing as nothing}
 use Rattle.cc_model.specs.declared.item.Event.{Event}
 use Rattle.cc_model.specs.declared.item.Event.TheVariants.{Unlinked, Freed}
 use Rattle.cc_model.specs.Answers.{Answer, explaining}
 use Rattle.cc_model.specs.Asks.{Ask, long, bad, taken}
-use Rattle.cc_model.specs.Graph.{Graph, step}
+use Rattle.cc_model.specs.Checks.{named_or_nothing}
+use Rattle.cc_model.specs.Graph.{Graph}
 use Rattle.cc_model.specs.Reached.{Reached}
 use Rattle.cc_model.specs.WellMade.{IsWellMade}
 use Rattle.cc_model.specs.Derivations.{leads_made, path_to, is_led_to, done_or_nothing, why_of}
-use Rattle.cc_model.specs.Lawful.{State, start, next, graph_after, is_without_memory, MayBe, EachMayBe, ReplyAnswers, Explains, AnswersAsk, IsLawfulFrom, IsLawful}
+use Rattle.cc_model.specs.Lawful.{State, start, next, step_with, unless_ended, noted_in, WantsMemory, graph_after, is_without_memory, MayBe, EachMayBe, ReplyAnswers, Explains, AnswersAsk, IsLawfulFrom, IsLawful}
 use Rattle.cc_model.specs.Listed.{after_event, census_order}
 use Rattle.cc_model.specs.Quiet.{Row, nothing_yet, after_gc, after_collect, after_all, row_after, CensusIsQuiet, IsQuietFrom, IsQuiet}
 use Rattle.cc_model.specs.Quiet as quiet
 use Rattle.cc_model.proofs.Derivations.{not_led-path}
 use Rattle.cc_model.proofs.PathsFollow.{path-is_right}
-use Rattle.cc_laws_heap.proofs.GraphCommands.{step-well, empty-well}
+use Rattle.cc_laws_heap.proofs.GraphCommands.{step_with-well, empty-well}
 use Rattle.cc_laws_heap.proofs.LedReached.{reached-led}
 use Rattle.cc_laws_run.specs.Running.{state_after, ask_in_range}
 use Rattle.cc_laws_run.proofs.FreedListed.{census_order-listed}
 use Rattle.cc_laws_run.proofs.PlainQuiet.{listed-census_order}
 use Rattle.cc_laws_headline.specs.Exchanges.{Exchange, IsExchangeOf, before, spoken, HasJustCollected}
-use Rattle.cc_laws_headline.specs.Headline.{CommandReplyIs, ReplyIs, ListsWhatIsThere, TellsWhy, by_path, unreached, unmet, SparesReached, CensusIsExact, TellsOfAGraph}
+use Rattle.cc_laws_headline.specs.Headline.{CommandReplyIs, ReplyIs, ListsWhatIsThere, TellsWhy, by_path, unreached, unmet, GivesBack, empty, has_ended, comes_back, SparesReached, CensusIsExact, TellsOfAGraph}
 
 -- Lawful
 
@@ -72,9 +76,9 @@ events-spare g names c (e ∷ es) each x m =
     (λ f. ⊎_elim (λ is. let first : MayBe g names c (Freed x) = subst (MayBe g names c) is each.0 in first.1) (λ i. rest (inr i)) f) m
 
 command-spares : (s : State) (c : Command) (a : Answer) (reply : Option Reply) → ReplyAnswers s c a reply →
-    (x : Name) → Among (Unlinked x) a.events ⊎ Among (Freed x) a.events → ¬ (Reached (graph_after s.graph c reply) x)
+    (x : Name) → Among (Unlinked x) a.events ⊎ Among (Freed x) a.events → ¬ (Reached (graph_after s.ended s.graph c reply) x)
 command-spares s c a None l = absurd l
-command-spares s c a (Some reply) l = events-spare (graph_after s.graph c (Some reply)) s.listed c a.events l.each
+command-spares s c a (Some reply) l = events-spare (graph_after s.ended s.graph c (Some reply)) s.listed c a.events l.each
 
 -- an answer without events
 silent-spares : (s : State) (a : Answer) → a.events ≡ [] → SparesReached s a
@@ -97,11 +101,11 @@ next-well s long a w i = w
 next-well s bad a w i = w
 next-well s (taken c) a w i = go a.reply
   where
-    by_memory : (b : Bool) → IsWellMade (elim b [ true ↦ s.graph | false ↦ step s.graph c ])
+    by_memory : (b : Bool) → IsWellMade (elim b [ true ↦ s.graph | false ↦ step_with s.ended s.graph c ])
     by_memory true = w
-    by_memory false = step-well s.graph w c i
+    by_memory false = step_with-well s.graph w s.ended c i
 
-    go : (reply : Option Reply) → IsWellMade (graph_after s.graph c reply)
+    go : (reply : Option Reply) → IsWellMade (graph_after s.ended s.graph c reply)
     go None = w
     go (Some reply) = by_memory (is_without_memory reply)
 
@@ -122,6 +126,32 @@ why-told g x a w l = ⊎_elim (λ e. subst (TellsWhy g x) (sym e) (go (is_led_to
     go false e = subst (λ b. TellsWhy g x (explaining (path_to (leads_made g) x) (done_or_nothing b))) (sym e)
         (subst (λ steps. TellsWhy g x (explaining steps nothing)) (sym (not_led-path (leads_made g) x e))
         (unreached (λ r. true≢false (sym (reached-led g w x r) ∙ e))))
+
+-- Weak references
+
+-- what is noted comes back, where it has not ended
+noted-gives : (s : State) (w : ℕ) → GivesBack s w (Some (named_or_nothing (noted_in s.ended s.graph w)))
+noted-gives s w = go (slice_index_or s.graph.weak_registers w None) refl
+  where
+    of : (x : Name) → slice_index_or s.graph.weak_registers w None ≡ Some x → (b : Bool) → has same_name s.ended x ≡ b →
+        GivesBack s w (Some (named_or_nothing (elim b [ true ↦ None | false ↦ Some x ])))
+    of x e true h = has_ended x e (has-among same_name same_name-exact s.ended x h)
+    of x e false h = comes_back x e (λ m. true≢false (sym (has-there same_name same_name-exact s.ended x m) ∙ h))
+
+    go : (o : Option Name) → slice_index_or s.graph.weak_registers w None ≡ o → GivesBack s w (Some (named_or_nothing (option_and_then (unless_ended s.ended) o)))
+    go None e = empty e
+    go (Some x) e = of x e (has same_name s.ended x) refl
+
+-- a `deref` is answered so: it never wants memory
+deref-gives : (s : State) (d w : ℕ) (a : Answer) → AnswersAsk s (taken (Deref d w)) a → GivesBack s w a.reply
+deref-gives s d w a l = go a.reply l.2
+  where
+    go : (reply : Option Reply) → ReplyAnswers s (Deref d w) a reply → GivesBack s w reply
+    go None l = absurd l
+    go (Some reply) l = ⊎_elim
+        (λ e. subst (λ r. GivesBack s w (Some r)) (sym e) (noted-gives s w))
+        (λ (m : WantsMemory s (Deref d w) reply). absurd (true≢false (sym m.command_may)))
+        l.replies
 
 -- Quiet
 
@@ -201,6 +231,7 @@ module _ (limits : Allowance) (asks : List Ask) (answers : List Answer) (l : IsL
     paths = λ t x i range e. why-told (before limits t).graph x t.answer
         (state_after-well (start limits) t.asked t.told (t.ask ∷ i.later) (empty-well limits) (subst (λ (ks : List Ask). IsTrue (list_all ask_in_range ks)) i.asks_are range))
         (subst (λ (k : Ask). AnswersAsk (before limits t) k t.answer) e (lawful-at t i));
+    derefs = λ t d w i e. deref-gives (before limits t) d w t.answer (subst (λ (k : Ask). AnswersAsk (before limits t) k t.answer) e (lawful-at t i));
     spares = λ t i. answer-spares (before limits t) t.ask t.answer (lawful-at t i);
     lists = λ t i j e. census-reached (before limits t) t.answer
         (ap (λ (b : Answer). b.listed) (census-lists (before limits t) t.ask t.answer (lawful-at t i) e)) (exact-at t i j e);

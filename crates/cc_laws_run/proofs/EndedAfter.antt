@@ -32,7 +32,7 @@ abbrev pub IsTold : List Event → ℕ → Type 0
 IsTold es j = Among (native j) (freed_names es) ⊎ Among j (unlinked_numbers es)
 
 -- who is told is among the ended names after events, and so is who was
-ended-stays : (es : List Event) (ended : List Name) (x : Name) → Among x ended → Among x (ended_after ended es)
+pub ended-stays : (es : List Event) (ended : List Name) (x : Name) → Among x ended → Among x (ended_after ended es)
 ended-stays [] ended x m = m
 ended-stays (Freed y ∷ es) ended x m = ended-stays es (y ∷ ended) x (inr m)
 ended-stays (Unlinked y ∷ es) ended x m = ended-stays es (y ∷ ended) x (inr m)

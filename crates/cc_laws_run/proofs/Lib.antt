@@ -25,6 +25,7 @@ pub mod UnitLawful
 pub mod HoldingUnits
 pub mod BesideUnits
 pub mod EndedUnits
+pub mod EndedUnreached
 pub mod GivingUp
 pub mod UnitsLawful
 pub mod ScriptsLawful

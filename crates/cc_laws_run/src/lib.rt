@@ -38,7 +38,7 @@ pub use misses::collections_after_gc_miss_nothing;
 pub use plain_run::{asks_keep_suspected, plain_run_is_lawful};
 pub use premises::{freshness_can_be_met, suspicion_can_be_met};
 pub use quiet::{garbage_is_doomed, gc_collect_gc_is_quiet};
-pub use runs::{runs_after_gc_miss_nothing, runs_forget_nothing, runs_go_on};
+pub use runs::{ended_stay_unreached, runs_after_gc_miss_nothing, runs_forget_nothing, runs_go_on};
 pub use spent::unlinked_are_gone_after_gc;
 pub use turns::commands_are_lawful;
 pub use units::collections_take_a_unit_a_node;

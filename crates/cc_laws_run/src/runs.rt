@@ -1,11 +1,14 @@
 //! What holds after any asks in range, from the empty heaps on.
 
-ghost use Rattle.std.specs.Prelude.{◌++◌, Bool, IsTrue, List, ◌∷◌};
+ghost use Rattle.std.specs.Prelude.{◌++◌, ℕ, Bool, IsTrue, List, ◌∷◌};
 ghost use Rattle.std.specs.List.{list_all};
 ghost use Rattle.cc_names.specs.Allowance.{Allowance};
 ghost use Rattle.cc_model.specs.declared.command.Command.TheVariants.{Gc};
 ghost use Rattle.cc_model.specs.Asks.{Ask, taken};
 ghost use Rattle.cc_model.specs.Lawful.{start};
+ghost use Rattle.cc_model.specs.Reached.{Reached};
+ghost use Rattle.cc_lists.specs.Members.{Among};
+ghost use Rattle.cc_names.specs.Names.{native};
 ghost use Rattle.cc_model.specs.Collecting.{empty_machine};
 ghost use Rattle.cc_model.specs.Run.{machine_after, plain_run};
 ghost use Rattle.cc_laws_run.specs.Running.{IsRunning, ask_in_range, state_after};
@@ -43,4 +46,12 @@ pub fn runs_after_gc_miss_nothing()
     ensures nothing_at_all { (limits : Allowance) (memory : List Bool) (before blanks : List Ask) (ask : Ask) (asks : List Ask) →
         BeginsAfterGc before blanks ask asks → IsTrue (list_all brings_none_back asks) →
         MissesNothingAtAll limits memory (before ++ taken Gc ∷ blanks) (ask ∷ asks) }
+{}
+
+/// WHAT HAS ENDED IS NEVER REACHED AGAIN, in any run from the empty heaps: a native that an unlink or a free line had is reached
+/// neither after those asks nor after any later ones. So no weak register gives back what a root can't hold.
+pub fn ended_stay_unreached()
+    ensures { (limits : Allowance) (memory : List Bool) (asks later : List Ask) → IsTrue (list_all ask_in_range (asks ++ later)) → (k : ℕ) →
+        Among (native k) (state_after (start limits) asks (plain_run limits memory asks)).ended →
+        ¬ (Reached (state_after (start limits) (asks ++ later) (plain_run limits memory (asks ++ later))).graph (native k)) }
 {}

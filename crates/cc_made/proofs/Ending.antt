@@ -1,7 +1,7 @@
 -- What a made script leaves: nothing, where its last collection is not given up.
-use Rattle.std.proofs.Common.{◌≡◌, ℕ, zero, suc, ◌+◌, true, List, [], ◌∷◌, ◌++◌, length, drop, Option, Some, refl, ap, sym, subst, ◌∙◌, arith, inl}
+use Rattle.std.proofs.Common.{◌≡◌, ℕ, zero, suc, ◌+◌, true, false, List, [], ◌∷◌, ◌++◌, length, drop, Option, Some, refl, ap, sym, subst, ◌∙◌, arith, inl}
 use Rattle.std.specs.List.{list_all}
-use Rattle.std.proofs.lemmas.Bool.{and_parts}
+use Rattle.std.proofs.lemmas.Bool.{and_parts, true≢false}
 use Rattle.std.proofs.lemmas.List.{drop-drop}
 use Rattle.cc_lists.specs.Members.{Among}
 use Rattle.cc_names.specs.declared.name.Name.{Name}
@@ -13,6 +13,7 @@ use Rattle.cc_model.specs.declared.item.Reply.{Reply}
 use Rattle.cc_model.specs.declared.item.Reply.TheVariants.{Done}
 use Rattle.cc_model.specs.Answers.{Answer}
 use Rattle.cc_model.specs.Asks.{Ask, taken}
+use Rattle.cc_model.specs.Mutating.{is_mutator, class_of}
 use Rattle.cc_model.specs.Checks.{Objects}
 use Rattle.cc_model.specs.Deeds.{deed_of}
 use Rattle.cc_model.specs.Graph.{changed, done_to, objects_of}
@@ -112,8 +113,10 @@ none-listed [] none = refl
 none-listed (x ∷ names) none = absurd (none x (inl refl))
 
 -- `gc` and `collect` leave the graph
-collection-kept : (s : State) (c : Command) (a : Answer) → changed s.graph c ≡ s.graph → HasEmptied 8 8 s.graph → HasEmptied 8 8 (next s (taken c) a).graph
-collection-kept s c a left e = left-or-changed (HasEmptied 8 8) s.graph c a.reply e (subst (HasEmptied 8 8) (sym left) e)
+collection-kept : (s : State) (c : Command) (a : Answer) → changed s.graph c ≡ s.graph → is_mutator (class_of c) ≡ false → HasEmptied 8 8 s.graph →
+    HasEmptied 8 8 (next s (taken c) a).graph
+collection-kept s c a left other e = left-or-changed (HasEmptied 8 8) s.ended s.graph c a.reply e (subst (HasEmptied 8 8) (sym left) e)
+    (λ d w is. absurd (true≢false (sym (ap is_mutator is) ∙ other)))
 
 -- THE LAST CENSUS is that of nothing, where the collection before it was not given up
 pub last-census : (swept collected swept_again census : Answer) →
@@ -126,7 +129,7 @@ last-census swept collected swept_again census l done =
     let Quiet : Option Reply → Type 0 = λ reply. IsQuietFrom (row_after_collect after_gc reply) second (taken Gc ∷ taken Census ∷ []) (swept_again ∷ census ∷ []) in
     let quiet : Quiet (Some Done) = subst Quiet done l.quiet.1.1 in
     let emptied : HasEmptied 8 8 third.graph =
-    collection-kept second Gc swept_again refl (collection-kept first Collect collected refl (collection-kept l.state Gc swept refl l.emptied)) in
+    collection-kept second Gc swept_again refl refl (collection-kept first Collect collected refl refl (collection-kept l.state Gc swept refl refl l.emptied)) in
     let none : third.listed ≡ [] = none-listed third.listed (λ x among. none-reached third.graph emptied x ((quiet.1.0 x).0 among)) in
     l.lawful.1.1.1.0 ∙ ap census_of none
 

@@ -1,5 +1,5 @@
 -- Which registers of a graph are empty while a made script runs.
-use Rattle.std.proofs.Common.{◌≡◌, ◌⊎◌, ℕ, zero, suc, ◌<◌, ◌≤◌, Bool, true, false, List, [], ◌∷◌, Option, None, Some, get_or, set, refl, ap, sym, ◌∙◌, arith, inl, inr, ⊎_elim}
+use Rattle.std.proofs.Common.{◌≡◌, ◌⊎◌, ℕ, zero, suc, ◌<◌, ◌≤◌, Bool, true, false, List, [], ◌∷◌, Option, None, Some, get_or, set, refl, ap, sym, ◌∙◌, arith, inl, inr, ⊎_elim, subst}
 use Rattle.std.proofs.lemmas.Bool.{false≢true, ltb-true}
 use Rattle.std.proofs.lemmas.Bool.Decides.{leb_tells}
 use Rattle.std.proofs.lemmas.List.{get_or-set_other}
@@ -10,18 +10,19 @@ use Rattle.cc_names.specs.declared.register.Reg.{Reg}
 use Rattle.cc_names.specs.declared.register.Reg.TheVariants.{N, S, W}
 use Rattle.cc_names.specs.Sizes.{bank_length}
 use Rattle.cc_model.specs.declared.command.Command.{Command}
-use Rattle.cc_model.specs.declared.command.Command.TheVariants.{Drop}
+use Rattle.cc_model.specs.declared.command.Command.TheVariants.{Deref, Drop}
 use Rattle.cc_model.specs.declared.item.Refusal.{Refusal}
 use Rattle.cc_model.specs.declared.item.Reply.{Reply}
 use Rattle.cc_model.specs.Answers.{Answer}
 use Rattle.cc_model.specs.Asks.{Ask, long, bad, taken}
-use Rattle.cc_model.specs.Checks.{refusal_of, reply_if_taken}
+use Rattle.cc_model.specs.Checks.{Objects, refusal_of, reply_if_taken}
 use Rattle.cc_model.specs.Deeds.{Deed, nothing_done, native_made, plain_made, map_made, proxy_made, native_held, script_held, script_copied, native_stored, slot_moved, script_stored, reflector_held, reflector_preserved, entry_written, object_exposed, weak_written, deed_of}
 use Rattle.cc_model.specs.Graph.{Graph, GraphNative, GraphScript, proxy, done_to, changed, empty_graph, objects_of, preserve, register, set_entry, set_native, set_register, set_script, set_slot, step, unless_refused, with_proxy, with_script, wrapped}
 use Rattle.cc_model.specs.Slots.{empty_slots}
-use Rattle.cc_model.specs.Lawful.{AnswersTaken, ReplyAnswers, State, graph_after, is_without_memory, next}
+use Rattle.cc_model.specs.Mutating.{Class, reads_weak, class_of}
+use Rattle.cc_model.specs.Lawful.{AnswersTaken, ReplyAnswers, State, graph_after, is_without_memory, next, noted_in, step_of, step_with}
 use Rattle.cc_model.specs.Reached.{Reached, held, edge, value, key}
-use Rattle.cc_made.specs.Asked.{written_by, writes_of_eight, is_of_eight}
+use Rattle.cc_made.specs.Asked.{written_by, written_in, writes_of_eight, is_of_eight}
 
 -- the first registers of each bank, so many of them, and all from the eighth on are empty
 pub record HasEmptied (natives scripts : ℕ) (g : Graph) : Type 0 where
@@ -162,24 +163,36 @@ changed-kept : (g : Graph) (c : Command) → is_of_eight (written_by (deed_of (o
 unfolding changed
 changed-kept g c low e = done_to-kept g (deed_of (objects_of g) c) low e
 
--- after a reply the graph is as it was, or as the command changes it
-pub left-or-changed : (P : Graph → Type 0) (g : Graph) (c : Command) (reply : Option Reply) → P g → P (changed g c) → P (graph_after g c reply)
-left-or-changed P g c None left new = left
-left-or-changed P g c (Some reply) left new = go (is_without_memory reply)
+-- after a reply the graph is as it was, or as the command changes it, or a register holds what a weak one gives
+pub left-or-changed : (P : Graph → Type 0) (ended : List Name) (g : Graph) (c : Command) (reply : Option Reply) → P g → P (changed g c) →
+    ((d w : ℕ) → class_of c ≡ reads_weak d w → P (set_register g (N d) (noted_in ended g w))) → P (graph_after ended g c reply)
+left-or-changed P ended g c None left new read = left
+left-or-changed P ended g c (Some reply) left new read = go (is_without_memory reply)
   where
     stepped : (refusal : Option Refusal) → P (unless_refused refusal g (changed g c))
     stepped None = new
     stepped (Some refusal) = left
 
-    go : (wants : Bool) → P (elim wants [ true ↦ g | false ↦ step g c ])
+    by_class : (k : Class) → class_of c ≡ k → P (step_of ended g c k)
+    by_class (reads_weak d w) is = read d w is
+    by_class _ is = stepped (refusal_of (objects_of g) c)
+
+    go : (wants : Bool) → P (elim wants [ true ↦ g | false ↦ step_with ended g c ])
     go true = left
-    go false = stepped (refusal_of (objects_of g) c)
+    go false = by_class (class_of c) refl
+
+-- a command that writes one of the eight does a deed that writes one, or none
+deed-low : (o : Objects) (c : Command) → writes_of_eight o (taken c) ≡ true → is_of_eight (written_by (deed_of o c)) ≡ true
+unfolding deed_of
+deed-low o (Deref d w) low = refl
+deed-low o c low = low
 
 -- no ask of a made script writes another
 pub next-kept : (s : State) (ask : Ask) (a : Answer) → writes_of_eight (objects_of s.graph) ask ≡ true → HasEmptied 0 0 s.graph → HasEmptied 0 0 (next s ask a).graph
 next-kept s long a low e = e
 next-kept s bad a low e = e
-next-kept s (taken c) a low e = left-or-changed (HasEmptied 0 0) s.graph c a.reply e (changed-kept s.graph c low e)
+next-kept s (taken c) a low e = left-or-changed (HasEmptied 0 0) s.ended s.graph c a.reply e (changed-kept s.graph c (deed-low (objects_of s.graph) c low) e)
+    (λ d w is. written s.graph s.graph (N d) _ (same s.graph) (subst (λ k. is_of_eight (written_in (deed_of (objects_of s.graph) c) k) ≡ true) is low) e)
 
 -- a register that is a root
 abbrev pub IsRoot : Reg → Type 0
@@ -195,13 +208,13 @@ changed-drop g (S d) root = refl
 changed-drop g (W d) root = absurd root
 
 -- a root that is let go is emptied: that wants no memory, and is not refused
-pub drop-done : (s : State) (r : Reg) (a : Answer) → IsRoot r → AnswersTaken s (Drop r) a → graph_after s.graph (Drop r) a.reply ≡ set_register s.graph r None
+pub drop-done : (s : State) (r : Reg) (a : Answer) → IsRoot r → AnswersTaken s (Drop r) a → graph_after s.ended s.graph (Drop r) a.reply ≡ set_register s.graph r None
 unfolding refusal_of reply_if_taken
 drop-done s r a root answered = go a.reply answered.2
   where
-    go : (reply : Option Reply) → ReplyAnswers s (Drop r) a reply → graph_after s.graph (Drop r) reply ≡ set_register s.graph r None
+    go : (reply : Option Reply) → ReplyAnswers s (Drop r) a reply → graph_after s.ended s.graph (Drop r) reply ≡ set_register s.graph r None
     go None p = absurd p
-    go (Some reply) p = ⊎_elim (λ e. ap (λ y. graph_after s.graph (Drop r) (Some y)) e ∙ changed-drop s.graph r root) (λ wants. absurd (false≢true wants.command_may)) p.replies
+    go (Some reply) p = ⊎_elim (λ e. ap (λ y. graph_after s.ended s.graph (Drop r) (Some y)) e ∙ changed-drop s.graph r root) (λ wants. absurd (false≢true wants.command_may)) p.replies
 
 -- a register is one of the eight or beyond them
 near-or-far : (r : ℕ) → (r < 8) ⊎ (8 ≤ r)

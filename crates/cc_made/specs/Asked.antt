@@ -3,7 +3,7 @@ use Rattle.std.specs.Prelude.{Bool, true, false, List, [], ◌∷◌, Option, So
 use Rattle.cc_names.specs.declared.register.Reg.{Reg}
 use Rattle.cc_names.specs.declared.register.Reg.TheVariants.{N, S, W}
 use Rattle.cc_model.specs.declared.command.Command.TheVariants.{Drop, Collect, Gc, Census}
-use Rattle.cc_model.specs.Mutating.{census, Class, says, class_of}
+use Rattle.cc_model.specs.Mutating.{census, Class, says, reads_weak, class_of}
 use Rattle.cc_model.specs.Asks.{Ask, long, bad, taken}
 use Rattle.cc_model.specs.Checks.{Objects}
 use Rattle.cc_model.specs.Deeds.{Deed, native_made, plain_made, map_made, proxy_made, native_held, script_held, script_copied, reflector_held, weak_written, deed_of}
@@ -34,6 +34,11 @@ written_by (reflector_held d x) = Some (S d)
 written_by (weak_written w x) = Some (W w)
 written_by _ = None
 
+-- and the register that a command of this deed and class writes: one that reads a weak register writes a native one
+abbrev pub written_in : Deed → Class → Option Reg
+written_in deed (reads_weak d w) = Some (N d)
+written_in deed _ = written_by deed
+
 -- one of the eight that the tail empties, or none
 abbrev pub is_of_eight : Option Reg → Bool
 is_of_eight None = true
@@ -45,7 +50,7 @@ is_of_eight (Some (W r)) = false
 abbrev pub writes_of_eight : Objects → Ask → Bool
 writes_of_eight o long = true
 writes_of_eight o bad = true
-writes_of_eight o (taken c) = is_of_eight (written_by (deed_of o c))
+writes_of_eight o (taken c) = is_of_eight (written_in (deed_of o c) (class_of c))
 
 -- what the tail asks
 abbrev pub tail_asks : List Ask

@@ -9,16 +9,21 @@ use Rattle.cc_model.specs.declared.item.Reply.{Reply}
 use Rattle.cc_model.specs.declared.item.Reply.TheVariants.{Named, Done, Refused}
 use Rattle.cc_model.specs.Telling.{Telling, TellsEvents}
 use Rattle.cc_model.specs.Checks.{Objects, named_or_nothing, refusal_of}
-use Rattle.cc_model.specs.Deeds.{Deed}
+use Rattle.cc_model.specs.Mutating.{does as does_deed, class_of}
+use Rattle.cc_model.specs.Deeds.{Deed, weak_written}
+use Rattle.cc_model.specs.Run.{weak_after}
 use Rattle.cc_model.specs.Heap.{Heap, Outcome, objects_of, silently}
-use Rattle.cc_model.specs.Effects.{done_in, effects}
+use Rattle.cc_model.specs.Effects.{done_in, takes_memory}
 use Rattle.cc_model.specs.Exposure.{exposed}
 use Rattle.cc_model.proofs.Tellings.{Tells-nil}
 use Rattle.cc_laws_heap.proofs.Face.{IsTaken, IsTaken-from}
 use Rattle.cc_heaps.specs.Keyed.{Keyed, IsInOrder, left_with}
 use Rattle.cc_heaps.specs.Changes.{KeepsKeys}
 use Rattle.cc_heaps.specs.Marks.{KeepsMarks}
-use Rattle.cc_mutator.specs.Commands.{IsAnswered, IsApplied, IsNamed, IsTakenUp}
+use Rattle.cc_weakrefs.specs.declared.noted.Noted.{Noted}
+use Rattle.cc_weakrefs.specs.Noting.{HoldKeys, names_noted}
+use Rattle.cc_mutator.specs.Applied.{deed_by, deed_in, reply_in}
+use Rattle.cc_mutator.specs.Commands.{IsAnswered, IsApplied, IsNamed, IsTakenBeside, IsTakenUp}
 use Rattle.cc_heaps.proofs.KeysKept.{KeepsKeys-left, KeepsKeys-same}
 use Rattle.cc_heaps.proofs.MarksKept.{marks-left, marks-same}
 
@@ -83,27 +88,48 @@ pub answered-silently : (d : Deed) (answer : Reply) (old new : Keyed) (reply : R
 answered-silently d answer old new reply t may_lack h does is n e k o marks =
     answered-done d answer old new reply t t may_lack is n (e ∙ sym (ap (λ (p : Outcome). p.heap) does)) (subst (λ (p : Outcome). TellsEvents t t p.events) (sym does) (Tells-nil t)) k o marks
 
+-- where the heaps do nothing
+pub answered-still : (d : Deed) (answer : Reply) (v : Keyed) (reply : Reply) (t : Telling) → done_in v.heap d ≡ silently v.heap → reply ≡ answer → answer ≢ Refused NoMemory →
+    IsAnswered d answer false v v reply t t
+answered-still d answer v reply t does is n =
+    answered-silently d answer v v reply t false v.heap does is n refl (KeepsKeys-same v) (λ owned o. o) (marks-still v v refl)
+
+-- where a weak register is written
+pub weak-still : (w : ℕ) (x : Option Name) (answer : Reply) (v : Keyed) (reply : Reply) (t : Telling) → reply ≡ answer → answer ≢ Refused NoMemory →
+    IsAnswered (weak_written w x) answer false v v reply t t
+unfolding done_in
+weak-still w x answer v reply t is n = answered-still (weak_written w x) answer v reply t refl is n
+
 -- by what is held
 pub named-as : (deed : Option Name → Deed) (x y : Option Name) (old new : Keyed) (reply : Reply) (before after : Telling) → x ≡ y → IsNamed (deed x) x old new reply before after →
     IsNamed (deed y) y old new reply before after
 named-as deed x y old new reply before after e a = subst (λ z. IsNamed (deed z) z old new reply before after) e a
 
-module _ (c : Command) (old new : Keyed) (reply : Reply) (before after : Telling) where
+module _ (c : Command) (old new : Keyed) (weak noted : List (Option Noted)) (reply : Reply) (before after : Telling) (held : HoldKeys noted old) where
   -- A COMMAND THAT IS REFUSED
-  pub applied-refused : (r : Refusal) → refusal_of (objects_of old.heap) c ≡ Some r → reply ≡ Refused r → new ≡ old → after ≡ before → IsApplied c old new reply before after
-  applied-refused r refuses is same quiet = grind (arith, refused-not_memory, KeepsKeys-same, marks-still)
+  pub applied-refused : (r : Refusal) → refusal_of (objects_of old.heap) c ≡ Some r → reply ≡ Refused r → new ≡ old → noted ≡ weak → after ≡ before →
+      IsApplied c old new weak noted reply before after
+  applied-refused r refuses is same still quiet = grind (arith, refused-not_memory, KeepsKeys-same, marks-still, held)
 
   -- one that is not
-  pub applied-taken : refusal_of (objects_of old.heap) c ≡ None → IsTakenUp c old new reply before after → IsApplied c old new reply before after
-  unfolding effects
-  applied-taken none a = record {
+  pub applied-taken : refusal_of (objects_of old.heap) c ≡ None → IsTakenBeside c weak old new reply before after →
+      names_noted noted ≡ weak_after (names_noted weak) (deed_by old.heap (names_noted weak) c) → (takes_memory old.heap c ≡ true → noted ≡ weak) →
+      IsApplied c old new weak noted reply before after
+  applied-taken none a names still = record {
     refused = λ r e. let f = sym none ∙ e in absurd (cc);
-    done = λ e m. record { reply_is = a.answered m; heap = a.heap m; told = a.told m };
-    memory = λ e. let f = a.memory e in (none, f.0, f.1, f.2);
+    done = λ e m. record { reply_is = a.answered m; heap = a.heap m; told = a.told m; weak_registers = names };
+    memory = λ e. let f = a.memory e in (none, f.0, f.1, still f.0, f.2);
     keys = a.keys;
     order = a.order;
     marks = a.marks;
+    held = held;
   }
+
+-- A COMMAND THAT DOES A DEED does it beside weak registers, whatever they note
+pub taken-beside : (c : Command) (weak : List (Option Noted)) (old new : Keyed) (reply : Reply) (before after : Telling) → class_of c ≡ does_deed →
+    IsTakenUp c old new reply before after → IsTakenBeside c weak old new reply before after
+taken-beside c weak old new reply before after e a =
+    subst (λ k. IsAnswered (deed_in old.heap (names_noted weak) c k) (reply_in old.heap (names_noted weak) c k) (takes_memory old.heap c) old new reply before after) (sym e) a
 
 -- what is known of it
 pub as-taken : (o : Objects) (c e : Command) → c ≡ e → refusal_of o c ≡ None → IsTaken o e

@@ -5,5 +5,5 @@ pub mod Exposing
 pub mod Reflecting
 pub mod Storing
 pub mod Carrying
+pub mod WeakRead
 pub mod Following
-pub mod Remembering

@@ -17,7 +17,9 @@ use Rattle.cc_counted.specs.declared.held.Held.TheVariants as held
 use Rattle.cc_heaps.specs.Keyed.{Keyed, IsInOrder}
 use Rattle.cc_heaps.specs.Changes.{KeepsKeys}
 use Rattle.cc_heaps.specs.Marks.{KeepsMarks}
-use Rattle.cc_mutator.specs.Applied.{IsCarriedOut}
+use Rattle.cc_weakrefs.specs.declared.noted.Noted.{Noted}
+use Rattle.cc_weakrefs.specs.Noting.{HoldKeys, names_noted}
+use Rattle.cc_mutator.specs.Applied.{IsCarriedOut, deed_by, reply_by}
 
 -- A DEED IS ANSWERED: it is done, and answered so; or, where it may lack memory, it does, and nothing changes.
 pub record IsAnswered (d : Deed) (answer : Reply) (may_lack : Bool) (old new : Keyed) (reply : Reply) (before after : Telling) : Type 0 where
@@ -41,15 +43,22 @@ IsNamed d x = IsAnswered d (named_or_nothing x) false
 abbrev pub IsTakenUp : Command → Keyed → Keyed → Reply → Telling → Telling → Type 0
 IsTakenUp c old = IsAnswered (deed_of (objects_of old.heap) c) (reply_if_taken (objects_of old.heap) c) (takes_memory old.heap c) old
 
--- A COMMAND IS ANSWERED
-pub record IsApplied (c : Command) (old new : Keyed) (reply : Reply) (before after : Telling) : Type 0 where
-  pub refused : (r : Refusal) → refusal_of (objects_of old.heap) c ≡ Some r → (reply ≡ Refused r) × (new ≡ old) × (after ≡ before)
-  pub done : refusal_of (objects_of old.heap) c ≡ None → reply ≢ Refused no_memory → IsCarriedOut c old.heap new.heap reply before after
+-- that of a command beside what weak registers note
+abbrev pub IsTakenBeside : Command → List (Option Noted) → Keyed → Keyed → Reply → Telling → Telling → Type 0
+IsTakenBeside c weak old = IsAnswered (deed_by old.heap (names_noted weak) c) (reply_by old.heap (names_noted weak) c) (takes_memory old.heap c) old
+
+-- A COMMAND IS ANSWERED, beside weak registers that note `weak` before and `noted` after
+pub record IsApplied (c : Command) (old new : Keyed) (weak noted : List (Option Noted)) (reply : Reply) (before after : Telling) : Type 0 where
+  pub refused : (r : Refusal) → refusal_of (objects_of old.heap) c ≡ Some r → (reply ≡ Refused r) × (new ≡ old) × (noted ≡ weak) × (after ≡ before)
+  pub done : refusal_of (objects_of old.heap) c ≡ None → reply ≢ Refused no_memory →
+      IsCarriedOut c old.heap new.heap (names_noted weak) (names_noted noted) reply before after
   pub memory : reply ≡ Refused no_memory →
-      (refusal_of (objects_of old.heap) c ≡ None) × (takes_memory old.heap c ≡ true) × (new ≡ old) × (after ≡ before)
+      (refusal_of (objects_of old.heap) c ≡ None) × (takes_memory old.heap c ≡ true) × (new ≡ old) × (noted ≡ weak) × (after ≡ before)
   pub keys : KeepsKeys old new
   pub order : (owned : List ℕ) → IsInOrder owned old → IsInOrder owned new
   pub marks : KeepsMarks old new
+  -- what they note has its key in the heaps as these were
+  pub held : HoldKeys noted old
 
 -- Contents of one kind alone
 

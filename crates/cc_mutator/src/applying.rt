@@ -9,17 +9,19 @@ ghost use Rattle.cc_model.specs.Colours.{HasColourInvariant};
 ghost use Rattle.cc_model.specs.Effects.{takes_memory};
 ghost use Rattle.cc_model.specs.Heap.{objects_of};
 ghost use Rattle.cc_model.specs.Lawful.{State, RepliesWith, graph_after};
-ghost use Rattle.cc_model.specs.Mutating.{is_applied};
-ghost use Rattle.cc_model.specs.Ranges.{in_range, is_reg};
+ghost use Rattle.cc_model.specs.Mutating.{class_of, is_applied, is_deed};
+ghost use Rattle.cc_model.specs.Ranges.{in_range, is_dropped, is_reg};
+ghost use Rattle.cc_model.specs.Run.{weak_after};
 ghost use Rattle.cc_model.specs.StandsFor.{StandsFor};
 ghost use Rattle.cc_model.specs.View.{view};
+ghost use Rattle.cc_model.specs.WellMade.{IsWellMade};
 ghost use Rattle.cc_heaps.specs.Keyed.{IsInOrder};
 ghost use Rattle.cc_heaps.specs.Few.{AreOwnedOnce};
-ghost use Rattle.cc_heaps.specs.Standing.{StandsAfter};
 ghost use Rattle.cc_heaps.specs.Keeping.{KeepsAll};
-ghost use Rattle.cc_mutator.specs.Applied.{IsCarriedOut};
-ghost use Rattle.cc_mutator.specs.Commands.{IsApplied, IsTakenUp};
-ghost use Rattle.cc_mutator.specs.Listing.{AreListedFor};
+ghost use Rattle.cc_weakrefs.specs.Noting.{HoldKeys, names_noted};
+ghost use Rattle.cc_mutator.specs.Applied.{IsCarriedOut, deed_by};
+ghost use Rattle.cc_mutator.specs.Commands.{IsApplied, IsTakenBeside, IsTakenUp};
+ghost use Rattle.cc_mutator.specs.Listing.{AgreesFor, AreListedFor};
 
 use crate::checks::HeapReads;
 use crate::making::{make_map, make_native, make_plain, make_proxy, wrap};
@@ -27,21 +29,23 @@ use crate::natives::{copy_native, drop_native, get_native, move_slot, set, unwra
 use crate::scripts::{
     copy_script, drop_script, expose, get_entry, get_script, preserve, put, set_entry, take,
 };
+use crate::weak::{dereference, name_noted, note};
 use cc_heaps::Heaps;
 use cc_model::{Command, Notices, Reply, refusal};
 use cc_names::{Reg, RegNo};
+use cc_weakrefs::WeakRegs;
 
-/// Empties a register.
+/// Empties a register; of a weak one the heaps know nothing.
 #[tactic(auto, unfolding(cc_model::specs::Deeds::deed_of, cc_model::specs::Checks::reply_if_taken))]
 fn empty<N: Notices>(heaps: &mut Heaps, r: Reg, out: &mut N) -> Reply
-    requires within { IsTrue (is_reg r) }
+    requires within { IsTrue (is_dropped r) }
     requires order { (owned : List ℕ) × IsInOrder owned heaps.old × AreOwnedOnce owned }
     ensures { IsTakenUp (Drop r) heaps.old heaps.new result (N.telling out.old) (N.telling out.new) }
 {
     match r {
         Reg::N(k) => drop_native(heaps, k, out),
         Reg::S(k) => drop_script(heaps, k),
-        Reg::W(_) => unreachable!(),
+        Reg::W(_) => Reply::Done,
     }
 }
 
@@ -60,10 +64,10 @@ fn get<N: Notices>(heaps: &mut Heaps, d: Reg, s: RegNo, i: u32, out: &mut N) -> 
     }
 }
 
-/// Does a command that is not refused, by the function of its kind.
+/// Does to the heaps what a command does that is not refused, by the function of its kind.
 #[tactic(auto, unfolding(cc_model::specs::Deeds::deed_of, cc_model::specs::Checks::reply_if_taken))]
 fn carry_out<N: Notices>(heaps: &mut Heaps, command: &Command, out: &mut N) -> Reply
-    requires applied { IsTrue (is_applied command.now) }
+    requires deed { IsTrue (is_deed (class_of command.now)) }
     requires in_range { IsTrue (in_range command.now) }
     requires order { (owned : List ℕ) × IsInOrder owned heaps.old × AreOwnedOnce owned }
     requires colours { HasColourInvariant (view heaps.old.heap) }
@@ -89,22 +93,54 @@ fn carry_out<N: Notices>(heaps: &mut Heaps, command: &Command, out: &mut N) -> R
         Command::SetEntry(m, k, from) => set_entry(heaps, m, k, from),
         Command::GetEntry(d, m, k) => get_entry(heaps, d, m, k),
         Command::Expose(s, i) => expose(heaps, s, i),
+        Command::Weak(w, s) => name_noted(heaps, w, s),
         _ => unreachable!(),
     }
 }
 
-/// Checks a command, and does it where it is not refused.
-fn answer<N: Notices>(heaps: &mut Heaps, command: &Command, out: &mut N) -> Reply
+/// Does a command that is not refused, beside the weak registers.
+fn take_up<N: Notices>(
+    heaps: &mut Heaps,
+    weak: &mut WeakRegs,
+    command: &Command,
+    out: &mut N,
+) -> Reply
     requires applied { IsTrue (is_applied command.now) }
     requires in_range { IsTrue (in_range command.now) }
     requires order { (owned : List ℕ) × IsInOrder owned heaps.old × AreOwnedOnce owned }
     requires colours { HasColourInvariant (view heaps.old.heap) }
-    ensures { IsApplied command.now heaps.old heaps.new result (N.telling out.old) (N.telling out.new) }
+    requires keys { HoldKeys weak.old heaps.old }
+    requires taken { refusal_of (objects_of heaps.old.heap) command.now ≡ None }
+    ensures taken { IsTakenBeside command.now weak.old heaps.old heaps.new result (N.telling out.old) (N.telling out.new) }
+    ensures noted { names_noted weak.new ≡ weak_after (names_noted weak.old) (deed_by heaps.old.heap (names_noted weak.old) command.now) }
+    ensures same { takes_memory heaps.old.heap command.now ≡ true → weak.new ≡ weak.old }
+    ensures keys { HoldKeys weak.new heaps.old }
+{
+    if let Command::Deref(d, w) = *command {
+        return dereference(heaps, weak, d, w, out);
+    }
+    note(heaps, weak, command);
+    carry_out(heaps, command, out)
+}
+
+/// Checks a command, and does it where it is not refused.
+fn answer<N: Notices>(
+    heaps: &mut Heaps,
+    weak: &mut WeakRegs,
+    command: &Command,
+    out: &mut N,
+) -> Reply
+    requires applied { IsTrue (is_applied command.now) }
+    requires in_range { IsTrue (in_range command.now) }
+    requires order { (owned : List ℕ) × IsInOrder owned heaps.old × AreOwnedOnce owned }
+    requires colours { HasColourInvariant (view heaps.old.heap) }
+    requires keys { HoldKeys weak.old heaps.old }
+    ensures { IsApplied command.now heaps.old heaps.new weak.old weak.new result (N.telling out.old) (N.telling out.new) }
 {
     if let Some(refusal) = refusal(&HeapReads(heaps), command) {
         return Reply::Refused(refusal);
     }
-    carry_out(heaps, command, out)
+    take_up(heaps, weak, command, out)
 }
 
 /// Does a command of the mutator, and returns the reply to it. What it deletes is told first, however deep it goes.
@@ -113,28 +149,40 @@ fn answer<N: Notices>(heaps: &mut Heaps, command: &Command, out: &mut N) -> Repl
 /// by `wrap` where the native has no reflector, and by `wset` with a value where the map has no entry of the key, where they
 /// are not refused; by no other command. Without it they change nothing and tell nothing either.
 ///
+/// `weak` and `drop wX` write a weak register, and `deref` has a native register hold what one notes, where that is still in
+/// the heaps and was not unlinked. The weak registers hold the keys of the natives that they note, before and afterwards.
+///
 /// The reply is that of each graph that the heaps stand for, or it is want of memory where that graph does not refuse the
 /// command, and memory may be wanted by the graph too: by `wset` where the graph's map has no entry of the key, and by
-/// `wrap` where the reflector is not listed. Only for `wrap` are the listed names to be those of the objects that are there.
+/// `wrap` where the reflector is not listed. Only for `wrap` are the listed names to be those of the objects that are there,
+/// and only for `deref` are the graph's weak registers to note the same, and the names that have ended to be those of the heaps.
 ///
 /// Afterwards the heaps stand for the graph's step, or without memory for the graph as it was; each snapshot that was
 /// fresh is fresh, and no native that nothing reaches is forgotten, whatever the candidates of a running collection are.
-pub fn apply<N: Notices>(heaps: &mut Heaps, command: &Command, out: &mut N) -> Reply
+pub fn apply<N: Notices>(
+    heaps: &mut Heaps,
+    weak: &mut WeakRegs,
+    command: &Command,
+    out: &mut N,
+) -> Reply
     requires applied { IsTrue (is_applied command.now) }
     requires in_range { IsTrue (in_range command.now) }
     requires order { (owned : List ℕ) × IsInOrder owned heaps.old × AreOwnedOnce owned }
     requires colours { HasColourInvariant (view heaps.old.heap) }
+    requires keys { HoldKeys weak.old heaps.old }
     ensures refused { (r : Refusal) → refusal_of (objects_of heaps.old.heap) command.now ≡ Some r →
-        (result ≡ refused r) × (heaps.new ≡ heaps.old) × (N.telling out.new ≡ N.telling out.old) }
+        (result ≡ refused r) × (heaps.new ≡ heaps.old) × (weak.new ≡ weak.old) × (N.telling out.new ≡ N.telling out.old) }
     ensures done { refusal_of (objects_of heaps.old.heap) command.now ≡ None → result ≢ refused no_memory →
-        IsCarriedOut command.now heaps.old.heap heaps.new.heap result (N.telling out.old) (N.telling out.new) }
+        IsCarriedOut command.now heaps.old.heap heaps.new.heap (names_noted weak.old) (names_noted weak.new) result (N.telling out.old) (N.telling out.new) }
     ensures memory { result ≡ refused no_memory →
         (refusal_of (objects_of heaps.old.heap) command.now ≡ None) × (takes_memory heaps.old.heap command.now ≡ true)
-        × (heaps.new ≡ heaps.old) × (N.telling out.new ≡ N.telling out.old) }
+        × (heaps.new ≡ heaps.old) × (weak.new ≡ weak.old) × (N.telling out.new ≡ N.telling out.old) }
     ensures replies { (s : State) → StandsFor heaps.old.heap s.graph → AreListedFor command.now heaps.old.heap s.listed →
-        RepliesWith s command.now result }
-    ensures stands { StandsAfter heaps.old.heap heaps.new.heap (λ g. graph_after g command.now (Some result)) }
+        AgreesFor (class_of command.now) heaps.old.heap (names_noted weak.old) s → RepliesWith s command.now result }
+    ensures stands { (s : State) → AgreesFor (class_of command.now) heaps.old.heap (names_noted weak.old) s → IsWellMade s.graph → StandsFor heaps.old.heap s.graph →
+        IsWellMade (graph_after s.ended s.graph command.now (Some result)) × StandsFor heaps.new.heap (graph_after s.ended s.graph command.now (Some result)) }
+    ensures keys { HoldKeys weak.new heaps.new }
     ensures kept { KeepsAll heaps.old heaps.new }
 {
-    answer(heaps, command, out)
+    answer(heaps, weak, command, out)
 }

@@ -1,5 +1,5 @@
-//! The mutator: one command that makes, copies, writes, reads, wraps, unwraps, preserves or exposes, or that sets, takes out
-//! or reads an entry of a weak map, done on the heaps.
+//! The mutator: one command that makes, copies, writes, reads, wraps, unwraps, preserves or exposes, that sets, takes out
+//! or reads an entry of a weak map, or that writes or reads a weak register, done on the heaps and the weak registers.
 //!
 //! Each command is checked before it changes anything, in one order of causes: an empty register, an object of the wrong
 //! kind, an index of no slot, a content of the wrong kind, no room. What comes into a script register, into a slot of a
@@ -14,5 +14,6 @@ mod making;
 mod natives;
 mod reads;
 mod scripts;
+mod weak;
 
 pub use applying::apply;

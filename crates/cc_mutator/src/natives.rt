@@ -22,7 +22,12 @@ use cc_model::{Notices, Reply};
 use cc_names::{NKey, Reg, RegNo, SlotNo};
 
 /// A native register holds a content from then on, which the reply names.
-fn hold<N: Notices>(heaps: &mut Heaps, d: RegNo, content: Option<NKey>, out: &mut N) -> Reply
+pub(crate) fn hold<N: Notices>(
+    heaps: &mut Heaps,
+    d: RegNo,
+    content: Option<NKey>,
+    out: &mut N,
+) -> Reply
     requires within { d < bank_length }
     requires order { (owned : List ℕ) × IsInOrder owned heaps.old × AreOwnedOnce owned }
     requires there { IsNativeThere heaps.old content }

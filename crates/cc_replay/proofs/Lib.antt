@@ -1,13 +1,16 @@
 pub mod Answers
 pub mod Asks
 pub mod Beginning
+pub mod BesideWeak
 pub mod Causes
 pub mod Endings
 pub mod FaultFree
 pub mod GivenWords
 pub mod Judging
+pub mod KeepingNoted
 pub mod MadeEnds
 pub mod MadeRuns
+pub mod MadeStays
 pub mod OptionRows
 pub mod Pieces
 pub mod Replying

@@ -1,6 +1,7 @@
 -- THE ANSWER TO AN ASK, by what the plain run does.
 use Rattle.std.specs.Prelude.{IsTrue}
 use Rattle.std.proofs.Common.{◌≡◌, ◌≢◌, ℕ, Bool, true, false, List, [], ◌∷◌, ◌++◌, map, length, Option, Some, None, option_map, refl, sym, ◌∙◌, ap, subst, arith}
+use Rattle.std.proofs.lemmas.Bool.{true≢false}
 use Rattle.cc_names.specs.declared.name.Name.{Name}
 use Rattle.cc_model.specs.declared.command.Command.{Command}
 use Rattle.cc_model.specs.declared.command.Command.TheVariants as command
@@ -9,47 +10,50 @@ use Rattle.cc_model.specs.declared.item.Refusal.{Refusal}
 use Rattle.cc_model.specs.declared.item.Refusal.TheVariants.{NoMemory}
 use Rattle.cc_model.specs.declared.item.Reply.{Reply}
 use Rattle.cc_model.specs.declared.item.Reply.TheVariants.{Refused, Census, Done}
-use Rattle.cc_model.specs.Telling.{Telling, Tells}
+use Rattle.cc_model.specs.Telling.{Telling, Tells, TellsEvents}
 use Rattle.cc_model.specs.Answers.{items_of, item_of_step}
 use Rattle.cc_model.specs.Derivations.{leads_in, path_to, is_led_to, done_or_nothing}
 use Rattle.cc_model.specs.Ranges.{in_range}
-use Rattle.cc_model.specs.Mutating.{is_applied, Class, Saying, path, census, says, does, class_of, is_deed, takes_memory_to_say}
+use Rattle.cc_model.specs.Mutating.{is_applied, Class, Saying, path, census, says, does, forgets, reads_weak, class_of, takes_memory_to_say}
 use Rattle.cc_model.specs.Asks.{taken}
-use Rattle.cc_model.specs.Checks.{refusal_of, reply_if_taken}
+use Rattle.cc_model.specs.Slots.{Slots}
+use Rattle.cc_model.specs.Checks.{named_or_nothing, refusal_of, reply_if_taken}
 use Rattle.cc_model.specs.Deeds.{deed_of}
-use Rattle.cc_model.specs.Heap.{objects_of}
-use Rattle.cc_model.specs.Effects.{effects, takes_memory}
+use Rattle.cc_model.specs.Heap.{Heap, Outcome, objects_of}
+use Rattle.cc_model.specs.Skipping.{forgotten}
+use Rattle.cc_model.specs.Effects.{done_in, effects, hold_native, takes_memory}
 use Rattle.cc_model.specs.Marking.{marking_after}
 use Rattle.cc_model.specs.Lawful.{is_without_memory}
-use Rattle.cc_model.specs.Run.{Turn, answering, with_effects, beside_deed, if_granted, unless_refused, mutate, census_names, do_ask, turn_of, said, do_class}
+use Rattle.cc_model.specs.Run.{Turn, answering, with_effects, weak_after, after_units, after_gc, forget_suspects, beside_deed, if_granted, unless_refused, mutate, census_names, do_ask, turn_of, said, do_class}
 use Rattle.cc_model.specs.Collecting.{Machine, UnitsDone, slice, collect, gc, reply_to_units}
 use Rattle.cc_model.specs.End.{Progress}
 use Rattle.cc_model.proofs.Replies.{is_without_memory-true}
 use Rattle.cc_model.proofs.Tellings.{Tells-trans}
 use Rattle.cc_heaps.specs.Keyed.{Keyed}
-use Rattle.cc_mutator.specs.Applied.{IsCarriedOut}
+use Rattle.cc_weakrefs.specs.declared.noted.Noted.{Noted}
+use Rattle.cc_weakrefs.specs.Noting.{names_noted, usable_noted}
+use Rattle.cc_mutator.specs.Applied.{IsCarriedOut, deed_by, deed_in, reply_in}
+use Rattle.cc_mutator.proofs.Following.{mutator-cases}
+use Rattle.cc_mutator.proofs.WeakRead.{reads-free, reads-taken}
 use Rattle.cc_replay.specs.Answered.{IsAnswered}
+use Rattle.cc_replay.specs.Beside.{machine_beside}
+use Rattle.cc_replay.proofs.BesideWeak.{collect-weak, done_beside, gc-weak, slice-weak, with_weak}
 use Rattle.cc_builder.specs.Building.{Built}
-use Rattle.cc_collector.specs.Kept.{machine_of}
 use Rattle.cc_collector.specs.Collected.{LedTo, IsSliced, IsCollected, IsSwept}
 use Rattle.cc_laws_run.specs.Memory.{SameMachine, with_memory}
-use Rattle.cc_laws_run.proofs.Face.{deed-leaves_weak}
 
 -- A command that a line asks is one of the mutator, where it is none of these
-pub others-applied : (c : Command) → IsTrue (in_range c) → c ≢ command.Nothing → c ≢ command.Version2 → ((x : Name) → c ≢ command.Why x) → c ≢ command.Census → ((u : ℕ) → c ≢ command.Slice u) → c ≢ command.Collect → c ≢ command.Gc → IsTrue (is_applied c)
-others-applied c range no_line no_version no_why no_census no_slice no_collect no_gc = grind arith
+pub others-applied : (c : Command) → IsTrue (in_range c) → c ≢ command.Nothing → c ≢ command.Version2 → c ≢ command.Forget → ((x : Name) → c ≢ command.Why x) → c ≢ command.Census → ((u : ℕ) → c ≢ command.Slice u) → c ≢ command.Collect → c ≢ command.Gc → IsTrue (is_applied c)
+others-applied c range no_line no_version no_forget no_why no_census no_slice no_collect no_gc = grind arith
 
 -- the plain run does what the class of a command does
 class-done : (m : Machine) (c : Command) (k : Class) → class_of c ≡ k → do_ask m (taken c) ≡ do_class m c k
 unfolding do_ask
 class-done m c k e = ap (do_class m c) e
 
--- a command of the mutator does its deed
-applied-does : (k : Class) → is_deed k ≡ true → k ≡ does
-applied-does k e = grind arith
-
-applied-mutates : (m : Machine) (c : Command) → IsTrue (is_applied c) → do_ask m (taken c) ≡ mutate m c
-applied-mutates m c a = class-done m c does (applied-does (class_of c) a)
+-- a command of the mutator that reads no weak register does its deed
+deed-mutates : (m : Machine) (c : Command) → class_of c ≡ does → do_ask m (taken c) ≡ mutate m c
+deed-mutates m c e = class-done m c does e
 
 mutate-by : (m : Machine) (c : Command) (o : Option Refusal) → refusal_of (objects_of m.heap) c ≡ o → mutate m c ≡ unless_refused m c o
 unfolding mutate
@@ -70,6 +74,15 @@ denied : (m : Machine) (takes : Bool) (done : Machine → Turn) → takes ≡ tr
 denied m true done e = refl
 denied m false done e = absurd (cc)
 
+-- what the deed of a command does, and a weak register read
+deed-done : (h : Heap) (names : Slots) (c : Command) → class_of c ≡ does → done_in h (deed_by h names c) ≡ effects h c
+unfolding effects
+deed-done h names c e = ap (λ k. done_in h (deed_in h names c k)) e
+
+read-done : (h : Heap) (names : Slots) (c : Command) (d w : ℕ) → class_of c ≡ reads_weak d w → done_in h (deed_by h names c) ≡ hold_native h d (usable_noted h names w)
+unfolding done_in
+read-done h names c d w e = ap (λ k. done_in h (deed_in h names c k)) e
+
 module _ (old new : Machine) (before after : Telling) where
   -- by the turn
   by_turn : (c : Command) (memory : List Bool) (t : Turn) → do_ask (with_memory old memory) (taken c) ≡ t → SameMachine t.machine new →
@@ -84,46 +97,71 @@ module _ (old new : Machine) (before after : Telling) where
     told = told;
   }
 
-  module _ (c : Command) (range : IsTrue (in_range c)) (applied : IsTrue (is_applied c)) (idle : old.marking ≡ None)
-      (same_weak : new.weak ≡ old.weak) (same_marking : new.marking ≡ old.marking) (same_snapshot : new.snapshot ≡ old.snapshot) where
-    -- a command of the mutator carried out: no line writes a weak register yet, and no marking goes on
-    answered-done : (mid : Telling) (r : Reply) → refusal_of (objects_of old.heap) c ≡ None →
-        IsCarriedOut c old.heap new.heap r before mid → Tells mid after (of_reply r ∷ []) → IsAnswered old new (taken c) before after
-    answered-done mid r none d t =
+  module _ (c : Command) (idle : old.marking ≡ None) (same_marking : new.marking ≡ old.marking) (same_snapshot : new.snapshot ≡ old.snapshot) where
+    -- a deed carried out, where no marking goes on
+    answered-done : (mid : Telling) (r : Reply) → class_of c ≡ does → refusal_of (objects_of old.heap) c ≡ None →
+        IsCarriedOut c old.heap new.heap old.weak new.weak r before mid → Tells mid after (of_reply r ∷ []) → IsAnswered old new (taken c) before after
+    answered-done mid r is none d t =
         let m = with_memory old [] in
         let deed = deed_of (objects_of old.heap) c in
+        let does_it = deed-done old.heap old.weak c is in
         by_turn c [] (with_effects (beside_deed m deed) (reply_if_taken (objects_of old.heap) c) (effects old.heap c))
-        (applied-mutates m c applied ∙ (mutate-by m c None none ∙ granted old (takes_memory old.heap c) (mutating old c)))
+        (deed-mutates m c is ∙ (mutate-by m c None none ∙ granted old (takes_memory old.heap c) (mutating old c)))
         (record {
-          heap = sym d.heap;
-          weak = deed-leaves_weak (objects_of old.heap) c old.weak range ∙ sym same_weak;
+          heap = sym (d.heap ∙ ap (λ (o : Outcome). o.heap) does_it);
+          weak = sym (d.weak_registers ∙ ap (λ k. weak_after old.weak (deed_in old.heap old.weak c k)) is);
           marking = ap (option_map (marking_after old.heap deed)) idle ∙ (sym idle ∙ sym same_marking);
           snapshot = sym same_snapshot;
         })
-        (subst (λ (x : Reply). Tells before after (map of_event (effects old.heap c).events ++ of_reply x ∷ [])) d.reply_is
-        (Tells-trans before mid after (map of_event (effects old.heap c).events) (of_reply r ∷ []) d.told t))
+        (subst (λ (x : Reply). Tells before after (map of_event (effects old.heap c).events ++ of_reply x ∷ [])) (d.reply_is ∙ ap (reply_in old.heap old.weak c) is)
+        (Tells-trans before mid after (map of_event (effects old.heap c).events) (of_reply r ∷ []) (subst (λ (o : Outcome). TellsEvents before mid o.events) does_it d.told) t))
+
+    -- a weak register read
+    answered-read : (mid : Telling) (r : Reply) (d w : ℕ) → class_of c ≡ reads_weak d w →
+        IsCarriedOut c old.heap new.heap old.weak new.weak r before mid → Tells mid after (of_reply r ∷ []) → IsAnswered old new (taken c) before after
+    answered-read mid r d w is done t =
+        let m = with_memory old [] in
+        let x = usable_noted old.heap old.weak w in
+        let reads_it = read-done old.heap old.weak c d w is in
+        by_turn c [] (with_effects m (named_or_nothing x) (hold_native old.heap d x))
+        (class-done m c (reads_weak d w) is)
+        (record {
+          heap = sym (done.heap ∙ ap (λ (o : Outcome). o.heap) reads_it);
+          weak = sym (done.weak_registers ∙ ap (λ k. weak_after old.weak (deed_in old.heap old.weak c k)) is);
+          marking = sym same_marking;
+          snapshot = sym same_snapshot;
+        })
+        (subst (λ (y : Reply). Tells before after (map of_event (hold_native old.heap d x).events ++ of_reply y ∷ [])) (done.reply_is ∙ ap (reply_in old.heap old.weak c) is)
+        (Tells-trans before mid after (map of_event (hold_native old.heap d x).events) (of_reply r ∷ []) (subst (λ (o : Outcome). TellsEvents before mid o.events) reads_it done.told) t))
 
     -- nothing changed
-    same-machine : (memory : List Bool) → new.heap ≡ old.heap → SameMachine (with_memory old memory) new
-    same-machine memory same = record { heap = sym same; weak = sym same_weak; marking = sym same_marking; snapshot = sym same_snapshot }
+    same-machine : (memory : List Bool) → new.heap ≡ old.heap → new.weak ≡ old.weak → SameMachine (with_memory old memory) new
+    same-machine memory same noted = record { heap = sym same; weak = sym noted; marking = sym same_marking; snapshot = sym same_snapshot }
 
     -- refused memory
-    answered-denied : refusal_of (objects_of old.heap) c ≡ None → takes_memory old.heap c ≡ true → new.heap ≡ old.heap →
+    answered-denied : class_of c ≡ does → refusal_of (objects_of old.heap) c ≡ None → takes_memory old.heap c ≡ true → new.heap ≡ old.heap → new.weak ≡ old.weak →
         Tells before after (of_reply (Refused NoMemory) ∷ []) → IsAnswered old new (taken c) before after
-    answered-denied none takes same t =
+    answered-denied is none takes same noted t =
         by_turn c (false ∷ []) (answering (with_memory old []) [] (Refused NoMemory))
-        (applied-mutates (with_memory old (false ∷ [])) c applied ∙ (mutate-by (with_memory old (false ∷ [])) c None none ∙ denied old (takes_memory old.heap c) (mutating old c) takes))
-        (same-machine [] same)
+        (deed-mutates (with_memory old (false ∷ [])) c is ∙ (mutate-by (with_memory old (false ∷ [])) c None none ∙ denied old (takes_memory old.heap c) (mutating old c) takes))
+        (same-machine [] same noted)
         t
 
     -- refused by the checks
-    answered-refused : (r : Refusal) → refusal_of (objects_of old.heap) c ≡ Some r → new.heap ≡ old.heap →
+    answered-refused : class_of c ≡ does → (r : Refusal) → refusal_of (objects_of old.heap) c ≡ Some r → new.heap ≡ old.heap → new.weak ≡ old.weak →
         Tells before after (of_reply (Refused r) ∷ []) → IsAnswered old new (taken c) before after
-    answered-refused r e same t =
+    answered-refused is r e same noted t =
         by_turn c [] (answering (with_memory old []) [] (Refused r))
-        (applied-mutates (with_memory old []) c applied ∙ mutate-by (with_memory old []) c (Some r) e)
-        (same-machine [] same)
+        (deed-mutates (with_memory old []) c is ∙ mutate-by (with_memory old []) c (Some r) e)
+        (same-machine [] same noted)
         t
+
+  -- suspects that can be skipped lose their mark
+  pub answered-forget : new.heap ≡ forgotten old.heap → new.weak ≡ old.weak → new.marking ≡ old.marking → new.snapshot ≡ old.snapshot →
+      Tells before after (of_reply Done ∷ []) → IsAnswered old new (taken command.Forget) before after
+  answered-forget heap noted same_marking same_snapshot t = by_turn command.Forget [] (forget_suspects (with_memory old []))
+      (class-done (with_memory old []) command.Forget forgets refl)
+      (record { heap = sym heap; weak = sym noted; marking = sym same_marking; snapshot = sym same_snapshot }) t
 
   -- what units came to, answered by a reply
   answered-units : (c : Command) (memory : List Bool) (d : UnitsDone) (p : Progress) (reply : Reply) (mid : Telling) → LedTo d old new p before mid →
@@ -131,28 +169,47 @@ module _ (old new : Machine) (before after : Telling) where
   answered-units c memory d p reply mid led e t = by_turn c memory (answering d.machine d.events reply) e led.same
       (Tells-trans before mid after (map of_event d.events) (of_reply reply ∷ []) led.told t)
 
-  -- a slice
-  pub answered-slice : (units : ℕ) (p : Progress) (steps steps_now : ℕ) (reply : Reply) (mid : Telling) → IsSliced units old new p steps steps_now before mid →
-      reply_to_units p ≡ reply → Tells mid after (of_reply reply ∷ []) → IsAnswered old new (taken (command.Slice units)) before after
-  unfolding do_ask
-  answered-slice units p steps steps_now reply mid s replies t =
-      let d = slice units (with_memory old s.memory) in
-      answered-units (command.Slice units) s.memory d p reply mid s.led (ap (answering d.machine d.events) (ap reply_to_units s.led.came_to ∙ replies)) t
+-- UNITS, WHATEVER WEAK REGISTERS NOTE
+module _ (weak : Slots) where
+  -- what units came to, beside weak registers
+  led-beside : (d : UnitsDone) (old new : Machine) (p : Progress) (before after : Telling) → LedTo d old new p before after →
+      LedTo (done_beside weak d) (with_weak weak old) (with_weak weak new) p before after
+  led-beside d old new p before after l = record {
+    same = record { heap = l.same.heap; weak = refl; marking = l.same.marking; snapshot = l.same.snapshot };
+    came_to = l.came_to;
+    told = l.told;
+    spares = l.spares;
+    unreached = l.unreached;
+  }
 
-  -- a collection
-  pub answered-collect : (p : Progress) (reply : Reply) (mid : Telling) → IsCollected old new p before mid →
-      reply_to_units p ≡ reply → Tells mid after (of_reply reply ∷ []) → IsAnswered old new (taken command.Collect) before after
-  unfolding do_ask
-  answered-collect p reply mid s replies t =
-      let d = collect (with_memory old s.memory) in
-      answered-units command.Collect s.memory d p reply mid s.led (ap (answering d.machine d.events) (ap reply_to_units s.led.came_to ∙ replies)) t
+  module _ (old new : Machine) (before after : Telling) where
+    -- a slice
+    pub answered-slice : (units : ℕ) (p : Progress) (steps steps_now : ℕ) (reply : Reply) (mid : Telling) → IsSliced units old new p steps steps_now before mid →
+        reply_to_units p ≡ reply → Tells mid after (of_reply reply ∷ []) → IsAnswered (with_weak weak old) (with_weak weak new) (taken (command.Slice units)) before after
+    unfolding do_ask
+    answered-slice units p steps steps_now reply mid s replies t =
+        let d = slice units (with_memory old s.memory) in
+        let same = slice-weak weak units (with_memory old s.memory) in
+        answered-units (with_weak weak old) (with_weak weak new) before after (command.Slice units) s.memory (done_beside weak d) p reply mid (led-beside d old new p before mid s.led)
+        (ap after_units same ∙ ap (answering (with_weak weak d.machine) d.events) (ap reply_to_units s.led.came_to ∙ replies)) t
 
-  -- `gc`
-  pub answered-gc : (mid : Telling) → IsSwept old new before mid → Tells mid after (of_reply Done ∷ []) → IsAnswered old new (taken command.Gc) before after
-  unfolding do_ask
-  answered-gc mid s t =
-      let d = gc (with_memory old s.memory) in
-      answered-units command.Gc s.memory d d.progress Done mid s.led refl t
+    -- a collection
+    pub answered-collect : (p : Progress) (reply : Reply) (mid : Telling) → IsCollected old new p before mid →
+        reply_to_units p ≡ reply → Tells mid after (of_reply reply ∷ []) → IsAnswered (with_weak weak old) (with_weak weak new) (taken command.Collect) before after
+    unfolding do_ask
+    answered-collect p reply mid s replies t =
+        let d = collect (with_memory old s.memory) in
+        let same = collect-weak weak (with_memory old s.memory) in
+        answered-units (with_weak weak old) (with_weak weak new) before after command.Collect s.memory (done_beside weak d) p reply mid (led-beside d old new p before mid s.led)
+        (ap after_units same ∙ ap (answering (with_weak weak d.machine) d.events) (ap reply_to_units s.led.came_to ∙ replies)) t
+
+    -- `gc`
+    pub answered-gc : (mid : Telling) → IsSwept old new before mid → Tells mid after (of_reply Done ∷ []) → IsAnswered (with_weak weak old) (with_weak weak new) (taken command.Gc) before after
+    unfolding do_ask
+    answered-gc mid s t =
+        let d = gc (with_memory old s.memory) in
+        answered-units (with_weak weak old) (with_weak weak new) before after command.Gc s.memory (done_beside weak d) d.progress Done mid (led-beside d old new d.progress before mid s.led)
+        (ap after_gc (gc-weak weak (with_memory old s.memory))) t
 
 -- what stays is the same machine
 same-still : (m : Machine) (memory : List Bool) → SameMachine (with_memory m memory) m
@@ -183,27 +240,47 @@ answered-census m before mid after listed t = answered-said m command.Census cen
     (Tells-trans before mid after (map Listed (census_names m.heap)) (of_reply (Census (length (census_names m.heap))) ∷ []) listed t)
 
 -- A COMMAND OF THE MUTATOR, by what applying it gives, and its reply
-pub answered-applied : (c : Command) → IsTrue (in_range c) → IsTrue (is_applied c) → (old new : Keyed) (kept : Option Built) (before mid after : Telling) (r : Reply) →
-    ((cause : Refusal) → refusal_of (objects_of old.heap) c ≡ Some cause → (r ≡ Refused cause) × (new ≡ old) × (mid ≡ before)) →
-    (refusal_of (objects_of old.heap) c ≡ None → r ≢ Refused NoMemory → IsCarriedOut c old.heap new.heap r before mid) →
-    (r ≡ Refused NoMemory → (refusal_of (objects_of old.heap) c ≡ None) × (takes_memory old.heap c ≡ true) × (new ≡ old) × (mid ≡ before)) →
-    Tells mid after (of_reply r ∷ []) → IsAnswered (machine_of old.heap kept) (machine_of new.heap kept) (taken c) before after
-answered-applied c range applied old new kept before mid after r refused done memory t = by_checks (refusal_of (objects_of old.heap) c) refl
+pub answered-applied : (c : Command) → IsTrue (is_applied c) → (old new : Keyed) (kept : Option Built) (weak noted : List (Option Noted)) (before mid after : Telling) (r : Reply) →
+    ((cause : Refusal) → refusal_of (objects_of old.heap) c ≡ Some cause → (r ≡ Refused cause) × (new ≡ old) × (noted ≡ weak) × (mid ≡ before)) →
+    (refusal_of (objects_of old.heap) c ≡ None → r ≢ Refused NoMemory → IsCarriedOut c old.heap new.heap (names_noted weak) (names_noted noted) r before mid) →
+    (r ≡ Refused NoMemory → (refusal_of (objects_of old.heap) c ≡ None) × (takes_memory old.heap c ≡ true) × (new ≡ old) × (noted ≡ weak) × (mid ≡ before)) →
+    Tells mid after (of_reply r ∷ []) → IsAnswered (machine_beside old.heap kept weak) (machine_beside new.heap kept noted) (taken c) before after
+answered-applied c applied old new kept weak noted before mid after r refused done memory t =
+    mutator-cases (λ k. class_of c ≡ k → IsAnswered m n (taken c) before after) (class_of c) applied by_deed by_reading refl
   where
+    m : Machine
+    m = machine_beside old.heap kept weak
+
+    n : Machine
+    n = machine_beside new.heap kept noted
+
     -- nothing was told before the reply
     after_reply : (s : Reply) → r ≡ s → mid ≡ before → Tells before after (of_reply s ∷ [])
     after_reply s e silent = subst (λ (x : Telling). Tells x after (of_reply s ∷ [])) silent (subst (λ (x : Reply). Tells mid after (of_reply x ∷ [])) e t)
 
-    by_memory : refusal_of (objects_of old.heap) c ≡ None → (b : Bool) → is_without_memory r ≡ b → IsAnswered (machine_of old.heap kept) (machine_of new.heap kept) (taken c) before after
-    by_memory none true e =
-        let is : r ≡ Refused NoMemory = is_without_memory-true r e in
-        let m = memory is in
-        answered-denied (machine_of old.heap kept) (machine_of new.heap kept) before after c range applied refl refl refl refl m.0 m.1 (ap (λ (v : Keyed). v.heap) m.2) (after_reply (Refused NoMemory) is m.3)
-    by_memory none false e = answered-done (machine_of old.heap kept) (machine_of new.heap kept) before after c range applied refl refl refl refl mid r none
-        (done none (λ is. let both : false ≡ true = sym e ∙ ap is_without_memory is in absurd (cc))) t
+    -- memory was not wanted in vain
+    with-memory : is_without_memory r ≡ false → r ≢ Refused NoMemory
+    with-memory e is = let both : false ≡ true = sym e ∙ ap is_without_memory is in absurd (cc)
 
-    by_checks : (o : Option Refusal) → refusal_of (objects_of old.heap) c ≡ o → IsAnswered (machine_of old.heap kept) (machine_of new.heap kept) (taken c) before after
-    by_checks (Some cause) e =
-        let k = refused cause e in
-        answered-refused (machine_of old.heap kept) (machine_of new.heap kept) before after c range applied refl refl refl refl cause e (ap (λ (v : Keyed). v.heap) k.1) (after_reply (Refused cause) k.0 k.2)
-    by_checks None e = by_memory e (is_without_memory r) refl
+    by_deed : class_of c ≡ does → IsAnswered m n (taken c) before after
+    by_deed is = by_checks (refusal_of (objects_of old.heap) c) refl
+      where
+        by_memory : refusal_of (objects_of old.heap) c ≡ None → (b : Bool) → is_without_memory r ≡ b → IsAnswered m n (taken c) before after
+        by_memory none true e =
+            let lacks : r ≡ Refused NoMemory = is_without_memory-true r e in
+            let f = memory lacks in
+            answered-denied m n before after c refl refl refl is f.0 f.1 (ap (λ (v : Keyed). v.heap) f.2) (ap names_noted f.3) (after_reply (Refused NoMemory) lacks f.4)
+        by_memory none false e = answered-done m n before after c refl refl refl mid r is none (done none (with-memory e)) t
+
+        by_checks : (o : Option Refusal) → refusal_of (objects_of old.heap) c ≡ o → IsAnswered m n (taken c) before after
+        by_checks (Some cause) e =
+            let k = refused cause e in
+            answered-refused m n before after c refl refl refl is cause e (ap (λ (v : Keyed). v.heap) k.1) (ap names_noted k.2) (after_reply (Refused cause) k.0 k.3)
+        by_checks None e = by_memory e (is_without_memory r) refl
+
+    by_reading : (d w : ℕ) → class_of c ≡ reads_weak d w → IsAnswered m n (taken c) before after
+    by_reading d w is = go (is_without_memory r) refl
+      where
+        go : (b : Bool) → is_without_memory r ≡ b → IsAnswered m n (taken c) before after
+        go true e = absurd (true≢false (sym (memory (is_without_memory-true r e)).1 ∙ reads-free old.heap c d w is))
+        go false e = answered-read m n before after c refl refl refl mid r d w is (done (reads-taken (objects_of old.heap) c d w is) (with-memory e)) t

@@ -1,4 +1,5 @@
 pub mod Answered
+pub mod Beside
 pub mod Answering
 pub mod Transcripts
 pub mod Summaries

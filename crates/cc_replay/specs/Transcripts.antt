@@ -23,7 +23,7 @@ pub record IsRun (limits : Allowance) (asks : List Ask) (answers : List Answer) 
   pub memory : List Bool
   pub noes_are_told : noes memory ≡ all_noes_told asks answers
   pub answers_are : answers ≡ plain_run limits memory asks
-  -- they tell of an object graph from which nothing is freed: each reply but `! nomem` and the census is that graph's, nothing
+  -- they tell of an object graph from which nothing is freed: each reply but `! nomem`, the census and `deref` is that graph's, nothing
   -- is unlinked or freed that a root then reaches, and after `gc`, `collect`, `gc` the census lists exactly what is reached
   pub tells : TellsOfAGraph limits asks answers
   -- the same along the asks, with the order of events and the places of abandonments

@@ -11,7 +11,12 @@ ghost use Rattle.cc_model.specs.Asks.{asks_of, taken};
 ghost use Rattle.cc_model.specs.Heap.{empty_heap};
 ghost use Rattle.cc_replay.specs.Answered.{IsAnswered};
 ghost use Rattle.cc_builder.specs.Building.{Built};
-ghost use Rattle.cc_collector.specs.Kept.{RunsIn, machine_of};
+ghost use Rattle.cc_collector.specs.Kept.{RunsIn};
+ghost use Rattle.cc_names.specs.Sizes.{weak_length};
+ghost use Rattle.cc_model.specs.Slots.{empty_slots};
+ghost use Rattle.cc_weakrefs.specs.declared.noted.Noted.{Noted};
+ghost use Rattle.cc_weakrefs.specs.Noting.{HoldKeys, names_noted};
+ghost use Rattle.cc_replay.specs.Beside.{KeepsNoted, machine_beside};
 ghost use Rattle.cc_heaps.specs.Few.{AreFew};
 ghost use Rattle.cc_heaps.specs.Keyed.{IsInOrder};
 ghost use Rattle.cc_heaps.specs.Standing.{KeepsSuspected};
@@ -29,6 +34,8 @@ use cc_names::{Name, NoMemory};
 use cc_outside::Source;
 use cc_paths::why;
 use cc_reader::{Line, Lines, ReadStop, parse};
+use cc_skip::forget;
+use cc_weakrefs::WeakRegs;
 use std::alloc::Global;
 use std::marker::Brand;
 use std::sync::ledger::{Blank, Ledger};
@@ -36,7 +43,7 @@ use std::sync::ledger::{Blank, Ledger};
 /// Answers `census`: lists what is there, and tells how many there are.
 fn answer_census<N: Notices>(heaps: &Heaps, out: &mut N)
     requires order { IsInOrder [] heaps.now }
-    ensures { (c : Option Built) → IsAnswered (machine_of heaps.now.heap c) (machine_of heaps.now.heap c) (taken command.Census) (N.telling out.old) (N.telling out.new) }
+    ensures { (c : Option Built) (weak : List (Option Noted)) → IsAnswered (machine_beside heaps.now.heap c weak) (machine_beside heaps.now.heap c weak) (taken command.Census) (N.telling out.old) (N.telling out.new) }
 {
     let count = heaps.census(out);
     out.tell(Item::Reply(Reply::Census(count)));
@@ -54,7 +61,8 @@ fn answer_slice<L: Ledger, N: Notices>(
     requires name { blank.name ≡ L.name }
     requires parts { blank.parts ≡ L.parts }
     requires some { 0 < L.parts }
-    ensures answered { IsAnswered (machine_of heaps.old.heap collector.old) (machine_of heaps.new.heap collector.new) (taken (command.Slice units)) (N.telling out.old) (N.telling out.new) }
+    ensures answered { (weak : List (Option Noted)) → IsAnswered (machine_beside heaps.old.heap collector.old weak) (machine_beside heaps.new.heap collector.new weak) (taken (command.Slice units)) (N.telling out.old) (N.telling out.new) }
+    ensures noted { KeepsNoted heaps.old heaps.new }
     ensures runs { RunsIn heaps.new collector.new }
 {
     let mut steps = Steps::<L>::new(blank);
@@ -67,7 +75,8 @@ fn answer_slice<L: Ledger, N: Notices>(
 /// Answers `collect`.
 fn answer_collect<N: Notices>(heaps: &mut Heaps, collector: &mut Collector, out: &mut N)
     requires runs { RunsIn heaps.old collector.old }
-    ensures answered { IsAnswered (machine_of heaps.old.heap collector.old) (machine_of heaps.new.heap collector.new) (taken command.Collect) (N.telling out.old) (N.telling out.new) }
+    ensures answered { (weak : List (Option Noted)) → IsAnswered (machine_beside heaps.old.heap collector.old weak) (machine_beside heaps.new.heap collector.new weak) (taken command.Collect) (N.telling out.old) (N.telling out.new) }
+    ensures noted { KeepsNoted heaps.old heaps.new }
     ensures runs { RunsIn heaps.new collector.new }
 {
     match collector.whole(heaps, out) {
@@ -79,7 +88,8 @@ fn answer_collect<N: Notices>(heaps: &mut Heaps, collector: &mut Collector, out:
 /// Answers `gc`.
 fn answer_gc<N: Notices>(heaps: &mut Heaps, collector: &mut Collector, out: &mut N)
     requires runs { RunsIn heaps.old collector.old }
-    ensures answered { IsAnswered (machine_of heaps.old.heap collector.old) (machine_of heaps.new.heap collector.new) (taken command.Gc) (N.telling out.old) (N.telling out.new) }
+    ensures answered { (weak : List (Option Noted)) → IsAnswered (machine_beside heaps.old.heap collector.old weak) (machine_beside heaps.new.heap collector.new weak) (taken command.Gc) (N.telling out.old) (N.telling out.new) }
+    ensures noted { KeepsNoted heaps.old heaps.new }
     ensures runs { RunsIn heaps.new collector.new }
 {
     collector.gc(heaps, out);
@@ -91,24 +101,40 @@ fn answer_gc<N: Notices>(heaps: &mut Heaps, collector: &mut Collector, out: &mut
 fn answer_mutator<N: Notices>(
     command: &Command,
     heaps: &mut Heaps,
+    weak: &mut WeakRegs,
     collector: &Collector,
     out: &mut N,
 )
     requires applied { IsTrue (is_applied command.now) }
     requires in_range { IsTrue (in_range command.now) }
     requires runs { RunsIn heaps.old collector.now }
-    ensures answered { IsAnswered (machine_of heaps.old.heap collector.now) (machine_of heaps.new.heap collector.now) (taken command.now) (N.telling out.old) (N.telling out.new) }
+    requires keys { HoldKeys weak.old heaps.old }
+    ensures answered { IsAnswered (machine_beside heaps.old.heap collector.now weak.old) (machine_beside heaps.new.heap collector.now weak.new) (taken command.now) (N.telling out.old) (N.telling out.new) }
+    ensures keys { HoldKeys weak.new heaps.new }
     ensures remembers { KeepsSuspected heaps.old.heap heaps.new.heap }
     ensures runs { RunsIn heaps.new collector.now }
 {
-    let reply = apply(heaps, command, out);
+    let reply = apply(heaps, weak, command, out);
     out.tell(Item::Reply(reply));
+}
+
+/// Answers `forget`: suspects that the registers reach over edges lose their mark. It forgets no native that nothing reaches,
+/// whatever the candidates of a running collection are.
+fn answer_forget<N: Notices>(heaps: &mut Heaps, collector: &Collector, out: &mut N)
+    requires runs { RunsIn heaps.old collector.now }
+    ensures answered { (weak : List (Option Noted)) → IsAnswered (machine_beside heaps.old.heap collector.now weak) (machine_beside heaps.new.heap collector.now weak) (taken command.Forget) (N.telling out.old) (N.telling out.new) }
+    ensures noted { KeepsNoted heaps.old heaps.new }
+    ensures remembers { KeepsSuspected heaps.old.heap heaps.new.heap }
+    ensures runs { RunsIn heaps.new collector.now }
+{
+    forget(heaps);
+    out.tell(Item::Reply(Reply::Done));
 }
 
 /// Answers `why`: tells how the registers reach the object, or that none does.
 fn answer_why<N: Notices>(alloc: Global, name: &Name, heaps: &Heaps, out: &mut N)
     requires order { IsInOrder [] heaps.now }
-    ensures { (c : Option Built) → IsAnswered (machine_of heaps.now.heap c) (machine_of heaps.now.heap c) (taken (command.Why name.now)) (N.telling out.old) (N.telling out.new) }
+    ensures { (c : Option Built) (weak : List (Option Noted)) → IsAnswered (machine_beside heaps.now.heap c weak) (machine_beside heaps.now.heap c weak) (taken (command.Why name.now)) (N.telling out.old) (N.telling out.new) }
 {
     match why(alloc, heaps, name, out) {
         Ok(true) => out.tell(Item::Reply(Reply::Done)),
@@ -122,18 +148,22 @@ fn answer_command<N: Notices>(
     alloc: Global,
     command: Command,
     heaps: &mut Heaps,
+    weak: &mut WeakRegs,
     collector: &mut Collector,
     out: &mut N,
 )
     requires in_range { IsTrue (in_range command) }
     requires runs { RunsIn heaps.old collector.old }
-    ensures answered { IsAnswered (machine_of heaps.old.heap collector.old) (machine_of heaps.new.heap collector.new) (taken command) (N.telling out.old) (N.telling out.new) }
+    requires keys { HoldKeys weak.old heaps.old }
+    ensures answered { IsAnswered (machine_beside heaps.old.heap collector.old weak.old) (machine_beside heaps.new.heap collector.new weak.new) (taken command) (N.telling out.old) (N.telling out.new) }
+    ensures keys { HoldKeys weak.new heaps.new }
     ensures counts { AreFew heaps.new.heap }
     ensures runs { RunsIn heaps.new collector.new }
 {
     match command {
         Command::Nothing => {}
         Command::Version2 => out.tell(Item::Reply(Reply::Done)),
+        Command::Forget => answer_forget(heaps, collector, out),
         Command::Why(name) => answer_why(alloc, &name, heaps, out),
         Command::Census => answer_census(heaps, out),
         Command::Slice(units) => {
@@ -141,7 +171,7 @@ fn answer_command<N: Notices>(
         }
         Command::Collect => answer_collect(heaps, collector, out),
         Command::Gc => answer_gc(heaps, collector, out),
-        _ => answer_mutator(&command, heaps, collector, out),
+        _ => answer_mutator(&command, heaps, weak, collector, out),
     }
 }
 
@@ -151,18 +181,21 @@ fn answer_text<N: Notices>(
     text: &[u8],
     dialect: &mut Dialect,
     heaps: &mut Heaps,
+    weak: &mut WeakRegs,
     collector: &mut Collector,
     out: &mut N,
 )
     requires short { length text.now ≤ 120 }
     requires runs { RunsIn heaps.old collector.old }
-    ensures answered { LineIsAnswered dialect.old dialect.new (machine_of heaps.old.heap collector.old) (machine_of heaps.new.heap collector.new) text.now (N.telling out.old) (N.telling out.new) }
+    requires keys { HoldKeys weak.old heaps.old }
+    ensures keys { HoldKeys weak.new heaps.new }
+    ensures answered { LineIsAnswered dialect.old dialect.new (machine_beside heaps.old.heap collector.old weak.old) (machine_beside heaps.new.heap collector.new weak.new) text.now (N.telling out.old) (N.telling out.new) }
     ensures runs { RunsIn heaps.new collector.new }
 {
     let asked = parse(text, *dialect);
     *dialect = dialect.after(asked);
     match asked {
-        Some(command) => answer_command(alloc, command, heaps, collector, out),
+        Some(command) => answer_command(alloc, command, heaps, weak, collector, out),
         None => out.tell(Item::Reply(Reply::Refused(Refusal::Line))),
     }
 }
@@ -182,14 +215,17 @@ fn answer_next<S: Source, N: Notices>(
     lines: &mut Lines<'_, S>,
     dialect: &mut Dialect,
     heaps: &mut Heaps,
+    weak: &mut WeakRegs,
     collector: &mut Collector,
     out: &mut N,
 ) -> Result<Next, ReadStop>
     requires going { lines.old.stopped ≡ false }
     requires runs { RunsIn heaps.old collector.old }
+    requires keys { HoldKeys weak.old heaps.old }
+    ensures keys { HoldKeys weak.new heaps.new }
     ensures answered { result ≡ Ok Next.Answered → (line : List ℕ)
         × GivesLine (S.left lines.old.source.now) (S.left lines.new.source.now) lines.old.window lines.new.window line
-        × LineIsAnswered dialect.old dialect.new (machine_of heaps.old.heap collector.old) (machine_of heaps.new.heap collector.new) line (N.telling out.old) (N.telling out.new) }
+        × LineIsAnswered dialect.old dialect.new (machine_beside heaps.old.heap collector.old weak.old) (machine_beside heaps.new.heap collector.new weak.new) line (N.telling out.old) (N.telling out.new) }
     ensures going_on { result ≡ Ok Next.Answered → lines.new.stopped ≡ false }
     ensures falls { result ≡ Ok Next.Answered → weight lines.new.window < weight lines.old.window }
     ensures whole { result ≡ Ok Next.End → (start : Option (List ℕ)) (given : List (List ℕ)) →
@@ -201,8 +237,8 @@ fn answer_next<S: Source, N: Notices>(
     ensures over { result ≡ Err ReadStop.Limit → (start : Option (List ℕ)) (given : List (List ℕ)) →
         HasGiven start (S.left lines.old.source.now) lines.old.window given →
         IsOver start (S.left lines.new.source.now) lines.new.window given }
-    ensures quiet { result ≡ Ok Next.End → (dialect.new ≡ dialect.old) × (heaps.new ≡ heaps.old) × (collector.new ≡ collector.old) × (N.telling out.new ≡ N.telling out.old) }
-    ensures still { OnErr result ((dialect.new ≡ dialect.old) × (heaps.new ≡ heaps.old) × (collector.new ≡ collector.old) × (N.telling out.new ≡ N.telling out.old)) }
+    ensures quiet { result ≡ Ok Next.End → (dialect.new ≡ dialect.old) × (heaps.new ≡ heaps.old) × (weak.new ≡ weak.old) × (collector.new ≡ collector.old) × (N.telling out.new ≡ N.telling out.old) }
+    ensures still { OnErr result ((dialect.new ≡ dialect.old) × (heaps.new ≡ heaps.old) × (weak.new ≡ weak.old) × (collector.new ≡ collector.old) × (N.telling out.new ≡ N.telling out.old)) }
     ensures runs { RunsIn heaps.new collector.new }
     ensures limit { lines.new.window.limit ≡ lines.old.window.limit }
     ensures reads { ReadsOn (S.reads lines.old.source.now) (S.reads lines.new.source.now) lines.old.window lines.new.window }
@@ -219,7 +255,7 @@ fn answer_next<S: Source, N: Notices>(
             Ok(Next::Answered)
         }
         Line::Text => {
-            answer_text(alloc, lines.text(), dialect, heaps, collector, out);
+            answer_text(alloc, lines.text(), dialect, heaps, weak, collector, out);
             Ok(Next::Answered)
         }
     }
@@ -245,20 +281,22 @@ fn answer_all<S: Source, N: Reports>(
     lines: &mut Lines<'_, S>,
     dialect: &mut Dialect,
     heaps: &mut Heaps,
+    weak: &mut WeakRegs,
     collector: &mut Collector,
     out: &mut N,
 ) -> Status
     requires going { lines.old.stopped ≡ false }
     requires runs { RunsIn heaps.old collector.old }
+    requires keys { HoldKeys weak.old heaps.old }
     requires whole { (N.telling out.old).broken ≡ false }
-    ensures done { result ≡ Status.Done → Answers AreAllGiven (moment (S.left lines.old.source.now) lines.old.window dialect.old (machine_of heaps.old.heap collector.old) (N.telling out.old))
-        (moment (S.left lines.new.source.now) lines.new.window dialect.new (machine_of heaps.new.heap collector.new) (N.telling out.new)) }
-    ensures fault { result ≡ Status.ReadFault → Answers IsBroken (moment (S.left lines.old.source.now) lines.old.window dialect.old (machine_of heaps.old.heap collector.old) (N.telling out.old))
-        (moment (S.left lines.new.source.now) lines.new.window dialect.new (machine_of heaps.new.heap collector.new) (N.telling out.new)) }
-    ensures over { result ≡ Status.Limit → Answers IsOver (moment (S.left lines.old.source.now) lines.old.window dialect.old (machine_of heaps.old.heap collector.old) (N.telling out.old))
-        (moment (S.left lines.new.source.now) lines.new.window dialect.new (machine_of heaps.new.heap collector.new) (N.telling out.new)) }
-    ensures first { result ≡ Status.WriteFault → Answers AreFirst (moment (S.left lines.old.source.now) lines.old.window dialect.old (machine_of heaps.old.heap collector.old) (N.telling out.old))
-        (moment (S.left lines.new.source.now) lines.new.window dialect.new (machine_of heaps.new.heap collector.new) (N.telling out.new)) }
+    ensures done { result ≡ Status.Done → Answers AreAllGiven (moment (S.left lines.old.source.now) lines.old.window dialect.old (machine_beside heaps.old.heap collector.old weak.old) (N.telling out.old))
+        (moment (S.left lines.new.source.now) lines.new.window dialect.new (machine_beside heaps.new.heap collector.new weak.new) (N.telling out.new)) }
+    ensures fault { result ≡ Status.ReadFault → Answers IsBroken (moment (S.left lines.old.source.now) lines.old.window dialect.old (machine_beside heaps.old.heap collector.old weak.old) (N.telling out.old))
+        (moment (S.left lines.new.source.now) lines.new.window dialect.new (machine_beside heaps.new.heap collector.new weak.new) (N.telling out.new)) }
+    ensures over { result ≡ Status.Limit → Answers IsOver (moment (S.left lines.old.source.now) lines.old.window dialect.old (machine_beside heaps.old.heap collector.old weak.old) (N.telling out.old))
+        (moment (S.left lines.new.source.now) lines.new.window dialect.new (machine_beside heaps.new.heap collector.new weak.new) (N.telling out.new)) }
+    ensures first { result ≡ Status.WriteFault → Answers AreFirst (moment (S.left lines.old.source.now) lines.old.window dialect.old (machine_beside heaps.old.heap collector.old weak.old) (N.telling out.old))
+        (moment (S.left lines.new.source.now) lines.new.window dialect.new (machine_beside heaps.new.heap collector.new weak.new) (N.telling out.new)) }
 
     ensures limit { lines.new.window.limit ≡ lines.old.window.limit }
     ensures reads { ReadsOn (S.reads lines.old.source.now) (S.reads lines.new.source.now) lines.old.window lines.new.window }
@@ -274,7 +312,9 @@ fn answer_all<S: Source, N: Reports>(
     ensures sink { (N.telling out.new).sink ≡ (N.telling out.old).sink }
 {
     'lines: loop {
-        if let Some(status) = ended_by(answer_next(alloc, lines, dialect, heaps, collector, out)) {
+        if let Some(status) = ended_by(answer_next(
+            alloc, lines, dialect, heaps, weak, collector, out,
+        )) {
             return status;
         }
         if out.is_broken() {
@@ -283,18 +323,21 @@ fn answer_all<S: Source, N: Reports>(
     }
 }
 
-/// Answers all lines of a source that was not yet read, from empty heaps on. What is written is told of the bytes that
+/// Answers all lines of a source that was not yet read, from empty heaps and empty weak registers on. What is written is told of the bytes that
 /// were taken.
 pub(crate) fn answer_input<S: Source, N: Reports>(
     alloc: Global,
     lines: &mut Lines<'_, S>,
     heaps: &mut Heaps,
+    weak: &mut WeakRegs,
     out: &mut N,
 ) -> Status
     requires going { lines.old.stopped ≡ false }
     requires start { lines.old.window ≡ nothing_read heaps.old.heap.limits.bytes }
     requires order { IsInOrder [] heaps.old }
     requires empty { heaps.old.heap ≡ empty_heap heaps.old.heap.limits }
+    requires unnoted { names_noted weak.old ≡ empty_slots weak_length }
+    requires keys { HoldKeys weak.old heaps.old }
     requires whole { (N.telling out.old).broken ≡ false }
     ensures done { result ≡ Status.Done → IsDone heaps.old.heap.limits (ends S.left S.reads (λ n. (N.telling n).told) lines.old.source.now lines.new.source.now out.old out.new) }
     ensures counted { result ≡ Status.Done → (bytes : List ℕ) → S.left lines.old.source.now ≡ Some bytes →
@@ -328,5 +371,5 @@ pub(crate) fn answer_input<S: Source, N: Reports>(
 {
     let mut dialect = Dialect::Start;
     let mut collector = Collector::new(alloc);
-    answer_all(alloc, lines, &mut dialect, heaps, &mut collector, out)
+    answer_all(alloc, lines, &mut dialect, heaps, weak, &mut collector, out)
 }

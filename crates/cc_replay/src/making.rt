@@ -13,6 +13,7 @@ use cc_model::{Counter, Sums};
 use cc_names::{Limits, NoMemory};
 use cc_outside::Sink;
 use cc_reader::Lines;
+use cc_weakrefs::WeakRegs;
 use std::alloc::Global;
 
 /// The sums over the answers to a made script, within the widest limits.
@@ -24,10 +25,11 @@ fn made_sums(alloc: Global, seed: u64, count: u32) -> Result<Sums, NoMemory>
 {
     let limits = Limits::widest();
     let mut heaps = Heaps::new(alloc, limits)?;
+    let mut weak = WeakRegs::new(alloc)?;
     let mut source = MadeSource::new(seed, count);
     let mut lines = Lines::new(&mut source, limits.bytes());
     let mut counter = Counter::new();
-    let status = answer_input(alloc, &mut lines, &mut heaps, &mut counter);
+    let status = answer_input(alloc, &mut lines, &mut heaps, &mut weak, &mut counter);
     // The source never fails, and has fewer bytes than the limit.
     prove!(status == Status::Done);
     Ok(counter.sums())

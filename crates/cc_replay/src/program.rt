@@ -19,6 +19,7 @@ use cc_heaps::Heaps;
 use cc_names::Limits;
 use cc_outside::{Sink, Source};
 use cc_reader::Lines;
+use cc_weakrefs::WeakRegs;
 use std::alloc::Global;
 
 /// Answers each line of the source, within the limits, and writes the answers to the sink.
@@ -73,12 +74,15 @@ pub fn replay<S: Source, K: Sink>(
     let Ok(mut heaps) = Heaps::new(alloc, limits) else {
         return Status::NoMemory;
     };
+    let Ok(mut weak) = WeakRegs::new(alloc) else {
+        return Status::NoMemory;
+    };
     let mut lines = Lines::new(source, limits.bytes());
     let mut out = Outlet {
         sink,
         broken: false,
     };
-    answer_input(alloc, &mut lines, &mut heaps, &mut out)
+    answer_input(alloc, &mut lines, &mut heaps, &mut weak, &mut out)
 }
 
 /// How a run ends whose words ask for nothing.

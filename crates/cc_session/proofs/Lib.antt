@@ -8,3 +8,4 @@ pub mod WholeTellings
 pub mod HasRoom
 pub mod Collecting
 pub mod Holding
+pub mod BroughtBack

@@ -15,7 +15,7 @@ use Rattle.cc_model.specs.Slots.{Slots}
 use Rattle.cc_model.specs.StandsFor.{StandsFor}
 use Rattle.cc_model.specs.WellFormed.{IsWellFormed, native_names}
 use Rattle.cc_model.specs.WellMade.{IsWellMade}
-use Rattle.cc_laws_heap.proofs.Face.{in-reached, native_register-there, slots_in-graph, slots_in-heap, slots_of_shape}
+use Rattle.cc_laws_heap.proofs.Face.{in-reached, native_register-there, slots_in-graph, slots_in-heap, slots_of_shape, stands-reached}
 use Rattle.cc_heaps.specs.Standing.{IsReached}
 use Rattle.cc_host.specs.Paths.{native_along, native_in_slot, native_only, slots_of_any}
 use Rattle.cc_host.proofs.Below.{slot-reached}
@@ -66,7 +66,7 @@ module _ (h : Heap) (g : Graph) (w : IsWellFormed h) (m : IsWellMade g) (s : Sta
   content-alike : (x : Option Name) → IsOfNative x → IsReached h x → (i : ℕ) → get_or (slots_of_any h x) i None ≡ content_of g x i
   content-alike None n d i = refl
   content-alike (Some (name.Native k)) n d i =
-      let t = s.reached (name.Native k) (in-reached h g w m s (name.Native k) d) in
+      let t = stands-reached h g s (name.Native k) (in-reached h g w m s (name.Native k) d) in
       ap (λ o. get_or (slots_or_none o) i None) (slots_in-heap h (name.Native k) ∙ (ap slots_of_shape (t.there ∙ sym t.made) ∙ sym (slots_in-graph g (name.Native k))))
   content-alike (Some (name.Script k)) n d i = absurd n
   content-alike (Some (name.Reflector k)) n d i = absurd n

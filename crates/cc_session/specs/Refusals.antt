@@ -5,6 +5,8 @@ use Rattle.cc_names.specs.Sizes.{most_slots}
 use Rattle.cc_host.specs.Hosted.{Hosted, slots_of}
 use Rattle.cc_host.specs.Stops.{first, where_so, stop_at, stop_making, stop_proxy, stop_rooting, stop_storing, stop_moving, stop_storing_below_root}
 use Rattle.cc_host.specs.declared.object.Object.{Object}
+use Rattle.cc_host.specs.declared.weak.Weak.{Weak}
+use Rattle.cc_host.specs.Referring.{stop_upgrade}
 use Rattle.cc_host.specs.declared.stop.Stop.{Stop}
 use Rattle.cc_host.specs.declared.stop.Stop.TheVariants.{Foreign, Gone, Index, Full, NoMemory}
 use Rattle.cc_session.specs.declared.root.Root.{Root}
@@ -37,6 +39,10 @@ stop_proxy_made h delegate r = first (stop_number r) (stop_proxy h delegate r)
 -- a numbered root is written
 abbrev pub stop_numbered : (Hosted → Object → Option Stop) → Hosted → ℕ → Option Object → Option Stop
 stop_numbered stop h r x = first (stop_number r) (stop_rooting stop h r x)
+
+-- a numbered root is to hold what a weak reference gives
+abbrev pub stop_upgraded : Hosted → ℕ → Weak → Option Stop
+stop_upgraded h r w = first (stop_number r) (stop_upgrade h r w)
 
 -- a slot is written, and moved
 abbrev pub stop_stored : Hosted → Object → ℕ → Option Object → Option Stop

@@ -16,11 +16,16 @@ use Rattle.cc_host.specs.Hosted.{Hosted, IsKept}
 use Rattle.cc_host.specs.Queues.{told_all}
 use Rattle.cc_host.specs.Paths.{hung, native_below, native_only, slots_below}
 use Rattle.cc_session.specs.Sessions.{Aside, State, numbered}
+use Rattle.cc_session.specs.declared.session.referring.TheConstants.{MEANWHILE}
 use Rattle.cc_session.specs.declared.session.rooting.TheConstants.{PLACES}
 
 -- so many slots of a table hold roots, or tables; the last one is its own
 abbrev pub places : ℕ
 places = PLACES
+
+-- the native register that holds a native that is brought back until a root does
+abbrev pub meanwhile : ℕ
+meanwhile = MEANWHILE
 
 -- the register in which the tree of a root begins, the two slots that lead on to its table, and its slot there
 abbrev pub register_for : ℕ → ℕ
@@ -89,6 +94,22 @@ with_tables index g = if is_none (leaf_in g index) then tables_made 5 (register_
 -- and the first n of them
 abbrev pub some_tables : ℕ → ℕ → Graph → Graph
 some_tables n index g = tables_made n (register_for index) (index / (places * places) % places) (index / places % places) g
+
+-- A ROOT THAT HOLDS what a native register held, which is empty then
+unfoldable pub rooted_from : ℕ → ℕ → Name → Graph → Graph
+rooted_from r index x g = graph.set_register (graph.set_slot (with_tables index g) (leaf_in (with_tables index g) index) (slot_for index) (Some x)) (N r) None
+
+-- A NATIVE BROUGHT BACK: the register that is for it holds it until the root does
+unfoldable pub brought_back : ℕ → Name → Graph → Graph
+brought_back index x g = rooted_from meanwhile index x (graph.set_register g (N meanwhile) (Some x))
+
+-- WHAT LEFT IS TOLD, by two steps, each what left by it
+abbrev pub TellsInTwo : State → State → Type 0
+TellsInTwo old new = (s : State) × TellsFreed old.host s.host (told_all old.told) (told_all s.told) × TellsFreed s.host new.host (told_all s.told) (told_all new.told)
+
+-- and by three
+abbrev pub TellsInThree : State → State → Type 0
+TellsInThree old new = (s : State) × TellsFreed old.host s.host (told_all old.told) (told_all s.told) × TellsInTwo s new
 
 -- WHAT TABLES THAT ARE MADE COME TO
 

@@ -9,6 +9,7 @@ mod collecting;
 mod entries;
 mod making;
 mod reading;
+mod referring;
 mod rooting;
 mod tables;
 mod writing;
@@ -89,7 +90,7 @@ impl Session {
         self.host.mark()
     }
 
-    /// Whether an object is there, and of this session.
+    /// Whether an object is there, and of this session: it was not freed, and is no native that was unlinked.
     pub fn is_there(&self, x: Object) -> bool
         ensures { result ≡ is_none (stop_at self.now.host x) }
     {

@@ -1,7 +1,9 @@
-//! Tests of roots beyond the registers that commands can name, of a walk over both heaps, and of weak registers beside them: no
-//! clause says that memory is there.
+//! Tests of roots beyond the registers that commands can name, of a walk over both heaps, of suspects forgotten, and of weak
+//! registers beside them: no clause says that memory is there.
 #![tactic(auto)]
 
+#[cfg(test)]
+mod forgetting;
 #[cfg(test)]
 mod roots;
 #[cfg(test)]

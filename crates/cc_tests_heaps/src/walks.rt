@@ -1,4 +1,4 @@
-//! A walk over both heaps: natives are given first.
+//! A walk over both heaps: natives are given first, and what leaves its heap is not given.
 ghost use Rattle.std.specs.Prelude.{[]};
 ghost use Rattle.cc_heaps.specs.Keyed.{IsInOrder};
 
@@ -49,4 +49,30 @@ fn new_objects_are_walked(alloc: Global) -> bool {
 #[test]
 fn a_walk_gives_natives_first(rt: HostRuntime) {
     assert!(rt; new_objects_are_walked(rt.alloc()));
+}
+
+// A native that is freed while it waits is not given.
+fn leaves(heaps: &mut Heaps, out: &mut Notebook) -> bool
+    requires { IsInOrder [] heaps.old }
+{
+    let made = heaps.new_native(0, 0, out).is_ok();
+    let Some(native) = heaps.native_reg(0) else {
+        return false;
+    };
+    heaps.walk_add(Held::Native(native));
+    heaps.set_native_reg(0, None, out);
+    made & heaps.walk_next().is_none()
+}
+
+fn freed_native_leaves(alloc: Global) -> bool {
+    let mut out = Notebook::new(alloc);
+    match Heaps::new(alloc, Limits::new(1, 1, 0)) {
+        Ok(mut heaps) => leaves(&mut heaps, &mut out),
+        Err(_) => false,
+    }
+}
+
+#[test]
+fn what_is_freed_leaves_the_walk(rt: HostRuntime) {
+    assert!(rt; freed_native_leaves(rt.alloc()));
 }

@@ -9,10 +9,10 @@ use cc_laws_heap::{
 use cc_laws_run::{
     asks_keep_suspected, collections_after_gc_miss_nothing, collections_are_lawful,
     collections_take_a_unit_a_node, commands_are_lawful, commands_keep_doomed,
-    freshness_can_be_met, garbage_is_doomed, gc_collect_gc_is_quiet, memory_decides_nothing_else,
-    plain_run_is_lawful, refused_collections_are_given_up, runs_after_gc_miss_nothing,
-    runs_compose, runs_forget_nothing, runs_go_on, suspicion_can_be_met,
-    unlinked_are_gone_after_gc,
+    ended_stay_unreached, freshness_can_be_met, garbage_is_doomed, gc_collect_gc_is_quiet,
+    memory_decides_nothing_else, plain_run_is_lawful, refused_collections_are_given_up,
+    runs_after_gc_miss_nothing, runs_compose, runs_forget_nothing, runs_go_on,
+    suspicion_can_be_met, unlinked_are_gone_after_gc,
 };
 use cc_laws_snapshot::{
     begin_is_fresh, black_is_least, collections_keep_suspected, commands_keep_fresh,
@@ -116,6 +116,7 @@ fn laws_of_the_run_can_be_called() {
     runs_go_on();
     runs_forget_nothing();
     runs_after_gc_miss_nothing();
+    ended_stay_unreached();
     runs_compose();
     memory_decides_nothing_else();
     refused_collections_are_given_up();

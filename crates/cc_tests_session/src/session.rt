@@ -3,7 +3,7 @@
 //! Each function makes two or three calls alone, since the check of a long one takes minutes. What a session answers else, its
 //! stops among it, is tried through the C interface (`tools/c`).
 use cc_collector::Ended;
-use cc_host::{Object, Stop};
+use cc_host::{Object, Stop, Weak};
 use cc_names::{Limits, Name, ScriptNo};
 use cc_session::Session;
 use std::alloc::Global;
@@ -39,9 +39,11 @@ fn explains(s: &mut Session, native: Object) -> bool {
     given & s.why(reflector).is_ok()
 }
 
+// The native that was wrapped is a suspect, and a root holds it.
 fn collects(s: &mut Session) -> bool {
+    let forgotten = s.forget() == 1;
     let sliced = s.slice(1_000) == Ok(Ended::Yes);
-    sliced & s.collect().is_ok()
+    forgotten & sliced & s.collect().is_ok()
 }
 
 // So many roots hold an object, as many times.
@@ -75,4 +77,59 @@ fn opens_and_goes_well(alloc: Global) -> bool {
 #[test]
 fn each_call_that_takes_memory_goes_well(rt: HostRuntime) {
     assert!(rt; opens_and_goes_well(rt.alloc()));
+}
+
+// A native that no root holds is brought back by a weak reference, into a numbered root and into one without number.
+fn comes_back(s: &mut Session, w: Weak) -> bool {
+    let emptied = s.set_native_root(0, None).is_ok();
+    let into = matches!(s.upgrade_into(1, w), Ok(Some(_)));
+    emptied & into & matches!(s.upgrade(w), Ok(Some(_)))
+}
+
+// A native that holds itself stays while it is not collected.
+fn refers(s: &mut Session, x: Object) -> bool {
+    let stored = s.store(x, 0, Some(x)).is_ok();
+    match s.weak(x) {
+        Ok(w) => stored & comes_back(s, w) & (s.has_ended(w) == Ok(false)),
+        Err(_) => false,
+    }
+}
+
+fn opens_and_refers(alloc: Global) -> bool {
+    match Session::new(alloc, Limits::new(10, 3, 0), 1) {
+        Ok(mut s) => {
+            let x = made(s.new_native(0, 1));
+            refers(&mut s, x)
+        }
+        Err(_) => false,
+    }
+}
+
+#[test]
+fn a_native_comes_back(rt: HostRuntime) {
+    assert!(rt; opens_and_refers(rt.alloc()));
+}
+
+// Once it was told as unlinked and freed there is none.
+fn ends(s: &mut Session, x: Object) -> bool {
+    let stored = s.store(x, 0, Some(x)).is_ok() & s.set_native_root(0, None).is_ok();
+    match s.weak(x) {
+        Ok(w) => stored & s.settle().is_ok() & (s.upgrade_into(0, w) == Ok(None)),
+        Err(_) => false,
+    }
+}
+
+fn opens_and_ends(alloc: Global) -> bool {
+    match Session::new(alloc, Limits::new(10, 3, 0), 1) {
+        Ok(mut s) => {
+            let x = made(s.new_native(0, 1));
+            ends(&mut s, x)
+        }
+        Err(_) => false,
+    }
+}
+
+#[test]
+fn a_native_that_was_collected_does_not(rt: HostRuntime) {
+    assert!(rt; opens_and_ends(rt.alloc()));
 }

@@ -7,30 +7,30 @@ use Rattle.cc_model.specs.WellFormed.{native_names}
 use Rattle.cc_model.specs.Snapshot.{Snapshot}
 use Rattle.cc_model.specs.Suspected.{IsSuspected}
 use Rattle.cc_model.specs.End.{take_away}
-use Rattle.cc_laws_heap.proofs.Face.{AreColoured-from_view, HasColourInvariant-from, SameScripts-coloured, reached-in, reached-there, take_away-sound, take_away-stands, take_away-takes}
+use Rattle.cc_laws_heap.proofs.Face.{AreColoured-from_view, HasColourInvariant-from, SameScripts-coloured, reached-there, stands-reached, take_away-sound, take_away-stands, take_away-takes}
 use Rattle.cc_laws_snapshot.proofs.Face.{end-suspected}
+use Rattle.cc_laws_heap.specs.Apart.{AreApart}
 use Rattle.cc_graph.specs.Shown.{Shown}
 use Rattle.cc_heaps.specs.Keyed.{Keyed, IsInOrder, left_with}
 use Rattle.cc_heaps.specs.Standing.{StillStands, KeepsColours}
-use Rattle.cc_unlink.specs.Whites.{whites_of, AreUnreached, AreWhiteIn, KeepsReached}
+use Rattle.cc_unlink.specs.Whites.{whites_of, AreWhiteIn, KeepsReached}
 use Rattle.cc_unlink.proofs.Passing.{whites_of-there}
 
 module _ (g : Shown) (v w : Keyed) (order : IsInOrder [] v) (e : w ≡ left_with v (take_away (whites_of g v.heap) v.heap).heap) where
   there : (k : ℕ) → Among k (whites_of g v.heap) → Among (native k) (native_names v.heap)
   there = whites_of-there g v.heap
 
-  -- Where no register reaches the white natives, the heaps go on standing for the same graphs.
-  pub ended-stands : AreUnreached v.heap (whites_of g v.heap) → StillStands v.heap w.heap
-  ended-stands unreached = subst (λ (u : Keyed). StillStands v.heap u.heap) (sym e)
-      (λ h m t. take_away-stands v.heap h (whites_of g v.heap) order.sound there m t
-      (λ k i r. unreached k i (reached-in v.heap h order.sound.well_formed m t (native k) r)))
+  -- Where the white natives are apart, the heaps go on standing for the same graphs.
+  pub ended-stands : AreApart v.heap (whites_of g v.heap) → StillStands v.heap w.heap
+  ended-stands apart = subst (λ (u : Keyed). StillStands v.heap u.heap) (sym e)
+      (λ h m t. take_away-stands v.heap h (whites_of g v.heap) order.sound there m t apart)
 
   -- and what is reached stays, with its slots and its flag:
-  pub ended-reached : AreUnreached v.heap (whites_of g v.heap) → KeepsReached v.heap w.heap
-  ended-reached unreached h x m t r =
-      let before = t.reached x r in
-      let stands = ended-stands unreached h m t in
-      let left = stands.reached x r in (
+  pub ended-reached : AreApart v.heap (whites_of g v.heap) → KeepsReached v.heap w.heap
+  ended-reached apart h x m t r =
+      let before = stands-reached v.heap h t x r in
+      let stands = ended-stands apart h m t in
+      let left = stands-reached w.heap h stands x r in (
         reached-there w.heap h x stands r,
         left.there ∙ (sym left.made ∙ (before.made ∙ sym before.there)),
       )

@@ -9,7 +9,6 @@ use Rattle.cc_model.specs.Reached.{Reached}
 use Rattle.cc_model.specs.WellFormed.{names_there}
 use Rattle.cc_model.specs.StandsFor.{StandsFor, shape_at}
 use Rattle.cc_model.specs.Heap.{Heap, HeapNative}
-use Rattle.cc_model.specs.View.{view, ReachedIn}
 use Rattle.cc_model.specs.Snapshot.{Snapshot, white_natives}
 use Rattle.cc_model.specs.Fresh.{IsTraversed}
 use Rattle.cc_laws_snapshot.specs.Kinds.{IsFreshIn}
@@ -35,10 +34,6 @@ whites_of g h = map (λ n. n.number) (filter (is_white_in g) h.natives)
 -- those with a number above
 abbrev pub whites_above : Shown → Heap → Option ℕ → List ℕ
 whites_above g h at = filter (is_above at) (whites_of g h)
-
--- no register reaches any of these natives
-abbrev pub AreUnreached : Heap → List ℕ → Type 0
-AreUnreached h ks = (k : ℕ) → Among k ks → ¬ (ReachedIn (view h) (native k))
 
 -- what a graph's registers reach is there, with the slots and the flag that it had
 abbrev pub KeepsReached : Heap → Heap → Type 0

@@ -178,8 +178,8 @@ fn unroot_whites<N: Notices, L: Ledger>(
 /// THE END OF A COLLECTION: all white natives are rooted, then unlinked, then unrooted, so that none of them is deleted
 /// before all of them are unlinked. It takes no memory.
 ///
-/// Where no register reaches any of them the heaps go on standing for the same graphs, and what is reached stays, with its
-/// slots and its flag. Script objects stay in any case, with their slots and colours. Where they are the white natives of a
+/// Where they are apart, so that registers and the other natives lead to none of them, the heaps go on standing for the same
+/// graphs, and what is reached stays, with its slots and its flag. Script objects stay in any case, with their slots and colours. Where they are the white natives of a
 /// snapshot that is fresh and traversed, no native that nothing reaches is forgotten.
 ///
 /// It costs what the natives cost that are nodes, however many others live: `collect_white_counted` counts them.

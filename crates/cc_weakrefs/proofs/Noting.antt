@@ -1,5 +1,5 @@
 -- WHAT WEAK REGISTERS NOTE: writes, and what is found by the key.
-use Rattle.std.proofs.Common.{◌≡◌, ◌≢◌, ℕ, zero, suc, ◌≤◌, ◌==◌, Bool, true, false, not, ◌&&◌, List, [], ◌∷◌, map, Option, Some, None, option_map, option_and_then, refl, sym, ◌∙◌, ap, subst, ⊎_elim, inl, inr, arith, ◌⊎◌, slice_index_or}
+use Rattle.std.proofs.Common.{◌≡◌, ℕ, zero, suc, ◌≤◌, Bool, true, false, not, ◌&&◌, List, [], ◌∷◌, Option, Some, None, option_and_then, refl, sym, ◌∙◌, ap, subst, ⊎_elim, inl, inr, arith, slice_index_or}
 use Rattle.std.specs.Prelude.{replicate, slice_set}
 use Rattle.cc_lists.proofs.Searching.{find-map}
 use Rattle.cc_laws_heap.proofs.Face.{named-found, native_at-named}
@@ -10,13 +10,10 @@ use Rattle.std.proofs.Math.ListN.{get_or-map}
 use Rattle.cc_lists.specs.Members.{Among}
 use Rattle.cc_lists.proofs.Held.{map-replicate}
 use Rattle.cc_lists.proofs.ListWrites.{Among-set_cases}
-use Rattle.cc_names.specs.declared.name.Name.{Name}
 use Rattle.cc_names.specs.declared.number.NKey.{NKey}
 use Rattle.cc_names.specs.Names.{native}
-use Rattle.cc_model.specs.Slots.{Slots, empty_slots}
-use Rattle.cc_model.specs.Heap.{Heap, HeapNative, native_at}
-use Rattle.cc_model.specs.Given.{is_usable}
-use Rattle.cc_model.specs.WellFormed.{native_names}
+use Rattle.cc_model.specs.Slots.{empty_slots}
+use Rattle.cc_model.specs.Heap.{HeapNative, native_at}
 use Rattle.cc_counted.specs.Counts.{heap_of, unlinked_at, unlinked_of}
 use Rattle.cc_heaps.specs.Keyed.{Keyed, IsInOrder, counts_of, number_at}
 use Rattle.cc_heaps.specs.Changes.{KeepsKeys, native_name}

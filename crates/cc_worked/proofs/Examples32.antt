@@ -41,3 +41,15 @@ pub forget_takes_no_memory : Works default_limits (refused_at 2) input.forget_ta
     (codes "= ok\n= #1\n= ok\n! nomem\n= #2\n= ok\n")
 unfolding all_of_a_run
 forget_takes_no_memory = record { writes = refl; passes = refl; audited = refl }
+
+-- What only a weak register names comes back whole before a collection and while one runs, and is gone once it was unlinked.
+pub weak_register_brings_a_native_back : Works default_limits ample input.weak_register_brings_a_native_back
+    (codes "= ok\n= #1\n= ok\n= #1\n= ok\n= #1\n= ok\n= ok\n= #1\n= ok\n= ok\n- unlink #1\n- free #1\n= ok\n= none\n")
+unfolding all_of_a_run
+weak_register_brings_a_native_back = record { writes = refl; passes = refl; audited = refl }
+
+-- An unlinked native that its dead reflector still holds is given no more, though it is not freed.
+pub unlinked_native_is_not_given : Works default_limits ample input.unlinked_native_is_not_given
+    (codes "= ok\n= #1\n= ~1\n= ok\n= #1\n= ok\n= ok\n= ok\n- unlink #1\n= ok\n= none\n+ #1\n+ ~1\n= census 2\n- free ~1\n- free #1\n= ok\n= none\n")
+unfolding all_of_a_run
+unlinked_native_is_not_given = record { writes = refl; passes = refl; audited = refl }

@@ -23,10 +23,10 @@ use Rattle.cc_model.specs.Answers.{Answer, Step}
 use Rattle.cc_model.specs.Derivations.{leads_made, why_of}
 use Rattle.cc_model.specs.Asks.{Ask, long, bad, taken, asks_of}
 use Rattle.cc_model.specs.Checks.{refusal_of}
-use Rattle.cc_model.specs.Graph.{Graph, objects_of, reply_to}
+use Rattle.cc_model.specs.Graph.{Graph, objects_of}
 use Rattle.cc_model.specs.Reached.{Reached, reached_names}
 use Rattle.cc_model.specs.Listed.{after_event}
-use Rattle.cc_model.specs.Lawful.{State, start, next, graph_after, may_want_memory, is_without_memory, is_refused, is_abandoning, may_free, may_unlink, has_abandonment_in_place, census_of, MayBe, EachMayBe, WantsMemory, RepliesWith, AnswersCommand, ReplyAnswers, AnswersTaken, AnswersAsk, IsLawfulFrom, IsLawful}
+use Rattle.cc_model.specs.Lawful.{State, start, next, reply_with, graph_after, may_want_memory, is_without_memory, is_refused, is_abandoning, may_free, may_unlink, has_abandonment_in_place, census_of, MayBe, EachMayBe, WantsMemory, RepliesWith, AnswersCommand, ReplyAnswers, AnswersTaken, AnswersAsk, IsLawfulFrom, IsLawful}
 use Rattle.cc_model.proofs.Reaching.{reached-decided}
 use Rattle.cc_model.proofs.Replies.{is_without_memory-true}
 use Rattle.cc_worked.specs.Examples.{answers_to, IsLawfulRun}
@@ -185,7 +185,7 @@ wants_memory-decided s c r =
 -- The first clause is decided.
 replies_with-decided : (s : State) (c : Command) (r : Reply) → IsTrue (replies_with s c r) ↔ RepliesWith s c r
 replies_with-decided s c r =
-    either-decided (same_reply r (reply_to s.graph c)) (wants_memory s c r) (same_reply-decided r (reply_to s.graph c)) (wants_memory-decided s c r)
+    either-decided (same_reply r (reply_with s.ended s.graph c)) (wants_memory s c r) (same_reply-decided r (reply_with s.ended s.graph c)) (wants_memory-decided s c r)
 
 -- Of two tests that do not both hold, the first fails where the second holds.
 first-fails : (a b : Bool) → not (a && b) ≡ true → b ≡ true → a ≡ false
@@ -233,7 +233,7 @@ answers_command-decided s c r es = (
 )
   where
     after : Graph
-    after = graph_after s.graph c (Some r)
+    after = graph_after s.ended s.graph c (Some r)
 
     last_three : IsTrue (each_may_be after s.listed c es && (is_rising c es && has_abandonment_in_place c r es))
         ↔ (EachMayBe after s.listed c es × IsTrue (is_rising c es) × IsTrue (has_abandonment_in_place c r es))

@@ -39,4 +39,7 @@ pub mod Examples29
 pub mod Examples30
 pub mod Examples31
 pub mod Examples32
+pub mod Examples33
+pub mod Examples34
+pub mod Examples35
 pub mod Examples

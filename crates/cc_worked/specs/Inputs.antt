@@ -1017,3 +1017,91 @@ forget_is_a_word_of_version_2 = codes "forget\nversion 2\nnative n0 0\nforget\nd
 -- It is no wish for memory: the second one is that of the second native.
 abbrev pub forget_takes_no_memory : List ℕ
 forget_takes_no_memory = codes "version 2\nnative n0 1\nforget\nnative n1 0\nnative n1 0\nforget\n"
+
+-- What only a weak register names comes back whole before a collection and while one runs, and is gone once it was unlinked.
+abbrev pub weak_register_brings_a_native_back : List ℕ
+weak_register_brings_a_native_back = codes "version 2\nnative n0 1\nset n0 0 n0\nweak w0 n0\ndrop n0\nderef n1 w0\ndrop n1\nslice 1\nderef n1 w0\nslice 9\ndrop n1\ncollect\nderef n1 w0\n"
+
+-- An unlinked native that its dead reflector still holds is given no more, though it is not freed.
+abbrev pub unlinked_native_is_not_given : List ℕ
+unlinked_native_is_not_given = codes "version 2\nnative n0 1\nwrap s0 n0\nset n0 0 s0\nweak w0 n0\ndrop s0\ndrop n0\ngc\ncollect\nderef n0 w0\ncensus\ngc\nderef n0 w0\n"
+
+-- A native that comes back between the last node and the end of the collection is kept, and goes with the next collection.
+abbrev pub brought_back_before_the_last_unit : List ℕ
+brought_back_before_the_last_unit = codes "version 2\nnative n0 1\nset n0 0 n0\nweak w0 n0\ndrop n0\nslice 1\nslice 1\nderef n1 w0\ndrop n1\nslice 9\ncensus\ncollect\ncensus\n"
+
+-- A weak register that is read before the end's unit gives the native, and behind it nothing.
+abbrev pub asked_right_before_and_behind_the_end : List ℕ
+asked_right_before_and_behind_the_end = codes "version 2\nnative n0 1\nset n0 0 n0\nweak w0 n0\nnative n1 1\nset n1 0 n1\nweak w1 n1\ndrop n0\ndrop n1\nslice 3\nderef n2 w0\nslice 1\nderef n3 w1\nderef n4 w0\ncensus\n"
+
+-- With the native comes all that it leads to: a neighbour, its reflector and the value of an entry.
+abbrev pub brings_back_all_that_it_leads_to : List ℕ
+brings_back_all_that_it_leads_to = codes "version 2\nnative n0 2\nnative n1 1\nset n0 0 n1\nset n1 0 n0\nwrap s0 n1\nweakmap s1\nscript s2 0\nwset s1 s0 s2\nset n0 1 s1\nweak w3 n0\ndrop s0\ndrop s1\ndrop s2\ndrop n0\ndrop n1\nslice 1\nderef n5 w3\nslice 99\ngc\nget n6 n5 0\nwrap s0 n6\nget s1 n5 1\nwget s2 s1 s0\ncensus\n"
+
+-- A native that a weak register brings back for a moment is kept by the collection that runs, and told by the next.
+abbrev pub brought_back_and_let_go : List ℕ
+brought_back_and_let_go = codes "version 2\nnative n0 1\nset n0 0 n0\nweak w0 n0\nnative n1 1\nset n1 0 n1\ndrop n0\ndrop n1\nslice 1\nderef n0 w0\ndrop n0\nslice 99\ncollect\n"
+
+-- The next native in the place of a freed one is not taken for the one that was noted.
+abbrev pub key_of_a_freed_native_is_not_the_noted_one : List ℕ
+key_of_a_freed_native_is_not_the_noted_one = codes "version 2\nnative n0 0\nweak w0 n0\ndrop n0\nnative n1 0\nderef n2 w0\nnative n3 0\nweak w0 n3\nderef n2 w0\n"
+
+-- A native of no slots that was unlinked has nothing to lose but its reflector, and is given no more.
+abbrev pub native_without_slots_is_not_given_once_unlinked : List ℕ
+native_without_slots_is_not_given_once_unlinked = codes "version 2\nnative n0 0\nwrap s0 n0\nscript s1 0\nput s0 0 s1\nput s0 1 s0\nweak w0 n0\ndrop s0\ndrop s1\ndrop n0\ngc\ncollect\nderef n0 w0\ncensus\ngc\n"
+
+-- What only a weak register names is freed when its last reference goes, and the register then gives nothing.
+abbrev pub weak_register_is_no_root : List ℕ
+weak_register_is_no_root = codes "version 2\nnative n0 1\nscript s0 0\nset n0 0 s0\nweak w0 n0\ndrop s0\ndrop n0\ngc\nderef n1 w0\ncensus\n"
+
+-- No path begins at a weak register: there is one again once the native was brought back.
+abbrev pub why_of_what_a_weak_register_names : List ℕ
+why_of_what_a_weak_register_names = codes "version 2\nnative n0 1\nset n0 0 n0\nweak w0 n0\nwhy #1\ndrop n0\nwhy #1\nderef n3 w0\nwhy #1\n"
+
+-- Nothing is noted for an empty register, and what was noted stays.
+abbrev pub weak_of_an_empty_register : List ℕ
+weak_of_an_empty_register = codes "version 2\nweak w0 n0\nderef n1 w0\nnative n2 0\nweak w0 n2\nweak w0 n0\nderef n1 w0\n"
+
+-- Where nothing is noted the register is emptied, and what it held is freed.
+abbrev pub deref_of_nothing_empties_its_register : List ℕ
+deref_of_nothing_empties_its_register = codes "version 2\nnative n0 0\nderef n0 w7\nnative n0 0\nweak w7 n0\nderef n0 w7\ncensus\n"
+
+-- A weak register that is emptied gives nothing more, and the native stays as it was.
+abbrev pub dropped_weak_register_gives_up_no_reference : List ℕ
+dropped_weak_register_gives_up_no_reference = codes "version 2\nnative n0 0\nweak w0 n0\nweak w1 n0\ndrop w0\ndrop w0\nderef n1 w0\nderef n1 w1\ndrop n1\ncensus\ncollect\ncensus\n"
+
+-- A weak register notes the native of its last weak alone.
+abbrev pub weak_register_is_noted_again : List ℕ
+weak_register_is_noted_again = codes "version 2\nnative n0 0\nnative n1 0\nweak w0 n0\nweak w0 n1\nderef n2 w0\nweak w0 n0\nderef n2 w0\ndrop n0\ndrop n2\nderef n2 w0\n"
+
+-- W0 and w255 are weak registers, and w256 is none.
+abbrev pub all_weak_registers : List ℕ
+all_weak_registers = codes "version 2\nnative n0 0\nweak w255 n0\nweak w256 n0\nderef n1 w255\nderef n1 w256\ndrop w256\ndrop w255\nderef n1 w255\nweak w00 n0\nweak w0 n1023\nderef n1023 w0\nweak w0 n1024\nweak w-1 n0\n"
+
+-- The map of an entry and its key are brought back one after the other, so the value is kept though it was reached at no moment.
+abbrev pub map_and_key_come_back_at_different_moments : List ℕ
+map_and_key_come_back_at_different_moments = codes "version 2\nnative n0 2\nset n0 1 n0\nweakmap s0\nset n0 0 s0\nweak w0 n0\nnative n1 2\nset n1 1 n1\nscript s1 0\nset n1 0 s1\nweak w1 n1\nnative n2 1\nset n2 0 n2\nwrap s3 n2\nscript s2 1\nput s2 0 s3\nwset s0 s1 s2\ndrop n0\ndrop n1\ndrop n2\ndrop s0\ndrop s1\ndrop s2\ndrop s3\ngc\nslice 1\nderef n0 w0\ndrop n0\nderef n1 w1\ndrop n1\nslice 99\ncollect\ncensus\n"
+
+-- A script object that a gray native holds is exposed when it is read from the native that was brought back.
+abbrev pub gray_script_object_of_a_native_brought_back : List ℕ
+gray_script_object_of_a_native_brought_back = codes "version 2\nnative n0 2\nset n0 0 n0\nscript s0 1\nput s0 0 s0\nset n0 1 s0\nweak w0 n0\ndrop s0\ndrop n0\ngc\nslice 1\nderef n0 w0\nget s1 n0 1\ndrop n0\nslice 99\ncollect\ncensus\n"
+
+-- A native whose mark was taken is a suspect again once what a weak register brought back is let go.
+abbrev pub forgotten_suspect_is_brought_back : List ℕ
+forgotten_suspect_is_brought_back = codes "version 2\nnative n0 1\nset n0 0 n0\nweak w0 n0\ncopy n1 n0\ndrop n1\nforget\ndrop n0\nslice 1\nderef n0 w0\nforget\ndrop n0\nslice 9\ncollect\nderef n0 w0\n"
+
+-- Weak and deref take a weak and a native register in their own order, and no other word but drop names a weak register.
+abbrev pub refused_forms_of_weak_registers : List ℕ
+refused_forms_of_weak_registers = codes "version 2\nnative n0 1\nscript s0 1\nweak n0 w0\nweak w0 s0\nweak w0\nweak w0 none\nweak w0 n0 n0\nderef w0 n0\nderef s0 w0\nderef n0\nderef n0 none\ncopy w1 w0\ncopy n0 w0\nset n0 0 w0\nwrap s0 w0\nget w0 n0 0\nunwrap w0 s0\nwhy w0\nWeak w0 n0\nderefs n0 w0\ndrop w\ndrop W0\n  weak   w0   n0  \n% weak\nderef n1 w0\n"
+
+-- Version 1 has neither word, and no weak register to drop.
+abbrev pub weak_registers_are_words_of_version_2 : List ℕ
+weak_registers_are_words_of_version_2 = codes "weak w0 n0\nderef n0 w0\ndrop w0\nnative n0 0\nweak w0 n0\ndrop n0\n"
+
+-- Neither word is a wish for memory: the second one is that of the second native.
+abbrev pub weak_registers_take_no_memory : List ℕ
+weak_registers_take_no_memory = codes "version 2\nnative n0 1\nweak w0 n0\nderef n1 w0\nnative n2 0\nnative n2 0\nderef n3 w0\n"
+
+-- A collection that is refused its memory at its begin ends no native, and a weak register gives what it gave.
+abbrev pub brought_back_while_a_begin_is_refused : List ℕ
+brought_back_while_a_begin_is_refused = codes "version 2\nnative n0 1\nset n0 0 n0\nweak w0 n0\ndrop n0\ncollect\nderef n1 w0\ndrop n1\ncollect\nderef n1 w0\n"

@@ -21,10 +21,10 @@ use Rattle.cc_model.specs.declared.item.Reason.TheVariants.{Root, Edge, Pair}
 use Rattle.cc_model.specs.Derivations.{leads_made, why_of}
 use Rattle.cc_model.specs.Asks.{Ask, long, bad, taken, asks_of}
 use Rattle.cc_model.specs.Checks.{refusal_of}
-use Rattle.cc_model.specs.Graph.{Graph, objects_of, reply_to}
+use Rattle.cc_model.specs.Graph.{Graph, objects_of}
 use Rattle.cc_model.specs.Reached.{reached_names}
 use Rattle.cc_model.specs.Listed.{after_event}
-use Rattle.cc_model.specs.Lawful.{State, start, next, graph_after, may_want_memory, is_without_memory, is_refused, is_abandoning, may_free, may_unlink, runs, unlinked_numbers, runs_allowed, has_abandonment_in_place, census_of}
+use Rattle.cc_model.specs.Lawful.{State, start, next, reply_with, graph_after, may_want_memory, is_without_memory, is_refused, is_abandoning, may_free, may_unlink, runs, unlinked_numbers, runs_allowed, has_abandonment_in_place, census_of}
 use Rattle.cc_model.specs.Quiet.{Row, nothing_yet, after_all, row_after}
 use Rattle.cc_worked.specs.Examples.{answers_to}
 
@@ -99,7 +99,7 @@ abbrev pub wants_memory : State → Command → Reply → Bool
 wants_memory s c reply = is_without_memory reply && (may_want_memory s c && is_none (refusal_of (objects_of s.graph) c))
 
 abbrev pub replies_with : State → Command → Reply → Bool
-replies_with s c reply = same_reply reply (reply_to s.graph c) || wants_memory s c reply
+replies_with s c reply = same_reply reply (reply_with s.ended s.graph c) || wants_memory s c reply
 
 -- a refused ask has no events, but an abandoned collection
 abbrev pub may_have : Command → Reply → List Event → Bool
@@ -126,7 +126,7 @@ abbrev pub answers_command : State → Command → Reply → List Event → Bool
 answers_command s c reply events =
     replies_with s c reply
     && (may_have c reply events
-    && (each_may_be (graph_after s.graph c (Some reply)) s.listed c events
+    && (each_may_be (graph_after s.ended s.graph c (Some reply)) s.listed c events
     && (is_rising c events
     && has_abandonment_in_place c reply events)))
 

@@ -1,6 +1,6 @@
 //! A document of elements, listeners and private data over a session. No call of it has a condition, as none of a session has.
 use cc_collector::Ended;
-use cc_host::{Object, Stop};
+use cc_host::{Object, Stop, Weak};
 use cc_names::{Limits, Name, NativeNo, RegNo, SlotNo};
 use cc_session::{Hindrance, Session};
 use slab::Slab;
@@ -22,11 +22,20 @@ pub const PROXY: RegNo = 2;
 /// The script root of the weak map of all private data.
 pub const DATA: RegNo = 3;
 
-/// A session, and a row for each element that was not told as freed.
+/// An element by its title. It keeps the element no more alive than the title does.
+#[derive(Clone, Copy, Drop)]
+struct Entry {
+    title: &'static str,
+    element: Weak,
+}
+
+/// A session, a row for each element that was not told as freed, and an index of these elements by title, which keeps none of them
+/// alive.
 #[derive(Drop)]
 pub struct Document {
     pub session: Session,
     titles: Slab<&'static str>,
+    index: Vec<Entry>,
 }
 
 impl Document {
@@ -35,7 +44,33 @@ impl Document {
         let mut titles = Slab::new(alloc);
         titles.insert("table of roots").map_err(|_| Stop::NoMemory)?;
         let session = Session::new(alloc, Limits::new(1000, 1000, 0), 1)?;
-        Ok(Document { session, titles })
+        Ok(Document {
+            session,
+            titles,
+            index: Vec::new(alloc),
+        })
+    }
+
+    // The index has an element from then on.
+    fn enter(&mut self, title: &'static str, element: Object) -> Result<(), Stop> {
+        let element = self.session.weak(element)?;
+        self.index
+            .push(Entry { title, element })
+            .map_err(|_| Stop::NoMemory)
+    }
+
+    /// The first element with a title, which a root holds until the next one is made; none where there is none, and from the
+    /// moment on where a collection took it.
+    pub fn find(&mut self, title: &str) -> Result<Option<Object>, Stop> {
+        match self
+            .index
+            .iter()
+            .find(|entry| entry.title == title)
+            .copied()
+        {
+            Some(entry) => self.session.upgrade_into(MADE, entry.element),
+            None => Ok(None),
+        }
     }
 
     /// Makes an element, which a root holds until the next one is made. Its row is its number of the program's.
@@ -43,6 +78,7 @@ impl Document {
         let element = self.session.new_native(MADE, LISTENER + 1)?;
         let row = self.titles.insert(title).map_err(|_| Stop::NoMemory)?;
         self.session.set_data(element, row as u64)?;
+        self.enter(title, element)?;
         Ok(element)
     }
 
@@ -111,10 +147,14 @@ impl Document {
         self.session.set_script_root(REFLECTOR, None)
     }
 
-    /// A few units of a collection, in a frame. One that begins here begins right after `gc`, and can miss no garbage.
+    /// A few units of a collection, in a frame. One that begins here begins right after `gc`, and can miss no garbage. It does not
+    /// begin at what is alive.
     pub fn frame(&mut self, units: u32) -> Result<Ended, Hindrance> {
         if !self.session.running() {
             self.session.gc()?;
+            if self.session.has_suspects() {
+                self.session.forget();
+            }
         }
         self.session.slice(units)
     }
@@ -125,11 +165,23 @@ impl Document {
         self.titles.get(row).copied().unwrap_or("gone")
     }
 
+    // An element that was told as freed leaves the index.
+    fn leave(&mut self, number: NativeNo) {
+        let place = self
+            .index
+            .iter()
+            .position(|entry| entry.element.number == number);
+        if let Some(place) = place {
+            self.index.remove(place);
+        }
+    }
+
     /// The row of a native that was told as freed goes.
-    pub fn forget(&mut self, name: Name) {
+    pub fn remove_row(&mut self, name: Name) {
         if let Name::Native(number) = name {
             let row = self.session.data_of(number.0) as usize;
             self.titles.try_remove(row);
+            self.leave(number);
         }
     }
 }

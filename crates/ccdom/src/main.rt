@@ -28,7 +28,7 @@ fn report(rt: &impl Print, document: &mut Document, what: &str) -> Result<()> {
             Some(Item::Event(Event::Unlinked(name))) => show(rt, document, "  unlinked ", name)?,
             Some(Item::Event(Event::Freed(name))) => {
                 show(rt, document, "  freed ", name)?;
-                document.forget(name);
+                document.remove_row(name);
             }
             Some(_) => println!(rt; "  the collection was given up")?,
             None => break,
@@ -54,6 +54,16 @@ fn explain(rt: &impl Print, document: &mut Document, menu: Object) -> Result<()>
             Reason::Pair(_, key) => show(rt, document, "    of an entry with ", key)?,
         }
     }
+    Ok(())
+}
+
+/// Looks an element up by its title, and lets it go again.
+fn look_up(rt: &impl Print, document: &mut Document, title: &str) -> Result<()> {
+    match document.find(title)? {
+        Some(element) => show(rt, document, "the index finds ", element.name)?,
+        None => println!(rt; "the index finds no {title}")?,
+    }
+    document.let_go()?;
     Ok(())
 }
 
@@ -93,7 +103,9 @@ fn remove_menu(rt: &impl Print, document: &mut Document, page: Object, menu: Obj
     document.session.set_script_root(PROXY, None)?;
     report(rt, document, "the other world let its proxy go")?;
     explain(rt, document, menu)?;
-    go_on(rt, document, page)
+    go_on(rt, document, page)?;
+    look_up(rt, document, "menu")?;
+    look_up(rt, document, "text")
 }
 
 fn run(rt: &impl Print, document: &mut Document) -> Result<()> {

@@ -9,7 +9,7 @@ ghost use Rattle.cc_gc.specs.Sparing.{KeepsWhatIsReached};
 ghost use Rattle.cc_collector.specs.Collected.{IsCollected, IsSliced, IsSwept, TellsWhatLeaves, progress_of};
 ghost use Rattle.cc_collector.specs.Kept.{RunsIn, machine_of};
 ghost use Rattle.cc_collector.specs.Settled.{HasWhatIsReached};
-ghost use Rattle.cc_host.specs.Calls.{Collects, TellsFew};
+ghost use Rattle.cc_host.specs.Calls.{Always, Collects, Does, Forgets, NoneComes, TellsFew};
 ghost use Rattle.cc_host.specs.Hosted.{machine};
 ghost use Rattle.cc_host.specs.Missing.{CannotMiss, IsOfAGraph, Takes, TakesBySlice, TakesGarbage, TellsUnlinked, lost_in};
 
@@ -18,6 +18,7 @@ use cc_collector::{Collector, Ended, Steps};
 use cc_heaps::Heaps;
 use cc_model::Notices;
 use cc_names::NoMemory;
+use cc_skip::forget;
 use std::marker::Brand;
 use std::sync::ledger::{Blank, Ledger};
 
@@ -27,6 +28,20 @@ impl Host {
         ensures { result ≡ is_some self.now.running }
     {
         self.collector.running()
+    }
+
+    /// Forgets suspects that are alive: each that the roots reach over slots, reflectors and delegates loses its mark, so that
+    /// a collection that begins then does not look at it. How many these were.
+    ///
+    /// Entries of weak maps are left aside: what is reached by them alone stays a suspect. A native that is written afterwards,
+    /// or loses a reference, is a suspect again. This may be called at any time, also while a collection runs, which goes on as
+    /// it did. It tells nothing and takes no memory, and time by what the roots reach and by how many suspects there are.
+    pub fn forget(&mut self) -> u32
+        ensures does { Does Always (λ g. g) self.old self.new }
+        ensures forgets { Forgets self.old self.new result }
+        ensures none_came { NoneComes self.old self.new }
+    {
+        forget(&mut self.heaps)
     }
 
     /// A few units of the running collection, or of one that begins here where none runs: to be called in each frame of a

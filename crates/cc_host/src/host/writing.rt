@@ -7,7 +7,7 @@ ghost use Rattle.cc_model.specs.Checks.{reflector_of};
 ghost use Rattle.cc_model.specs.Graph as graph;
 ghost use Rattle.cc_heaps.specs.Changes.{slot_held};
 ghost use Rattle.cc_heaps.specs.Standing.{IsReachedOrReflects};
-ghost use Rattle.cc_host.specs.Calls.{Comes, Does, NoneComes, TellsFreed, Tries, stored};
+ghost use Rattle.cc_host.specs.Calls.{Brings, Comes, Does, NoneComes, TellsFreed, Tries, stored};
 ghost use Rattle.cc_host.specs.Hosted.{IsRooted, IsRootedIfAny, IsThere, named};
 ghost use Rattle.cc_host.specs.Stops.{IsStoppedBy, IsStoppedOrRefused, stop_moving, stop_native, stop_reflector, stop_rooting, stop_script, stop_storing};
 
@@ -19,7 +19,8 @@ use cc_model::Notices;
 use cc_names::{Name, RegNo, SlotNo};
 
 impl Host {
-    /// Native root `r` holds a native from then on, or nothing.
+    /// Native root `r` holds a native from then on, or nothing. Any native that is there is taken, whether anything reaches it or
+    /// not.
     ///
     /// What it held is given up, and what then has no reference is deleted and told. Takes no memory.
     pub fn set_native_root<N: Notices>(
@@ -30,6 +31,7 @@ impl Host {
     ) -> Result<(), Stop>
         ensures stops { IsStoppedBy (stop_rooting stop_native self.old r x) result }
         ensures does { OnOk result (Does (IsRootedIfAny self.old x) (λ g. graph.set_register g (n_register r) (named x)) self.old self.new) }
+        ensures brings { OnOk result (Brings (named x) (λ g. graph.set_register g (n_register r) (named x)) self.old self.new) }
         ensures same { OnErr result (self.new ≡ self.old) }
         ensures tells { TellsFreed self.old self.new (N.telling out.old) (N.telling out.new) }
         ensures silent { OnErr result (N.telling out.new ≡ N.telling out.old) }

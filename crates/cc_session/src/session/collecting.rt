@@ -4,11 +4,11 @@ ghost use Rattle.cc_names.specs.declared.name.Name.{Name};
 ghost use Rattle.cc_model.specs.End.{at_end, refused};
 ghost use Rattle.cc_collector.specs.Collected.{IsCollected, IsSliced, IsSwept};
 ghost use Rattle.cc_collector.specs.Settled.{HasWhatIsReached};
-ghost use Rattle.cc_host.specs.Calls.{Collects};
+ghost use Rattle.cc_host.specs.Calls.{Always, Collects, Does, Forgets};
 ghost use Rattle.cc_host.specs.Hosted.{machine};
 ghost use Rattle.cc_host.specs.Missing.{CannotMiss, IsOfAGraph, Takes, TakesBySlice, TakesGarbage, TellsUnlinked, lost_in};
 ghost use Rattle.cc_host.specs.Queues.{told_all};
-ghost use Rattle.cc_session.specs.Sessions.{Aside, IsUnfetched, hindered, progress_of};
+ghost use Rattle.cc_session.specs.Sessions.{Aside, IsUnfetched, Quiet, hindered, progress_of};
 
 use crate::hindrance::Hindrance;
 use crate::session::Session;
@@ -41,6 +41,19 @@ impl Session {
         ensures { result ≡ is_some self.now.host.running }
     {
         self.host.running()
+    }
+
+    /// Forgets suspects that are alive, and answers how many: see `Host::forget`. It may be called at any time, tells nothing and
+    /// takes no memory.
+    #[tactic(auto, using(crate::proofs::HasRoom::after_nothing))]
+    pub fn forget(&mut self) -> u32
+        ensures does { Does Always (λ g. g) self.old.host self.new.host }
+        ensures forgets { Forgets self.old.host self.new.host result }
+        ensures quiet { Quiet self.old self.new }
+    {
+        let marks = self.host.forget();
+        self.host.keeps();
+        marks
     }
 
     /// A few units of the running collection, or of one that begins here where none runs: to be called in each frame of a

@@ -55,7 +55,7 @@ fn place_of(index: u32) -> Place
 }
 
 /// Why a root has no table, where one could not be made.
-fn without_table(stop: Stop) -> Stop
+pub(crate) fn without_table(stop: Stop) -> Stop
     ensures { (result ≡ Stop.NoMemory) ⊎ (result ≡ Stop.Full) }
 {
     match stop {

@@ -1,7 +1,9 @@
-use Rattle.std.proofs.Common.{subst, arith}
+use Rattle.std.proofs.Common.{Some, subst, arith}
 use Rattle.cc_model.specs.Heap.{Outcome}
 use Rattle.cc_model.specs.Telling.{TellsEvents}
 use Rattle.cc_heaps.proofs.FewCounts.{none-owned}
+use Rattle.cc_heaps.specs.Changes.{native_name}
+use Rattle.cc_host.proofs.Referring.{reached-held}
 use Rattle.cc_host.proofs.Spare.{held-from, held-silently}
 use Rattle.cc_host.proofs.changes.hold.Goals as goal
 
@@ -14,7 +16,7 @@ set_native_reg-requires-clause-order g c = none-owned c.args.heaps.now c.require
 pub returns-clause-held : goal.returns-clause-held
 returns-clause-held g c =
     let e = c.set_native_reg.ensures in
-    held-from c.args.heaps.now c.set_native_reg.new.self c.args.key c.requires.ready e.heap e.kept e.stands
+    held-from c.args.heaps.now c.set_native_reg.new.self c.args.key c.requires.ready e.heap e.kept (λ p. e.stands (reached-held c.args.heaps.now.heap (native_name c.args.heaps.now (Some c.args.key)) p))
 
 pub returns-clause-told : goal.returns-clause-told
 returns-clause-told g c =

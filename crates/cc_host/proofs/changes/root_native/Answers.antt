@@ -1,13 +1,14 @@
 use Rattle.std.proofs.Common.{sym, ap, subst, arith}
 use Rattle.cc_heaps.specs.Keyed.{Keyed}
 use Rattle.cc_heaps.proofs.FewCounts.{none-owned}
-use Rattle.cc_host.specs.Missing.{KeepsDoomed}
-use Rattle.cc_host.proofs.KeptDoomed.{hold_native-doomed}
+use Rattle.cc_host.specs.Missing.{KeepsDoomed, KeepsDoomedBut}
+use Rattle.cc_host.proofs.KeptDoomed.{hold_native-doomed, hold_native-doomed_but}
 use Rattle.cc_heaps.specs.Changes.{native_name}
-use Rattle.cc_host.proofs.Spare.{root-spared}
+use Rattle.cc_host.proofs.Spare.{root-held, root-spared}
 use Rattle.cc_lists.specs.Members.{Among}
 use Rattle.cc_model.specs.WellFormed.{names_there}
 use Rattle.cc_host.proofs.Coming.{hold_native-none_came}
+use Rattle.cc_host.proofs.Referring.{reached-held}
 use Rattle.cc_host.proofs.changes.root_native.Goals as goal
 
 pub set_native_reg-requires-clause-within : goal.set_native_reg-requires-clause-within
@@ -23,7 +24,7 @@ returns-clause-change g c =
     record {
       kept = e.kept;
       spared = root-spared v c.set_native_reg.new.self c.args.r (native_name v c.args.content) c.requires.within c.requires.ready e.heap;
-      stands = e.stands;
+      stands = λ p. e.stands (reached-held v.heap (native_name v c.args.content) p);
       doomed = λ p. subst (KeepsDoomed v.heap) (sym (ap (λ (w : Keyed). w.heap) e.heap)) (hold_native-doomed v.heap c.args.r (native_name v c.args.content) p);
     }
 
@@ -31,3 +32,14 @@ pub returns-clause-none_came : goal.returns-clause-none_came
 returns-clause-none_came g c x m =
     let v = c.args.heaps.now in
     hold_native-none_came v.heap c.args.r (native_name v c.args.content) x (subst (λ (w : Keyed). Among x (names_there w.heap)) c.set_native_reg.ensures.heap m)
+
+pub returns-clause-doomed : goal.returns-clause-doomed
+returns-clause-doomed g c =
+    let v = c.args.heaps.now in
+    let x = native_name v c.args.content in
+    subst (KeepsDoomedBut x v.heap) (sym (ap (λ (w : Keyed). w.heap) c.set_native_reg.ensures.heap)) (hold_native-doomed_but v.heap c.args.r x)
+
+pub returns-clause-held : goal.returns-clause-held
+returns-clause-held g c =
+    let v = c.args.heaps.now in
+    root-held v c.set_native_reg.new.self c.args.r (native_name v c.args.content) (omega (arith, c.requires.within, c.requires.ready.order.sound.well_formed.registers.0.enough)) c.set_native_reg.ensures.heap

@@ -100,3 +100,7 @@ returns-in-Expose g c = rw c.in-Expose.is (c.expose.ensures _)
 
 pub get-requires-clause-taken : goal.get-requires-clause-taken
 get-requires-clause-taken g c = subst (λ e. refusal_of (objects_of c.args.heaps.now.heap) e ≡ None) c.in-Get.is c.requires.taken
+
+pub returns-in-Weak : goal.returns-in-Weak
+unfolding deed_of reply_if_taken
+returns-in-Weak g c = rw c.in-Weak.is (c.name_noted.ensures _)

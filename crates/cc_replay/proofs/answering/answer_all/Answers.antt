@@ -1,11 +1,12 @@
-use Rattle.std.proofs.Common.{◌≡◌, ◌≢◌, Option, Result, Ok, Err, sym, ap, subst, ◌∙◌, arith}
+use Rattle.std.proofs.Common.{◌≡◌, ◌≢◌, List, Option, Result, Ok, Err, sym, ap, subst, ◌∙◌, arith}
 use Rattle.cc_model.specs.declared.dialect.Dialect.{Dialect}
 use Rattle.cc_model.specs.Telling.{Telling}
 use Rattle.cc_reader.specs.declared.read_stop.ReadStop.{ReadStop}
 use Rattle.cc_reader.specs.declared.read_stop.ReadStop.TheVariants as stop
 use Rattle.cc_heaps.specs.Keyed.{Keyed}
 use Rattle.cc_builder.specs.Building.{Built}
-use Rattle.cc_collector.specs.Kept.{machine_of}
+use Rattle.cc_weakrefs.specs.declared.noted.Noted.{Noted}
+use Rattle.cc_replay.specs.Beside.{machine_beside}
 use Rattle.cc_replay.specs.declared.answering.Next.{Next}
 use Rattle.cc_replay.specs.declared.answering.Next.TheVariants.{End}
 use Rattle.cc_replay.specs.declared.status.Status.{Status}
@@ -15,9 +16,13 @@ use Rattle.cc_replay.proofs.Answers.{Answers-none, Answers-still, Answers-more, 
 use Rattle.cc_replay.proofs.answering.answer_all.Goals as goal
 
 -- where nothing moves, the machine does not
-still_machine : {x y : Dialect} {v w : Keyed} {b d : Option Built} {t u : Telling} → (y ≡ x) × (w ≡ v) × (d ≡ b) × (u ≡ t) →
-    (y ≡ x) × (machine_of w.heap d ≡ machine_of v.heap b) × (u ≡ t)
-still_machine {x} {y} {v} {w} {b} {d} same = (same.0, ap (λ (k : Keyed). machine_of k.heap d) same.1 ∙ ap (machine_of v.heap) same.2, same.3)
+still_machine : {x y : Dialect} {v w : Keyed} {m n : List (Option Noted)} {b d : Option Built} {t u : Telling} → (y ≡ x) × (w ≡ v) × (n ≡ m) × (d ≡ b) × (u ≡ t) →
+    (y ≡ x) × (machine_beside w.heap d n ≡ machine_beside v.heap b m) × (u ≡ t)
+still_machine {x} {y} {v} {w} {m} {n} {b} {d} same = (
+  same.0,
+  ap (λ (k : Keyed). machine_beside k.heap d n) same.1 ∙ (ap (machine_beside v.heap d) same.2 ∙ ap (λ c. machine_beside v.heap c m) same.3),
+  same.4,
+)
 
 pub lines-init : goal.lines-init
 lines-init g c = search (Answers-none)
@@ -88,6 +93,7 @@ lines-preserved g c =
     record {
       lines = Answers-more c.lines.invariant.lines l;
       runs = c.answer_next.ensures.runs;
+      keys = c.answer_next.ensures.keys;
       going = c.answer_next.ensures.going_on was;
       limit = c.answer_next.ensures.limit ∙ c.lines.invariant.limit;
       reads = λ start h. c.answer_next.ensures.reads start (c.lines.invariant.reads start h);

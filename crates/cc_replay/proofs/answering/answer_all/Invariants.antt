@@ -2,7 +2,9 @@ use Rattle.std.proofs.Common.{◌≡◌, false}
 use Rattle.cc_reader.specs.Pending.{weight}
 use Rattle.cc_reader.specs.HasRead.{ReadsOn}
 use Rattle.cc_reader.specs.Given.{HasGiven}
-use Rattle.cc_collector.specs.Kept.{RunsIn, machine_of}
+use Rattle.cc_collector.specs.Kept.{RunsIn}
+use Rattle.cc_weakrefs.specs.Noting.{HoldKeys}
+use Rattle.cc_replay.specs.Beside.{machine_beside}
 use Rattle.cc_replay.specs.Answering.{Answers, moment}
 use Rattle.cc_replay.proofs.answering.answer_all.Given as goal
 
@@ -13,9 +15,10 @@ invariant-lines g l =
     let reads = g.S.Source.reads in
     let telling = g.N.Notices.telling in
     record {
-      lines : Answers HasGiven (moment (left l.fn.lines.source.now) l.fn.lines.window l.fn.dialect (machine_of l.fn.heaps.heap l.fn.collector) (telling l.fn.out))
-          (moment (left l.lines.source.now) l.lines.window l.dialect (machine_of l.heaps.heap l.collector) (telling l.out));
+      lines : Answers HasGiven (moment (left l.fn.lines.source.now) l.fn.lines.window l.fn.dialect (machine_beside l.fn.heaps.heap l.fn.collector l.fn.weak) (telling l.fn.out))
+          (moment (left l.lines.source.now) l.lines.window l.dialect (machine_beside l.heaps.heap l.collector l.weak) (telling l.out));
       runs : RunsIn l.heaps l.collector;
+      keys : HoldKeys l.weak l.heaps;
       going : l.lines.stopped ≡ false;
       limit : l.lines.window.limit ≡ l.fn.lines.window.limit;
       reads : ReadsOn (reads l.fn.lines.source.now) (reads l.lines.source.now) l.fn.lines.window l.lines.window;

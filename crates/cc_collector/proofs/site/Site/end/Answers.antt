@@ -3,7 +3,7 @@ use Rattle.cc_model.specs.End.{at_end}
 use Rattle.cc_builder.specs.Building.{Built, snapshot_of}
 use Rattle.cc_collector.specs.Units.{HasDoneUnit}
 use Rattle.cc_collector.specs.Sites.{Place}
-use Rattle.cc_collector.proofs.Keeping.{are-white, are-unreached, end-done}
+use Rattle.cc_collector.proofs.Keeping.{are-white, are-apart, end-done}
 use Rattle.cc_collector.proofs.site.Site.end.Goals as goal
 
 pub returns-clause-done : goal.returns-clause-done
@@ -20,6 +20,6 @@ returns-clause-done g c =
     subst (λ (d : Option Built). HasDoneUnit v (Some b) w d at_end t t₁) (sym (ap (λ (p : Place). p.running) c.self.view_is ∙ c.requires.idle))
     (end-done v b c.blackened.result r traversed whites w t t₁ ended.heap
     (record { order = ended.kept.order [] r.order; colours = ended.kept.colours r.colours; goes_on = tt })
-    (ended.stands (are-unreached v b c.blackened.result r traversed whites))
+    (ended.stands (are-apart v b c.blackened.result r traversed whites))
     (ended.suspected (snapshot_of b) (are-white v b c.blackened.result r traversed whites))
     ended.told)

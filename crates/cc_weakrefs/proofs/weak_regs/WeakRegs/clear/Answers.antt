@@ -1,6 +1,4 @@
 use Rattle.std.proofs.Common.{None}
-use Rattle.std.specs.Prelude.{slice_set}
-use Rattle.cc_weakrefs.specs.Noting.{HoldKeys, names_noted}
 use Rattle.cc_weakrefs.proofs.Noting.{hold-set, names-set}
 use Rattle.cc_weakrefs.proofs.weak_regs.WeakRegs.clear.Goals as goal
 

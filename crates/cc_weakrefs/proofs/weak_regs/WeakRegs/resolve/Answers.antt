@@ -1,6 +1,5 @@
-use Rattle.std.proofs.Common.{◌<◌, length, None, ap, ◌∙◌, arith}
+use Rattle.std.proofs.Common.{None, ap, ◌∙◌, arith}
 use Rattle.std.proofs.lemmas.List.{get_or_default}
-use Rattle.cc_names.specs.Sizes.{weak_length}
 use Rattle.cc_weakrefs.specs.Noting.{key_resolved}
 use Rattle.cc_weakrefs.proofs.Noting.{resolved-usable}
 use Rattle.cc_weakrefs.proofs.weak_regs.WeakRegs.resolve.Goals as goal

@@ -1,5 +1,5 @@
-use Rattle.std.proofs.Common.{Some, sym, subst, arith}
-use Rattle.cc_weakrefs.specs.Noting.{HoldsKey, noted}
+use Rattle.std.proofs.Common.{Some}
+use Rattle.cc_weakrefs.specs.Noting.{noted}
 use Rattle.cc_weakrefs.proofs.Noting.{hold-set, names-set, one-held}
 use Rattle.cc_weakrefs.proofs.weak_regs.WeakRegs.set.Goals as goal
 

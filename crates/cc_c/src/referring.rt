@@ -1,0 +1,159 @@
+//! Weak references.
+ghost use Rattle.std.specs.Prelude.{◌≡◌, ◌≢◌, ◌⊎◌, Some, None};
+ghost use Rattle.cc_names.specs.declared.register.Reg.TheVariants.{N as n_register};
+ghost use Rattle.cc_model.specs.Graph as graph;
+ghost use Rattle.cc_host.specs.Calls.{Brings, TellsFreed};
+ghost use Rattle.cc_host.specs.Hosted.{named};
+ghost use Rattle.cc_heaps.specs.Standing.{StandsAfter};
+ghost use Rattle.cc_host.specs.Missing.{KeepsDoomedBut};
+ghost use Rattle.cc_host.specs.Queues.{told_all};
+ghost use Rattle.cc_host.specs.Referring.{HasEnded, has_ended, referent, stop_weak, upgraded};
+ghost use Rattle.cc_host.specs.Stops.{stop_native};
+ghost use Rattle.cc_session.specs.Sessions.{Aside, Enters};
+ghost use Rattle.cc_session.specs.Refusals.{stop_upgraded};
+ghost use Rattle.cc_session.specs.Roots.{brought_back};
+ghost use Rattle.cc_c.specs.Calls.{Open, Reads, Stays};
+ghost use Rattle.cc_c.specs.Values.{IsRootStatus, IsStatus, flag, to_object, to_weak};
+
+use crate::collector::Collector;
+use crate::status::{CLOSED, NONE, OK, of_stop};
+use crate::values::{CObject, CRoot, CWeak, flag, object, show, show_root, show_weak, weak_of};
+use cc_names::RegNo;
+use std::alloc::Global;
+
+/// A weak reference to a native: it keeps nothing alive.
+#[unsafe(no_mangle)]
+#[tactic(auto, using(crate::proofs::Statuses::by_stop))]
+pub extern "C" fn cc_weak_of(
+    alloc: Global,
+    c: &mut Collector,
+    native: &CObject,
+    weak: &mut CWeak,
+) -> u32
+    ensures closed { c.old.handle.session ≡ None → result ≡ 1 }
+    ensures stops { Reads c.old.handle.session (λ s. IsStatus (stop_native s.host (to_object native.now)) result) }
+    ensures of { result ≡ 0 → Reads c.old.handle.session (λ s. referent (to_weak weak.new) ≡ to_object native.now) }
+    ensures left { result ≢ 0 → weak.new ≡ weak.old }
+    ensures same { c.new.handle.session ≡ c.old.handle.session }
+{
+    let Some(session) = c.take(alloc) else {
+        return CLOSED;
+    };
+    let answer = session.weak(object(native));
+    *c = Collector::of(session);
+    match answer {
+        Ok(x) => {
+            *weak = show_weak(x);
+            OK
+        }
+        Err(stop) => of_stop(stop),
+    }
+}
+
+/// Whether the native of a weak reference has ended.
+#[unsafe(no_mangle)]
+#[tactic(auto, using(crate::proofs::Statuses::by_stop))]
+pub extern "C" fn cc_ended(alloc: Global, c: &mut Collector, weak: &CWeak, ended: &mut u32) -> u32
+    ensures closed { c.old.handle.session ≡ None → result ≡ 1 }
+    ensures stops { Reads c.old.handle.session (λ s. IsStatus (stop_weak s.host (to_weak weak.now)) result) }
+    ensures answer { result ≡ 0 → Reads c.old.handle.session (λ s. ended.new ≡ flag (has_ended s.host (to_weak weak.now))) }
+    ensures left { result ≢ 0 → ended.new ≡ ended.old }
+    ensures same { c.new.handle.session ≡ c.old.handle.session }
+{
+    let Some(session) = c.take(alloc) else {
+        return CLOSED;
+    };
+    let answer = session.has_ended(weak_of(weak));
+    *c = Collector::of(session);
+    match answer {
+        Ok(x) => {
+            *ended = flag(x);
+            OK
+        }
+        Err(stop) => of_stop(stop),
+    }
+}
+
+/// A numbered native root holds the native of a weak reference from then on; or nothing, where it has ended.
+#[unsafe(no_mangle)]
+#[tactic(auto, using(crate::proofs::Statuses::by_stop))]
+pub extern "C" fn cc_upgrade_into(
+    alloc: Global,
+    c: &mut Collector,
+    r: u16,
+    weak: &CWeak,
+    native: &mut CObject,
+) -> u32
+    ensures stays { Stays c.old.handle.session c.new.handle.session result }
+    ensures stops { result ≢ 10 → Open c.old.handle.session c.new.handle.session (λ s t. IsStatus (stop_upgraded s.host r (to_weak weak.now)) result) }
+    ensures none { result ≡ 10 → Reads c.old.handle.session (λ s. HasEnded s.host (to_weak weak.now)) }
+    ensures native { result ≡ 0 → Reads c.old.handle.session (λ s. Some (to_object native.new) ≡ upgraded s.host (to_weak weak.now)) }
+    ensures does { (result ≡ 0) ⊎ (result ≡ 10) → Open c.old.handle.session c.new.handle.session (λ s t. Brings (named (upgraded s.host (to_weak weak.now)))
+        (λ g. graph.set_register g (n_register r) (named (upgraded s.host (to_weak weak.now)))) s.host t.host) }
+    ensures left { result ≢ 0 → native.new ≡ native.old }
+    ensures tells { Open c.old.handle.session c.new.handle.session (λ s t. TellsFreed s.host t.host (told_all s.told) (told_all t.told)) }
+    ensures aside { Open c.old.handle.session c.new.handle.session Aside }
+{
+    let Some(mut session) = c.take(alloc) else {
+        return CLOSED;
+    };
+    let answer = session.upgrade_into(r as RegNo, weak_of(weak));
+    *c = Collector::of(session);
+    match answer {
+        Ok(Some(x)) => {
+            *native = show(x);
+            OK
+        }
+        Ok(None) => NONE,
+        Err(stop) => of_stop(stop),
+    }
+}
+
+/// A root without number holds the native of a weak reference until it is released; none where it has ended.
+#[unsafe(no_mangle)]
+#[tactic(auto, using(crate::proofs::Statuses::by_stop_of_root))]
+pub extern "C" fn cc_upgrade(
+    alloc: Global,
+    c: &mut Collector,
+    weak: &CWeak,
+    root: &mut CRoot,
+    native: &mut CObject,
+) -> u32
+    ensures stays { Stays c.old.handle.session c.new.handle.session result }
+    ensures stops { result ≢ 10 → Open c.old.handle.session c.new.handle.session (λ s t. IsRootStatus (stop_weak s.host (to_weak weak.now)) result) }
+    ensures none { result ≡ 10 → Reads c.old.handle.session (λ s. HasEnded s.host (to_weak weak.now)) }
+    ensures stands { result ≡ 0 → Open c.old.handle.session c.new.handle.session (λ s t. StandsAfter s.host.heaps.heap t.host.heaps.heap (brought_back root.new.index (referent (to_weak weak.now)).name)) }
+    ensures doomed { Open c.old.handle.session c.new.handle.session (λ s t. KeepsDoomedBut (named (upgraded s.host (to_weak weak.now))) s.host.heaps.heap t.host.heaps.heap) }
+    ensures entered { result ≡ 0 → Open c.old.handle.session c.new.handle.session (λ s t. Enters s.books t.books root.new.index (Some root.new.serial)) }
+    ensures mark { result ≡ 0 → Open c.old.handle.session c.new.handle.session (λ s t. root.new.mark ≡ s.host.mark) }
+    ensures given { Open c.old.handle.session c.new.handle.session (λ s t. t.books.given ≡ s.books.given) }
+    ensures native { result ≡ 0 → to_object native.new ≡ referent (to_weak weak.now) }
+    ensures left { result ≢ 0 → (root.new ≡ root.old) × (native.new ≡ native.old) }
+{
+    let Some(mut session) = c.take(alloc) else {
+        return CLOSED;
+    };
+    let answer = session.upgrade(weak_of(weak));
+    *c = Collector::of(session);
+    match answer {
+        Ok(Some(x)) => {
+            *root = show_root(x);
+            *native = native_of(weak);
+            OK
+        }
+        Ok(None) => NONE,
+        Err(stop) => of_stop(stop),
+    }
+}
+
+/// The native of a weak reference, for C.
+fn native_of(weak: &CWeak) -> CObject
+    ensures { to_object result ≡ referent (to_weak weak.now) }
+{
+    CObject {
+        mark: weak.mark,
+        key: weak.key,
+        number: weak.number,
+        kind: 1,
+    }
+}

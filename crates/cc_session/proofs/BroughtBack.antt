@@ -1,0 +1,55 @@
+-- A NATIVE BROUGHT BACK into a root without number: its steps in a row.
+use Rattle.std.proofs.Common.{◌≡◌, ℕ, List, Option, Some, None, Result, Ok, Err, OnErr, IfOk}
+use Rattle.cc_names.specs.declared.name.Name.{Name}
+use Rattle.cc_names.specs.declared.register.Reg.TheVariants.{N}
+use Rattle.cc_model.specs.Graph as graph
+use Rattle.cc_heaps.specs.Standing.{IsReached, StandsAfter}
+use Rattle.cc_heaps.proofs.Leaving.{nothing-told}
+use Rattle.cc_host.specs.declared.stop.Stop.{Stop}
+use Rattle.cc_host.specs.Calls.{Always, Brings, Does, TellsFreed}
+use Rattle.cc_host.specs.Hosted.{Hosted}
+use Rattle.cc_host.specs.Missing.{KeepsDoomed, KeepsDoomedBut}
+use Rattle.cc_host.specs.Queues.{told_all}
+use Rattle.cc_host.proofs.Composing.{stands-then}
+use Rattle.cc_host.proofs.KeptDoomed.{doomed-then}
+use Rattle.cc_session.specs.declared.root.Root.{Root}
+use Rattle.cc_session.specs.Roots.{TellsInThree, TellsInTwo, brought_back, leaf_in, meanwhile, rooted_from, slot_for, some_tables, with_tables}
+use Rattle.cc_session.specs.Sessions.{State}
+
+-- the slot of a root, in a table that is made for it
+abbrev pub put : ℕ → Name → graph.Graph → graph.Graph
+put index x g = graph.set_slot (with_tables index g) (leaf_in (with_tables index g) index) (slot_for index) (Some x)
+
+-- A ROOT takes what a register held, which is emptied then.
+pub rooted-stands : (a b c : Hosted) (r index : ℕ) (x : Name) → IsReached a.heaps.heap (Some x) → Does (IsReached a.heaps.heap (Some x)) (put index x) a b →
+    Does Always (λ g. graph.set_register g (N r) None) b c → StandsAfter a.heaps.heap c.heaps.heap (rooted_from r index x)
+unfolding rooted_from
+rooted-stands a b c r index x reached d e =
+    stands-then a.heaps.heap b.heaps.heap c.heaps.heap (put index x) (λ g. graph.set_register g (N r) None) (d.stands reached) (e.stands tt)
+
+-- What is doomed stays so, whether there was room for the root or not.
+pub rooted-doomed : (a b c : Hosted) (r : ℕ) (x : Name) (result : Result Root Stop) → IsReached a.heaps.heap (Some x) →
+    IfOk result (λ root. Does (IsReached a.heaps.heap (Some x)) (put root.index x) a b) →
+    OnErr result ((n : ℕ) × (index : ℕ) × Does Always (some_tables n index) a b) →
+    Does Always (λ g. graph.set_register g (N r) None) b c → KeepsDoomed a.heaps.heap c.heaps.heap
+rooted-doomed a b c r x (Ok root) reached d tried e = doomed-then a.heaps.heap b.heaps.heap c.heaps.heap (d.doomed reached) (e.doomed tt)
+rooted-doomed a b c r x (Err s) reached d tried e = doomed-then a.heaps.heap b.heaps.heap c.heaps.heap (tried.2.doomed tt) (e.doomed tt)
+
+-- A REGISTER TAKES THE NATIVE that is brought back, and hands it to a root.
+pub brought-stands : (a b c : Hosted) (index : ℕ) (x : Name) → StandsAfter a.heaps.heap b.heaps.heap (λ g. graph.set_register g (N meanwhile) (Some x)) →
+    StandsAfter b.heaps.heap c.heaps.heap (rooted_from meanwhile index x) → StandsAfter a.heaps.heap c.heaps.heap (brought_back index x)
+unfolding brought_back
+brought-stands a b c index x s t = stands-then a.heaps.heap b.heaps.heap c.heaps.heap (λ g. graph.set_register g (N meanwhile) (Some x)) (rooted_from meanwhile index x) s t
+
+-- What is doomed and is not that native stays so.
+pub brought-doomed : (a b c : Hosted) (x : Option Name) → KeepsDoomedBut x a.heaps.heap b.heaps.heap → KeepsDoomed b.heaps.heap c.heaps.heap → KeepsDoomedBut x a.heaps.heap c.heaps.heap
+unfolding KeepsDoomed KeepsDoomedBut
+brought-doomed a b c x d e s ds keeps none i = e s ds keeps (d s ds keeps none i)
+
+-- Where nothing is done nothing is told.
+pub told-nothing : (s : State) → TellsFreed s.host s.host (told_all s.told) (told_all s.told)
+told-nothing s = nothing-told s.host.heaps.heap s.host.heaps.heap (told_all s.told) (λ x i. i)
+
+-- One step that tells, and two that do nothing.
+pub told-once : (a b : State) → TellsFreed a.host b.host (told_all a.told) (told_all b.told) → TellsInThree a b
+told-once a b t = (b, t, (b, told-nothing b, told-nothing b))

@@ -1,0 +1,31 @@
+-- WORKED EXAMPLES, part 35: what each writes, and that its run is lawful, quiet and passes the audit.
+-- Made by tools/worked_examples.py from examples/worked.txt.
+use Rattle.std.specs.Prelude.{codes, refl}
+use Rattle.cc_worked.specs.Examples.{default_limits, ample, refused_at}
+use Rattle.cc_worked.specs.Inputs as input
+use Rattle.cc_worked.specs.Works.{Works}
+use Rattle.cc_worked.proofs.Opened.{all_of_a_run}
+
+-- Weak and deref take a weak and a native register in their own order, and no other word but drop names a weak register.
+pub refused_forms_of_weak_registers : Works default_limits ample input.refused_forms_of_weak_registers
+    (codes "= ok\n= #1\n= @1\n! line\n! line\n! line\n! line\n! line\n! line\n! line\n! line\n! line\n! line\n! line\n! line\n! line\n! line\n! line\n! line\n! line\n! line\n! line\n! line\n= #1\n= #1\n")
+unfolding all_of_a_run
+refused_forms_of_weak_registers = record { writes = refl; passes = refl; audited = refl }
+
+-- Version 1 has neither word, and no weak register to drop.
+pub weak_registers_are_words_of_version_2 : Works default_limits ample input.weak_registers_are_words_of_version_2
+    (codes "! line\n! line\n! line\n= #1\n! line\n- free #1\n= ok\n")
+unfolding all_of_a_run
+weak_registers_are_words_of_version_2 = record { writes = refl; passes = refl; audited = refl }
+
+-- Neither word is a wish for memory: the second one is that of the second native.
+pub weak_registers_take_no_memory : Works default_limits (refused_at 2) input.weak_registers_take_no_memory
+    (codes "= ok\n= #1\n= #1\n= #1\n! nomem\n= #2\n= #1\n")
+unfolding all_of_a_run
+weak_registers_take_no_memory = record { writes = refl; passes = refl; audited = refl }
+
+-- A collection that is refused its memory at its begin ends no native, and a weak register gives what it gave.
+pub brought_back_while_a_begin_is_refused : Works default_limits (refused_at 2) input.brought_back_while_a_begin_is_refused
+    (codes "= ok\n= #1\n= ok\n= #1\n= ok\n- abandon\n! nomem\n= #1\n= ok\n- unlink #1\n- free #1\n= ok\n= none\n")
+unfolding all_of_a_run
+brought_back_while_a_begin_is_refused = record { writes = refl; passes = refl; audited = refl }
