@@ -1,13 +1,13 @@
 -- A STEP OF THE GRAPH BESIDE THE ENDED NAMES keeps what a step of the graph keeps.
-use Rattle.std.proofs.Common.{◌≡◌, Bool, true, false, ◌||◌, List, refl, sym, ◌∙◌, ap, subst, ⊎_elim, arith}
+use Rattle.std.proofs.Common.{◌≡◌, true, false, ◌||◌, List, refl, sym, ◌∙◌, ap, subst, arith}
 use Rattle.std.specs.Prelude.{IsTrue}
-use Rattle.std.proofs.lemmas.Bool.{cases_Bool, false≢true}
+use Rattle.std.proofs.lemmas.Bool.{false≢true}
 use Rattle.cc_names.specs.declared.name.Name.{Name}
 use Rattle.cc_names.specs.declared.register.Reg.TheVariants.{N}
 use Rattle.cc_model.specs.declared.command.Command.{Command}
 use Rattle.cc_model.specs.declared.command.Command.TheVariants.{Native, Script, WeakMap, Proxy, Wrap}
 use Rattle.cc_model.specs.declared.item.Reply.TheVariants.{Named}
-use Rattle.cc_model.specs.Graph.{Graph, step}
+use Rattle.cc_model.specs.Graph.{Graph}
 use Rattle.cc_model.specs.Lawful.{is_gc, is_refused, noted_in, reply_with, runs_units, step_of, step_with}
 use Rattle.cc_model.specs.Mutating.{Class, reads_weak, class_of, is_script_collection, is_units, is_weak_reader, reads_weakly}
 use Rattle.cc_model.specs.WellMade.{IsWellMade, was_made}

@@ -1,5 +1,5 @@
 -- WHAT WAS FOUND is what the registers reach.
-use Rattle.std.proofs.Common.{◌≡◌, Bool, true, false, not, List, [], ◌∙◌, ap, sym, refl, subst, ⊎_elim}
+use Rattle.std.proofs.Common.{◌≡◌, Bool, true, false, not, List, ◌∙◌, ap, sym, refl, subst, ⊎_elim}
 use Rattle.std.specs.List.{filter}
 use Rattle.cc_lists.specs.Members.{Among, has}
 use Rattle.cc_lists.proofs.Members.{Among-append, Among-filter, Among-filtered, Among-left, Among-right, has-among, has-there}

@@ -1,5 +1,5 @@
 -- WHERE NO ASK READS A WEAK REGISTER, none that is left does.
-use Rattle.std.proofs.Common.{◌≡◌, ℕ, zero, suc, Bool, true, false, ◌||◌, List, [], ◌∷◌, drop, refl, sym, subst, inl, inr}
+use Rattle.std.proofs.Common.{◌≡◌, ℕ, zero, suc, Bool, true, false, ◌||◌, List, [], ◌∷◌, drop, refl, subst, inl, inr}
 use Rattle.std.proofs.lemmas.Bool.{true≢false}
 use Rattle.cc_lists.specs.Members.{Among}
 use Rattle.cc_model.specs.Asks.{Ask, long, bad, taken}

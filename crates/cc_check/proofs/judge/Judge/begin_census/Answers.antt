@@ -1,5 +1,5 @@
 use Rattle.std.specs.Prelude.{◌↔◌}
-use Rattle.std.proofs.Common.{◌≡◌, ℕ, List, [], ◌∷◌, length, reverse, refl, sym, ◌∙◌, ap}
+use Rattle.std.proofs.Common.{◌≡◌, ℕ, List, ◌∷◌, length, reverse, refl, sym, ◌∙◌, ap}
 use Rattle.cc_names.specs.declared.name.Name.{Name}
 use Rattle.cc_model.specs.declared.command.Command.TheVariants.{Census}
 use Rattle.cc_model.specs.declared.item.Reply.TheVariants.{Census as counted}

@@ -11,7 +11,6 @@ use Rattle.cc_verdict.specs.Positions.{Position, reciting}
 use Rattle.cc_check.specs.Standing.{asks_left, place_of, position_in, position_of, row_meant}
 use Rattle.cc_check.proofs.Ahead.{IsStuck, stuck}
 use Rattle.cc_check.proofs.Found.{census-listed, exactly-from, found-reached, reached-found}
-use Rattle.cc_check.proofs.Kept.{all-of}
 use Rattle.cc_check.proofs.judge.Judge.dead_end.Goals as goal
 
 pub returns-in-Some-first_unfound : goal.returns-in-Some-first_unfound

@@ -1,4 +1,4 @@
-use Rattle.std.proofs.Common.{◌≡◌, false, refl, sym, subst, ◌∙◌}
+use Rattle.std.proofs.Common.{refl, sym, subst, ◌∙◌}
 use Rattle.cc_model.specs.Mutating.{reads_weakly}
 use Rattle.cc_verdict.specs.GoingOn.{ListsAllIn}
 use Rattle.cc_check.specs.Standing.{place_of}
