@@ -1,7 +1,6 @@
 -- Chains: the places of the elements that pass a test stay right.
-use Rattle.std.proofs.Common.{◌≡◌, ◌≢◌, ℕ, ◌+◌, ◌-◌, ◌<◌, ◌≤◌, zero, suc, Bool, true, false, cond, List, [], ◌∷◌, ◌++◌, length, map, get_or, drop, refl, sym, ◌∙◌, ap, subst, arith, Some, None, length-drop, option_map, inl, inr, ⊎_elim}
-use Rattle.std.specs.Prelude.{Option, IfSome, position, nat_lt, not, slice_get}
-use Rattle.std.specs.List.{position_or_len}
+use Rattle.std.proofs.Common.{◌≡◌, ◌≢◌, ℕ, ◌+◌, ◌-◌, ◌<◌, ◌≤◌, suc, Bool, true, false, cond, List, [], ◌∷◌, ◌++◌, length, map, get_or, drop, refl, sym, ◌∙◌, ap, subst, arith, Some, None, length-drop, option_map, inl, inr}
+use Rattle.std.specs.Prelude.{Option, IfSome, position, nat_lt, slice_get}
 use Rattle.std.proofs.Math.ListN.{set}
 use Rattle.std.proofs.lemmas.Bool.{cases_Bool, true≢false, lt-ltb, le-ltb, ltb-true, ltb-false}
 use Rattle.std.proofs.lemmas.List.{drop-append-le, get_or-drop, get_or-map, length-map, length-set, length_push, map-set, set-get_or}

@@ -1,12 +1,10 @@
 -- Nodes by their names: a node that is added last, and the tables of numbers.
-use Rattle.std.proofs.Common.{◌≡◌, ℕ, ◌+◌, ◌==◌, ◌<◌, suc, Bool, true, false, cond, List, [], ◌∷◌, ◌++◌, length, refl, sym, ◌∙◌, ap, subst, arith, Some, None, if◌then◌else◌}
+use Rattle.std.proofs.Common.{◌≡◌, ℕ, ◌+◌, ◌==◌, ◌<◌, suc, Bool, true, false, cond, List, [], ◌∷◌, ◌++◌, length, refl, sym, ◌∙◌, arith, Some, None, if◌then◌else◌}
 use Rattle.std.specs.Prelude.{Option, IfNone, IfSome}
 use Rattle.cc_names.specs.declared.name.Name.{Name}
 use Rattle.cc_names.specs.declared.name.Name.TheVariants.{Native, Script, Reflector}
 use Rattle.cc_names.specs.declared.number.NativeNo.{NativeNo}
-use Rattle.cc_names.specs.declared.number.ScriptNo.{ScriptNo}
 use Rattle.cc_names.specs.Names.{native, same_name}
-use Rattle.cc_names.proofs.NameTests.{same_name-true}
 use Rattle.cc_pages.specs.declared.pages.Pages.{Pages}
 use Rattle.cc_pages.specs.Values.{value_at}
 use Rattle.cc_graph.specs.declared.numbers.Numbers.{Numbers}

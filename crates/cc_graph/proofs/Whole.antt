@@ -1,12 +1,11 @@
 -- What is kept of nodes and references stays right.
-use Rattle.std.proofs.Common.{◌≡◌, unwrap_or, ℕ, ◌+◌, ◌<◌, ◌≤◌, zero, suc, true, false, cond, List, [], ◌∷◌, ◌++◌, length, get_or, refl, sym, ◌∙◌, ap, subst, inl, inr, arith, count_by, Some, None, option_map}
+use Rattle.std.proofs.Common.{◌≡◌, unwrap_or, ℕ, ◌+◌, ◌<◌, ◌≤◌, suc, true, false, cond, List, [], ◌∷◌, ◌++◌, length, get_or, refl, sym, ◌∙◌, ap, subst, inr, arith, count_by, Some, None, option_map}
 use Rattle.std.specs.Prelude.{◌==◌, slice_get, Option, IfSome}
 use Rattle.std.proofs.Math.ListN.{set}
 use Rattle.std.proofs.lemmas.Bool.{eqb-true, eq-eqb, ne_eqb}
 use Rattle.std.proofs.lemmas.List.{length-set, length-map, length_push, get_or-map, map-set, map_push, set-get_or}
 use Rattle.std.proofs.lemmas.Option.{slice_get-get_or, slice_get_within, same_Some}
 use Rattle.cc_names.specs.declared.name.Name.{Name}
-use Rattle.cc_names.specs.Names.{same_name}
 use Rattle.cc_names.proofs.NameTests.{same_name-refl}
 use Rattle.cc_counted.specs.declared.held.Held.{Held}
 use Rattle.cc_lists.specs.Members.{Among, has}
@@ -24,7 +23,7 @@ use Rattle.cc_graph.specs.Shown.{Vertex, Edge, Hyperedge, Rooms, Shown, change_v
 use Rattle.cc_graph.specs.Closed.{IsHyperedgeWithin, AreHyperedgesWithin, IsWithin, IsClosed}
 use Rattle.cc_graph.specs.Kept.{added, with_black_node, with_node, with_next, with_reference, vertex_of, edge_of, hyperedge_of, vertices, edges, hyperedges, chain_of, but_mapping, but_mappings, IsLast, AreReferences, AreMappings, IsWhole}
 use Rattle.cc_graph.proofs.Lists.{each-set, each-added, among-at}
-use Rattle.cc_graph.proofs.NodesByName.{number-pushed, or_last}
+use Rattle.cc_graph.proofs.NodesByName.{number-pushed}
 use Rattle.cc_graph.proofs.Numbering.{length-vertices, vertices-pushed}
 use Rattle.cc_graph.proofs.Chains.{chain-linked, chain-new, chain-none, chain-other, chain-pushed, last-passes, length-with_link, place-passes, shown-with_link}
 use Rattle.cc_graph.proofs.Mappings.{chain-set, mappings-added, mappings-pushed, mappings-same}

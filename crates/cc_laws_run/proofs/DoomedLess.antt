@@ -5,7 +5,7 @@ use Rattle.cc_lists.specs.Members.{Among}
 use Rattle.cc_lists.proofs.Members.{Among-filter, Among-filtered, Among-passes}
 use Rattle.cc_names.specs.declared.name.Name.{Name}
 use Rattle.cc_names.specs.Names.{native, reflector}
-use Rattle.cc_model.specs.Entries.{Joint, joints}
+use Rattle.cc_model.specs.Entries.{Joint}
 use Rattle.cc_model.specs.Graph.{Graph}
 use Rattle.cc_model.specs.Given.{GivenFrom}
 use Rattle.cc_model.specs.WellMade.{IsWellMade}

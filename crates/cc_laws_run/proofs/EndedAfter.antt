@@ -1,11 +1,10 @@
 -- WHICH NATIVES HAVE ENDED after what the heaps tell: those that had, and those that a free or an unlink line has. They are those that are
 -- gone, and those that were unlinked.
-use Rattle.std.proofs.Common.{◌≡◌, ℕ, ◌+◌, ◌≤◌, ◌<◌, Bool, true, false, not, ◌&&◌, ◌||◌, List, [], ◌∷◌, ◌++◌, map, Option, Some, None, is_some, refl, sym, ◌∙◌, ap, subst, inl, inr, ◌⊎◌, ⊎_elim, ◌==◌, nat_le, arith}
+use Rattle.std.proofs.Common.{◌≡◌, ℕ, ◌≤◌, ◌<◌, Bool, true, false, not, ◌&&◌, ◌||◌, List, [], ◌∷◌, ◌++◌, Option, Some, None, is_some, refl, sym, ◌∙◌, ap, subst, inl, inr, ◌⊎◌, ⊎_elim, nat_le, arith}
 use Rattle.std.specs.List.{filter}
 use Rattle.std.proofs.lemmas.Bool.{false≢true, true≢false, cases_Bool, le-leb, leb-true}
 use Rattle.cc_lists.specs.Members.{Among, has}
-use Rattle.cc_lists.proofs.Members.{Among-left, Among-right, Among-append, Among-map, Among-map_cases, Among-filter, Among_or_not, has-among, has-there}
-use Rattle.cc_lists.proofs.Numbers.{number-exact}
+use Rattle.cc_lists.proofs.Members.{Among-left, Among-right, Among-filter, Among_or_not, has-among, has-there}
 use Rattle.cc_names.specs.declared.name.Name.{Name}
 use Rattle.cc_names.specs.declared.name.Name.TheVariants as name
 use Rattle.cc_names.specs.Names.{native, number_of, same_name}

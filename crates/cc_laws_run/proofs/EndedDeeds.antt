@@ -1,7 +1,6 @@
 -- WHICH NATIVES HAVE ENDED after a command: it ends those that it tells freed, and no others.
 use Rattle.std.proofs.Common.{◌≡◌, ℕ, ◌+◌, ◌≤◌, ◌<◌, Bool, true, false, List, [], ◌∷◌, ◌++◌, map, Option, Some, None, refl, sym, ◌∙◌, ap, subst, inl, inr, ⊎_elim, arith}
 use Rattle.std.specs.Prelude.{IsTrue}
-use Rattle.std.specs.List.{filter}
 use Rattle.cc_lists.specs.Members.{Among}
 use Rattle.cc_lists.proofs.Members.{Among-append}
 use Rattle.cc_names.specs.declared.name.Name.{Name}
@@ -10,29 +9,25 @@ use Rattle.cc_names.specs.declared.kind.Kind.TheVariants.{Reflector}
 use Rattle.cc_names.specs.declared.register.Reg.TheVariants.{N}
 use Rattle.cc_names.specs.Names.{native, reflector}
 use Rattle.cc_model.specs.declared.command.Command.{Command}
-use Rattle.cc_model.specs.declared.item.Event.{Event}
-use Rattle.cc_model.specs.declared.item.Event.TheVariants.{Freed}
 use Rattle.cc_model.specs.Ranges.{in_range}
 use Rattle.cc_model.specs.Slots.{reflector_slots}
 use Rattle.cc_model.specs.Checks.{slot_at}
 use Rattle.cc_model.specs.Deeds.{Deed, nothing_done, native_made, plain_made, map_made, proxy_made, native_held, script_held, script_copied, native_stored, slot_moved, script_stored, reflector_held, reflector_preserved, entry_written, object_exposed, weak_written, deed_of}
 use Rattle.cc_model.specs.Heap.{Heap, HeapNative, Outcome, register, objects_of, has_reflector, set_register, set_slot, preserve}
-use Rattle.cc_model.specs.Cascade.{add_ref, take_up, let_go}
+use Rattle.cc_model.specs.Cascade.{take_up, let_go}
 use Rattle.cc_model.specs.Exposure.{exposed}
-use Rattle.cc_model.specs.Effects.{done_in, effects, make_native, hold_native, store_native, move_slot, touched, taken_out, put_in_register, put_in_slot, with_native, with_script, with_reflector, wrapped, make_proxy, put_in_script, set_entry}
+use Rattle.cc_model.specs.Effects.{done_in, effects, make_native, hold_native, store_native, move_slot, touched, taken_out, put_in_register, put_in_slot, with_native, with_script, with_reflector, wrapped, make_proxy, set_entry}
 use Rattle.cc_model.specs.Listed.{after_events}
 use Rattle.cc_model.specs.Lawful.{unlinked_numbers}
 use Rattle.cc_model.specs.WellFormed.{IsWellFormed, native_names}
 use Rattle.cc_laws_heap.specs.Sound.{IsSound}
-use Rattle.cc_laws_heap.specs.Rounds.{is_not_among}
 use Rattle.cc_laws_heap.proofs.Freed.{freed_event}
 use Rattle.cc_laws_heap.proofs.Making.{native_names-made}
 use Rattle.cc_laws_heap.proofs.Taken.{IsTaken}
 use Rattle.cc_laws_heap.proofs.Unseen.{Leaves-add_ref, Leaves-take_up, Leaves-let_go, Leaves-exposed, Leaves-touched}
 use Rattle.cc_laws_heap.proofs.UnlinkedKept.{WasThereOrMade, done_in-unlinked}
 use Rattle.cc_laws_run.proofs.NamesAfter.{NamesAfter, natives_made_by, made_natives, made_scripts, effects-names}
-use Rattle.cc_laws_run.proofs.FreedListed.{freed_names, freed_names-freed, after_events-left}
-use Rattle.cc_laws_run.proofs.RunsOfNumbers.{unlinked-freed}
+use Rattle.cc_laws_run.proofs.FreedListed.{freed_names, after_events-left}
 use Rattle.cc_laws_run.proofs.EndedAfter.{EndsWhatItTells, ends-freed}
 
 -- How many natives were made

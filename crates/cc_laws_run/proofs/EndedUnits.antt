@@ -1,6 +1,6 @@
 -- WHICH NATIVES HAVE ENDED after units of a collection, and after a script collection: they end those that they tell unlinked or freed, and no
 -- others.
-use Rattle.std.proofs.Common.{◌≡◌, ℕ, ◌+◌, ◌≤◌, ◌<◌, Bool, true, false, not, ◌||◌, List, [], ◌∷◌, ◌++◌, map, Option, Some, None, refl, sym, ◌∙◌, ap, subst, inl, inr, ◌⊎◌, ⊎_elim, ◌==◌, arith}
+use Rattle.std.proofs.Common.{◌≡◌, ℕ, Bool, true, false, not, ◌||◌, List, [], ◌∷◌, map, Option, Some, None, refl, sym, ◌∙◌, ap, subst, inl, inr, ◌⊎◌, ⊎_elim, ◌==◌, arith}
 use Rattle.std.specs.List.{filter}
 use Rattle.std.proofs.lemmas.Bool.{false≢true, true≢false, cases_Bool}
 use Rattle.std.proofs.lemmas.List.{append-nil}
@@ -11,7 +11,7 @@ use Rattle.cc_names.specs.declared.name.Name.{Name}
 use Rattle.cc_names.specs.Names.{native, number_of}
 use Rattle.cc_model.specs.declared.command.Command.TheVariants.{Collect}
 use Rattle.cc_model.specs.declared.item.Event.{Event}
-use Rattle.cc_model.specs.declared.item.Event.TheVariants.{Freed, Abandoned}
+use Rattle.cc_model.specs.declared.item.Event.TheVariants.{Abandoned}
 use Rattle.cc_model.specs.Mutating.{Running}
 use Rattle.cc_model.specs.Graph.{Graph}
 use Rattle.cc_model.specs.WellMade.{IsWellMade}
@@ -19,15 +19,14 @@ use Rattle.cc_model.specs.Heap.{Heap, HeapNative, native_at}
 use Rattle.cc_model.specs.Given.{is_usable_native, is_usable}
 use Rattle.cc_model.specs.WellFormed.{IsWellFormed, native_names, names_there}
 use Rattle.cc_model.specs.Snapshot.{Snapshot, white_natives}
-use Rattle.cc_model.specs.Units.{first_untraversed, to_note}
+use Rattle.cc_model.specs.Units.{first_untraversed}
 use Rattle.cc_model.specs.Sweep.{collect_scripts}
-use Rattle.cc_model.specs.End.{Progress, take_away, heap_given_back, abandoned, ending, node_or_end, granted, unit}
+use Rattle.cc_model.specs.End.{take_away, heap_given_back, node_or_end, granted, unit}
 use Rattle.cc_model.specs.Listed.{ended_after}
 use Rattle.cc_model.specs.Lawful.{unlinked_numbers}
-use Rattle.cc_model.specs.Collecting.{Machine, UnitsDone, no_units, finish_running, gc}
+use Rattle.cc_model.specs.Collecting.{Machine, UnitsDone, finish_running, gc}
 use Rattle.cc_model.specs.Run.{run_units}
 use Rattle.cc_laws_heap.specs.Sound.{IsSound}
-use Rattle.cc_laws_heap.specs.Balance.{HasDistinctNumbers}
 use Rattle.cc_laws_heap.specs.Ending.{freed_numbers, AreThere, TakesAway}
 use Rattle.cc_laws_heap.specs.Rounds.{is_not_among, FreesNames}
 use Rattle.cc_laws_heap.proofs.Making.{native_names-made}
@@ -35,7 +34,7 @@ use Rattle.cc_laws_heap.proofs.Natives.{IsWellFormed-distinct, native_at-there, 
 use Rattle.cc_laws_heap.proofs.References.{native-there}
 use Rattle.cc_laws_heap.proofs.TakingAway.{take_away-takes}
 use Rattle.cc_laws_heap.proofs.CollectedColours.{collect_scripts-sound, collect_scripts-frees}
-use Rattle.cc_laws_heap.proofs.UnlinkedKept.{WasThere, take_away-unlinked, collect_scripts-unlinked}
+use Rattle.cc_laws_heap.proofs.UnlinkedKept.{take_away-unlinked, collect_scripts-unlinked}
 use Rattle.cc_laws_snapshot.proofs.GivingBack.{give_back-buffer}
 use Rattle.cc_laws_snapshot.proofs.WhiteNatives.{white_natives-there}
 use Rattle.cc_laws_run.proofs.FreedListed.{freed_names, freed_names-freed, freed_names-natives}

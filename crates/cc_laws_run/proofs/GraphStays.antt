@@ -21,7 +21,7 @@ use Rattle.cc_model.specs.Entries.{Entry}
 use Rattle.cc_model.specs.Checks.{slots_or_none, refusal_of, slot_at, reflector_of}
 use Rattle.cc_model.specs.Deeds.{Deed, nothing_done, native_made, plain_made, map_made, proxy_made, native_held, script_held, script_copied, native_stored, slot_moved, script_stored, reflector_held, reflector_preserved, entry_written, object_exposed, weak_written, deed_of}
 use Rattle.cc_model.specs.Graph.{Graph, GraphScript, plain_object, weak_map, proxy, native_in, script_in, delegate_in, register, set_register, set_weak, objects_of, set_slot, preserve, wrapped, set_entry, with_native, with_script, with_proxy, with_slot, with_reflector_slot, with_script_slot, as_preserved, as_wrapped, done_to, changed, unless_refused, step}
-use Rattle.cc_model.specs.Reached.{Reached, edge, value, key, edges_of}
+use Rattle.cc_model.specs.Reached.{Reached, edge, value, edges_of}
 use Rattle.cc_model.specs.Given.{GivenFrom, given, given_edge, given_value, given_key}
 use Rattle.cc_model.specs.Lawful.{State, next, noted_in, step_of, step_with, graph_after, is_without_memory}
 use Rattle.cc_model.specs.StandsFor.{Shape, shape_in, shape_of_object, script_shape}

@@ -3,7 +3,7 @@ use Rattle.std.specs.Prelude.{IsTrue, nat_le, bytes_eq, if◌then◌else◌}
 use Rattle.std.proofs.Common.{◌≡◌, ℕ, ◌+◌, ◌-◌, ◌*◌, ◌<◌, ◌≤◌, Bool, true, false, ◌&&◌, List, [], ◌∷◌, Option, Some, None, refl, arith}
 use Rattle.std.specs.List.{list_all}
 use Rattle.std.proofs.lemmas.Bool.{and_from, and_parts, lt-ltb, le-leb, leb-true}
-use Rattle.cc_names.specs.Sizes.{bank_length, most_slots, weak_length}
+use Rattle.cc_names.specs.Sizes.{bank_length, most_slots}
 use Rattle.cc_model.specs.declared.command.Command.{Command}
 use Rattle.cc_model.specs.Ranges.{is_register, is_weak_register, is_slots, in_range}
 use Rattle.cc_model.specs.Lines.{lines_of, without_return}

@@ -1,38 +1,34 @@
 -- A WEAK REGISTER READ: what it notes comes back, where that has not ended. The answer is lawful, the machine runs on, and no native is
 -- forgotten.
-use Rattle.std.proofs.Common.{◌≡◌, ℕ, ◌+◌, ◌≤◌, ◌<◌, Bool, true, false, not, ◌&&◌, List, [], ◌∷◌, ◌++◌, map, length, Option, Some, None, is_some, slice_get, slice_index_or, zero, suc, refl, sym, ◌∙◌, ap, subst, inl, inr, ⊎_elim, if◌then◌else◌, nat_le, arith}
-use Rattle.std.specs.Prelude.{IsTrue, IfSome, option_and_then}
-use Rattle.std.proofs.lemmas.Bool.{and_parts, false≢true, true≢false, le-leb, leb-true}
+use Rattle.std.proofs.Common.{◌≡◌, ℕ, ◌≤◌, ◌<◌, Bool, true, false, not, List, [], ◌∷◌, map, length, Option, Some, None, is_some, slice_get, slice_index_or, zero, suc, refl, sym, ◌∙◌, ap, subst, inl, if◌then◌else◌, arith}
+use Rattle.std.specs.Prelude.{IsTrue, option_and_then}
+use Rattle.std.proofs.lemmas.Bool.{and_parts, false≢true, true≢false, leb-true}
 use Rattle.std.proofs.lemmas.List.{append-nil}
 use Rattle.cc_lists.specs.Members.{Among, has}
 use Rattle.cc_lists.proofs.Members.{Among-map}
 use Rattle.cc_names.specs.declared.name.Name.{Name}
 use Rattle.cc_names.specs.declared.name.Name.TheVariants as name
 use Rattle.cc_names.specs.declared.register.Reg.TheVariants.{N}
-use Rattle.cc_names.specs.Names.{native, is_native, same_name}
+use Rattle.cc_names.specs.Names.{native, same_name}
 use Rattle.cc_names.specs.Sizes.{bank_length}
 use Rattle.cc_model.specs.declared.command.Command.{Command}
 use Rattle.cc_model.specs.declared.command.Command.TheVariants.{Deref}
-use Rattle.cc_model.specs.declared.item.Event.{Event}
-use Rattle.cc_model.specs.declared.item.Event.TheVariants.{Freed}
-use Rattle.cc_model.specs.declared.item.Reply.{Reply}
 use Rattle.cc_model.specs.Ranges.{in_range, is_register, is_weak_register}
-use Rattle.cc_model.specs.Mutating.{Class, reads_weak, class_of}
+use Rattle.cc_model.specs.Mutating.{reads_weak, class_of}
 use Rattle.cc_model.specs.Asks.{taken}
-use Rattle.cc_model.specs.Slots.{Slots, contents}
+use Rattle.cc_model.specs.Slots.{Slots}
 use Rattle.cc_model.specs.Checks.{named_or_nothing}
-use Rattle.cc_model.specs.Graph.{Graph, numbered, native_in, set_register}
+use Rattle.cc_model.specs.Graph.{Graph, native_in, set_register}
 use Rattle.cc_model.specs.WellMade.{IsWellMade, is_made_native, was_made}
 use Rattle.cc_model.specs.Reached.{Reached}
 use Rattle.cc_model.specs.Heap.{Heap, Outcome}
 use Rattle.cc_model.specs.Given.{is_usable, MayComeBack}
-use Rattle.cc_model.specs.Ended.{EndedAgrees}
 use Rattle.cc_model.specs.StandsFor.{StandsFor}
 use Rattle.cc_model.specs.Effects.{hold_native}
 use Rattle.cc_model.specs.Snapshot.{Snapshot}
 use Rattle.cc_model.specs.WellFormed.{native_names, script_names}
-use Rattle.cc_model.specs.Listed.{listed, after_events, ended_after}
-use Rattle.cc_model.specs.Lawful.{State, next, AnswersClass, AnswersCommand, EachMayBe, unless_ended, noted_in, graph_after, is_refused, is_without_memory, has_none, unlinked_numbers}
+use Rattle.cc_model.specs.Listed.{after_events, ended_after}
+use Rattle.cc_model.specs.Lawful.{State, next, AnswersClass, EachMayBe, unless_ended, noted_in, graph_after, is_refused, is_without_memory, has_none, unlinked_numbers}
 use Rattle.cc_model.specs.Collecting.{Machine}
 use Rattle.cc_model.specs.Run.{noted, read_weak}
 use Rattle.cc_laws_heap.specs.Sound.{IsSound}
@@ -46,7 +42,7 @@ use Rattle.cc_laws_run.specs.Running.{IsRunning, IsFreshNow}
 use Rattle.cc_laws_run.specs.Doomed.{IsSuspectedNow, candidates_now}
 use Rattle.cc_laws_run.proofs.Listing.{AreListed, AreListed-census, AreListed-freed, native-listed}
 use Rattle.cc_laws_run.proofs.NamesAfter.{NamesAfter, hold_native-names}
-use Rattle.cc_laws_run.proofs.EndedAfter.{EndsWhatItTells, EndedIn, ended-after}
+use Rattle.cc_laws_run.proofs.EndedAfter.{EndedIn, ended-after}
 use Rattle.cc_laws_run.proofs.EndedDeeds.{hold-made, freed-unlinks_none, ends-names}
 use Rattle.cc_laws_run.proofs.Answered.{running-listed, has_none-freed, abandonment-none, rising-none, each-freed}
 

@@ -1,14 +1,11 @@
 -- WHAT LINES CAN ASK: no command in range marks script objects in units.
-use Rattle.std.proofs.Common.{◌≡◌, Option, None, option_map, refl, sym, ◌∙◌, ap, subst}
+use Rattle.std.proofs.Common.{◌≡◌, Option, None, option_map, sym, ◌∙◌, ap, subst}
 use Rattle.std.specs.Prelude.{IsTrue}
 use Rattle.std.proofs.lemmas.Bool.{false≢true}
-use Rattle.cc_names.specs.declared.register.Reg.TheVariants.{N, S, W}
 use Rattle.cc_model.specs.declared.command.Command.{Command}
-use Rattle.cc_model.specs.declared.command.Command.TheVariants.{Drop, Get, Weak, Deref, Mark}
-use Rattle.cc_model.specs.Slots.{Slots}
+use Rattle.cc_model.specs.declared.command.Command.TheVariants.{Mark}
 use Rattle.cc_model.specs.Ranges.{in_range}
-use Rattle.cc_model.specs.Mutating.{so_many, Class, reads_weak, collects_scripts, class_of}
-use Rattle.cc_model.specs.Checks.{Objects}
+use Rattle.cc_model.specs.Mutating.{so_many, Class, collects_scripts, class_of}
 use Rattle.cc_model.specs.Deeds.{Deed}
 use Rattle.cc_model.specs.Marking.{NewMarks, marking_after}
 use Rattle.cc_model.specs.Collecting.{Machine}

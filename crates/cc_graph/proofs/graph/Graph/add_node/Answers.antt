@@ -1,7 +1,5 @@
-use Rattle.std.proofs.Common.{◌<◌, ◌∙◌, ap, subst, sym, arith, length, Some}
+use Rattle.std.proofs.Common.{◌<◌, ap, subst, arith, length}
 use Rattle.std.specs.Prelude.{IfSome}
-use Rattle.cc_graph.specs.Shown.{number_of}
-use Rattle.cc_graph.specs.Kept.{vertices}
 use Rattle.cc_graph.proofs.Numbering.{length-vertices, number-within}
 use Rattle.cc_graph.proofs.Whole.{number-with, whole-with}
 use Rattle.cc_graph.proofs.graph.Graph.add_node.Goals as goal

@@ -1,7 +1,6 @@
-use Rattle.std.proofs.Common.{◌≡◌, ◌<◌, ◌∙◌, ◌==◌, ap, sym, arith, length, false, refl}
+use Rattle.std.proofs.Common.{◌≡◌, ◌<◌, ◌∙◌, ◌==◌, ap, sym, arith, length, false}
 use Rattle.cc_lists.specs.Members.{has}
-use Rattle.cc_graph.specs.Shown.{Shown, is_black, with_black}
-use Rattle.cc_graph.specs.Kept.{vertices}
+use Rattle.cc_graph.specs.Shown.{is_black}
 use Rattle.cc_graph.proofs.Numbering.{length-vertices}
 use Rattle.cc_graph.proofs.Whole.{rooms-same, shown-same, vertices-black, black-last, whole-black_node, whole-blackened}
 use Rattle.cc_graph.proofs.graph.Graph.blacken.Goals as goal

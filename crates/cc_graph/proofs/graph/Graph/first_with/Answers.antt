@@ -1,5 +1,5 @@
-use Rattle.std.proofs.Common.{◌∙◌, ap, arith}
-use Rattle.cc_graph.specs.Shown.{Shown, is_with, place_with}
+use Rattle.std.proofs.Common.{arith}
+use Rattle.cc_graph.specs.Shown.{is_with}
 use Rattle.cc_graph.proofs.Chains.{place-within, place-passes}
 use Rattle.cc_graph.proofs.graph.Graph.first_with.Goals as goal
 

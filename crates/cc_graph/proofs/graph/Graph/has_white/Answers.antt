@@ -1,6 +1,4 @@
-use Rattle.std.proofs.Common.{◌≡◌, ◌<◌, ℕ, subst, arith, length, false}
-use Rattle.std.specs.Prelude.{IsTrue, ◌↔◌}
-use Rattle.cc_graph.specs.Shown.{Shown, is_black}
+use Rattle.std.proofs.Common.{arith}
 use Rattle.cc_graph.proofs.Numbering.{length-vertices}
 use Rattle.cc_graph.proofs.graph.Graph.has_white.Goals as goal
 

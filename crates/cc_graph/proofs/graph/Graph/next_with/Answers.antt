@@ -1,7 +1,6 @@
 use Rattle.std.proofs.Common.{◌≡◌, ◌+◌, ◌∙◌, ap, subst, sym, arith, true, Some}
 use Rattle.std.specs.Prelude.{slice_get, option_map}
 use Rattle.cc_graph.specs.Shown.{Shown, is_with, place_with}
-use Rattle.cc_graph.specs.Kept.{hyperedges}
 use Rattle.cc_graph.proofs.Mappings.{length-hyperedges, next-there}
 use Rattle.cc_graph.proofs.Chains.{place-within, place-behind, place-passes, passes-within}
 use Rattle.cc_graph.proofs.graph.Graph.next_with.Goals as goal

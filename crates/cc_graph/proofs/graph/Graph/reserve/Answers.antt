@@ -1,4 +1,4 @@
-use Rattle.std.proofs.Common.{ap, arith}
+use Rattle.std.proofs.Common.{arith}
 use Rattle.cc_graph.proofs.graph.Graph.reserve.Goals as goal
 
 pub returns-clause-no_need : goal.returns-clause-no_need

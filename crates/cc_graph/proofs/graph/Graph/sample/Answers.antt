@@ -1,6 +1,4 @@
-use Rattle.std.proofs.Common.{◌<◌, ◌∙◌, ap, arith, length, refl}
-use Rattle.cc_graph.specs.Shown.{Shown, change_vertex, with_sample}
-use Rattle.cc_graph.specs.Kept.{vertex_of, vertices}
+use Rattle.std.proofs.Common.{◌<◌, ◌∙◌, ap, arith, length}
 use Rattle.cc_graph.proofs.Numbering.{length-vertices}
 use Rattle.cc_graph.proofs.Whole.{rooms-same, shown-same, vertices-changed, whole-put}
 use Rattle.cc_graph.proofs.graph.Graph.sample.Goals as goal

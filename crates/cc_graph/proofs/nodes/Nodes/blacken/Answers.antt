@@ -1,6 +1,5 @@
-use Rattle.std.proofs.Common.{◌≡◌, ◌<◌, ◌∙◌, ◌==◌, ◌++◌, ◌∷◌, [], ap, sym, arith, length, false, rules}
+use Rattle.std.proofs.Common.{◌≡◌, ◌<◌, ◌∙◌, ◌==◌, ap, arith, length, false, rules}
 use Rattle.cc_lists.specs.Members.{has}
-use Rattle.cc_graph.specs.Kept.{Numbered, with_black_node}
 use Rattle.cc_graph.proofs.Numbering.{numbered-room, numbered-blackened, numbered-same, black_node-at}
 use Rattle.cc_graph.proofs.nodes.Nodes.blacken.Goals as goal
 

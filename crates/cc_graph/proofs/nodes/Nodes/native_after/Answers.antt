@@ -1,6 +1,4 @@
-use Rattle.std.proofs.Common.{◌∙◌, ap, arith}
-use Rattle.cc_graph.specs.Kept.{number_at, vertices}
-use Rattle.cc_graph.specs.Shown.{number_of}
+use Rattle.std.proofs.Common.{arith}
 use Rattle.cc_graph.proofs.NodesByName.{next-some, last-none}
 use Rattle.cc_graph.proofs.nodes.Nodes.native_after.Goals as goal
 

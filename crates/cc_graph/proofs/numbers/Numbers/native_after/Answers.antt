@@ -1,5 +1,4 @@
-use Rattle.std.proofs.Common.{◌≡◌, ℕ, ◌≤◌, None, subst, arith}
-use Rattle.cc_pages.specs.Values.{IsFirst, behind, value_at}
+use Rattle.std.proofs.Common.{arith}
 use Rattle.cc_graph.proofs.numbers.Numbers.native_after.Goals as goal
 
 pub returns-in-Some-clause-next : goal.returns-in-Some-clause-next
