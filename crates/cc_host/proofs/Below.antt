@@ -37,7 +37,7 @@ use Rattle.cc_host.specs.declared.stop.Stop.{Stop}
 use Rattle.cc_host.specs.declared.stop.Stop.TheVariants.{Gone, Index}
 use Rattle.cc_host.specs.Hosted.{Hosted, IsKept, roots}
 use Rattle.cc_host.specs.Paths.{native_below, native_in_slot, native_only, slots_below, slots_of_any}
-use Rattle.cc_host.specs.Stops.{first, is_free, stop_at, stop_if_any, stop_free_below_root, stop_root, stop_storing_below_root, where_so}
+use Rattle.cc_host.specs.Stops.{first, is_free, stop_at, stop_if_any, stop_free_below_root, stop_root, stop_slot_below_root, stop_storing_below_root, where_so}
 use Rattle.cc_host.proofs.Reading.{native_slots-many, native_slot-held}
 use Rattle.cc_host.proofs.Stopping.{at-second, within}
 use Rattle.cc_host.proofs.Storing.{native_name-is}
@@ -161,6 +161,13 @@ module _ (h : Hosted) (r : ℕ) (path : List ℕ) (key : NKey) (name : native_na
       let content = stop_if_any stop_at h y in
       at-second (stop_root r) (first holds (first content index)) s (within roots r Index few)
       (at-second holds (first content index) s below-there (at-second content index s passes is))
+
+  -- a slot is read as its index allows
+  pub below-reading : (i : ℕ) (s : Option Stop) → r < roots → where_so (nat_le (length (slots_below h r path)) i) Index ≡ s → stop_slot_below_root h r path i ≡ s
+  below-reading i s few is =
+      let index = where_so (nat_le (length (slots_below h r path)) i) Index in
+      let holds = where_so (is_none (native_below h r path)) Gone in
+      at-second (stop_root r) (first holds index) s (within roots r Index few) (at-second holds index s below-there is)
 
   -- whether the slot is free
   pub below-free : (i : ℕ) (b : Bool) → is_free (slots_below h r path) i ≡ b → stop_free_below_root h r path i ≡ where_so (not b) Index

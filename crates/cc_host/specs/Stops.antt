@@ -148,6 +148,11 @@ stop_storing_below_root h r path i y =
     (first (where_so (is_none (native_below h r path)) Gone)
     (first (stop_if_any stop_at h y) (where_so (nat_le (length (slots_below h r path)) i) Index)))
 
+-- a slot of the native below a root is read
+abbrev pub stop_slot_below_root : Hosted → ℕ → List ℕ → ℕ → Option Stop
+stop_slot_below_root h r path i =
+    first (stop_root r) (first (where_so (is_none (native_below h r path)) Gone) (where_so (nat_le (length (slots_below h r path)) i) Index))
+
 -- a native is made in an empty slot of the native below a root
 abbrev pub is_free : Slots → ℕ → Bool
 is_free slots i = nat_lt i (length slots) && is_none (slice_index_or slots i None)

@@ -1,13 +1,18 @@
 -- A NATIVE BROUGHT BACK into a root without number: its steps in a row.
-use Rattle.std.proofs.Common.{◌≡◌, ℕ, List, Option, Some, None, Result, Ok, Err, OnErr, IfOk}
+use Rattle.std.proofs.Common.{◌≡◌, ℕ, Bool, true, false, Option, Some, None, Result, Ok, Err, OnErr, IfOk, if◌then◌else◌, ap, sym, subst}
 use Rattle.cc_names.specs.declared.name.Name.{Name}
 use Rattle.cc_names.specs.declared.register.Reg.TheVariants.{N}
 use Rattle.cc_model.specs.Graph as graph
+use Rattle.cc_model.specs.View.{view}
+use Rattle.cc_laws_run.specs.Doomed.{IsDoomed}
 use Rattle.cc_heaps.specs.Standing.{IsReached, StandsAfter}
 use Rattle.cc_heaps.proofs.Leaving.{nothing-told}
 use Rattle.cc_host.specs.declared.stop.Stop.{Stop}
 use Rattle.cc_host.specs.Calls.{Always, Brings, Does, TellsFreed}
-use Rattle.cc_host.specs.Hosted.{Hosted}
+use Rattle.cc_host.specs.declared.object.Object.{Object}
+use Rattle.cc_host.specs.declared.weak.Weak.{Weak}
+use Rattle.cc_host.specs.Referring.{has_ended, referent, upgraded}
+use Rattle.cc_host.specs.Hosted.{Hosted, named}
 use Rattle.cc_host.specs.Missing.{KeepsDoomed, KeepsDoomedBut}
 use Rattle.cc_host.specs.Queues.{told_all}
 use Rattle.cc_host.proofs.Composing.{stands-then}
@@ -53,3 +58,22 @@ told-nothing s = nothing-told s.host.heaps.heap s.host.heaps.heap (told_all s.to
 -- One step that tells, and two that do nothing.
 pub told-once : (a b : State) → TellsFreed a.host b.host (told_all a.told) (told_all b.told) → TellsInThree a b
 told-once a b t = (b, t, (b, told-nothing b, told-nothing b))
+
+-- A native that is brought back is that of the weak reference.
+pub brought-bring : (a b c : Hosted) (w : Weak) (x : Object) (index : ℕ) → upgraded a w ≡ Some x →
+    Brings (named (upgraded a w)) (λ g. graph.set_register g (N meanwhile) (named (upgraded a w))) a b →
+    StandsAfter b.heaps.heap c.heaps.heap (rooted_from meanwhile index x.name) → StandsAfter a.heaps.heap c.heaps.heap (brought_back index (referent w).name)
+brought-bring a b c w x index e d t = subst (λ n. StandsAfter a.heaps.heap c.heaps.heap (brought_back index n)) same
+    (brought-stands a b c index x.name (subst (λ o. StandsAfter a.heaps.heap b.heaps.heap (λ g. graph.set_register g (N meanwhile) o)) (ap named e) d.stands) t)
+  where
+    same : x.name ≡ (referent w).name
+    same = go (has_ended a w) e
+      where
+        go : (b : Bool) → (if b then None else Some (referent w)) ≡ Some x → x.name ≡ (referent w).name
+        go true f = absurd (cc)
+        go false f = let s : referent w ≡ x = cc in ap (λ o. o.name) (sym s)
+
+-- Where nothing changes, what is doomed stays so.
+pub brought-none : (a b : Hosted) (x : Option Name) → b ≡ a → KeepsDoomedBut x a.heaps.heap b.heaps.heap
+unfolding KeepsDoomedBut
+brought-none a b x e s ds keeps none i = subst (λ (h : Hosted). IsDoomed (view h.heaps.heap) s ds) (sym e) i

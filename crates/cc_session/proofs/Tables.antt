@@ -35,6 +35,11 @@ pub none-named : (x : Option Object) → is_some x ≡ false → named x ≡ Non
 none-named None e = refl
 none-named (Some x) e = absurd (false≢true (sym e))
 
+-- What is so where a call does not go well, where it did not.
+pub went_badly : {T E P : Type 0} (r : Result T E) → is_err r ≡ true → OnErr r P → P
+went_badly (Ok x) e p = absurd (false≢true e)
+went_badly (Err x) e p = p
+
 -- what is so where a call goes well, where it went well
 pub went_well : {T E P : Type 0} (r : Result T E) → is_err r ≡ false → OnOk r P → P
 went_well (Ok x) e p = p

@@ -14,7 +14,7 @@ ghost use Rattle.cc_heaps.specs.Standing.{IsReached};
 ghost use Rattle.cc_host.specs.Calls.{Always, Comes, Does, NoneComes, TellsFreed};
 ghost use Rattle.cc_host.specs.Hosted.{IsRootedIfAny, IsThere, IsThereIfAny, named, roots};
 ghost use Rattle.cc_host.specs.Paths.{hung, native_below, native_in_slot, slots_below};
-ghost use Rattle.cc_host.specs.Stops.{IsStoppedBy, IsStoppedOrRefused, stop_free_below_root, stop_making_below_root, stop_storing_at_root, stop_storing_below_root};
+ghost use Rattle.cc_host.specs.Stops.{IsStoppedBy, IsStoppedOrRefused, stop_free_below_root, stop_making_below_root, stop_slot_below_root, stop_storing_at_root, stop_storing_below_root};
 
 use crate::changes;
 use crate::host::{Host, ROOTS};
@@ -100,6 +100,30 @@ impl Host {
             return None;
         }
         self.of_native(self.key_below_root(r, path))
+    }
+
+    /// What slot `i` holds of the native to which `path` leads from native root `r`, counted from 0: as `slot` has it, and the root
+    /// reaches the native. `Gone` where the path leads to no native.
+    pub fn slot_below_root(
+        &self,
+        r: RegNo,
+        path: &[SlotNo],
+        i: SlotNo,
+    ) -> Result<Option<Object>, Stop>
+        ensures stops { IsStoppedBy (stop_slot_below_root self.now r path.now i) result }
+        ensures name { IfOk result (λ held. named held ≡ slice_index_or (slots_below self.now r path.now) i None) }
+        ensures there { IfOk result (λ held. IsThereIfAny self.now held) }
+    {
+        if r >= ROOTS {
+            return Err(Stop::Index);
+        }
+        let Some(key) = self.key_below_root(r, path) else {
+            return Err(Stop::Gone);
+        };
+        if i >= self.heaps.counted().slots(key) {
+            return Err(Stop::Index);
+        }
+        Ok(self.of_held(self.heaps.counted().slot(key, i)))
     }
 
     /// Slot `i` of the native to which `path` leads from native root `r` holds another object from then on, or nothing: each

@@ -72,10 +72,7 @@ impl Session {
         ensures name { IfOk result (λ held. named held ≡ slice_index_or (slots_below self.now.host r path.now) i None) }
         ensures there { IfOk result (λ held. IsThereIfAny self.now.host held) }
     {
-        match self.host.native_below_root(r, path) {
-            Some(table) => self.host.slot(table, i),
-            None => Err(Stop::Gone),
-        }
+        self.host.slot_below_root(r, path, i)
     }
 
     // A register that holds nothing gets a table.

@@ -1,9 +1,10 @@
 use Rattle.std.proofs.Common.{◌≡◌, sym, ◌∙◌, ap, subst}
 use Rattle.cc_host.specs.Hosted.{IsKept, IsRootedIfAny, named}
 use Rattle.cc_host.specs.Paths.{native_below}
+use Rattle.cc_session.specs.Roots.{Grows}
 use Rattle.cc_session.specs.Sessions.{State}
 use Rattle.cc_session.proofs.Grown.{grows-same}
-use Rattle.cc_session.proofs.Tables.{tie-made, tie-there, went_well}
+use Rattle.cc_session.proofs.Tables.{tie-made, tie-there, went_badly, went_well}
 use Rattle.cc_session.proofs.session.Session.tie.Goals as goal
 
 pub returns-in-Ok-Some-clause-grows : goal.returns-in-Ok-Some-clause-grows
@@ -23,3 +24,9 @@ returns-clause-grows c =
     let reached = subst (λ (s : State). IsRootedIfAny s.host t.result) c.self.view_is t.ensures.reached in
     tie-made c.args.self.now e.kept.0 c.args.r c.args.path.now c.write_table-stored.new.self e.kept.1 e.tells (e.reaches (sym none)) e.aside
     none t.result found reached (went_well c.write_table-stored.result (sym c.is_err.ensures.value ∙ c.if-is_err.false) e.does) e.none_came e.made
+
+pub returns-then-is_err-clause-same : goal.returns-then-is_err-clause-same
+returns-then-is_err-clause-same c =
+    let e = c.write_table-stored.ensures in
+    subst (λ (s : State). Grows (λ g. g) c.args.self.now s) (sym (went_badly c.write_table-stored.result (sym c.is_err.ensures.value ∙ c.if-is_err.true) e.same))
+    (grows-same c.args.self.now (subst (λ (t : State). IsKept t.host) c.self.view_is c.keeps.ensures))
