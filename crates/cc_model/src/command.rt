@@ -5,9 +5,9 @@ use cc_names::{Name, Reg, RegNo, SlotNo, WeakNo};
 /// What one line of the input asks, by its word and its tokens in their order.
 ///
 /// The first register of a command that has a destination is the destination. Registers are 0 to 1023 (their type has room for
-/// those that a host alone names), numbers of slots 0 to 256, indexes of slots 0 to 4294967295, numbers of units 1 to 1000000.
-/// Version 1 of the language names the registers 0 to 255 alone, and gives 64 slots at most. No line asks `forget`, `weak`,
-/// `deref`, `mark` or `drop wX` yet: these are out of range.
+/// those that a host alone names), weak registers 0 to 255, numbers of slots 0 to 256, indexes of slots 0 to 4294967295, numbers
+/// of units 1 to 1000000. Version 1 of the language names the registers 0 to 255 alone, gives 64 slots at most, and has no `move`,
+/// `why`, `forget`, `weak`, `deref` and `drop wX`. No line asks `mark` yet: it is out of range.
 #[derive(Clone, Copy, Debug, PartialEq, Eq, Drop)]
 pub enum Command {
     /// A blank line or a comment.
