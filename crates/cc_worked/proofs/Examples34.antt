@@ -36,6 +36,12 @@ pub all_weak_registers : Works default_limits ample input.all_weak_registers
 unfolding all_of_a_run
 all_weak_registers = record { writes = refl; passes = refl; audited = refl }
 
+-- All 256 weak registers note one native, keep it no more than one does, and give it till it has ended.
+pub every_weak_register_notes_one_native : Works default_limits ample input.every_weak_register_notes_one_native
+    (codes "= ok\n= #1\n= ok\n= #1\n= #1\n= #1\n= #1\n= #1\n= #1\n= #1\n= #1\n= #1\n= #1\n= #1\n= #1\n= #1\n= #1\n= #1\n= #1\n= #1\n= #1\n= #1\n= #1\n= #1\n= #1\n= #1\n= #1\n= #1\n= #1\n= #1\n= #1\n= #1\n= #1\n= #1\n= #1\n= #1\n= #1\n= #1\n= #1\n= #1\n= #1\n= #1\n= #1\n= #1\n= #1\n= #1\n= #1\n= #1\n= #1\n= #1\n= #1\n= #1\n= #1\n= #1\n= #1\n= #1\n= #1\n= #1\n= #1\n= #1\n= #1\n= #1\n= #1\n= #1\n= #1\n= #1\n= #1\n= #1\n= #1\n= #1\n= #1\n= #1\n= #1\n= #1\n= #1\n= #1\n= #1\n= #1\n= #1\n= #1\n= #1\n= #1\n= #1\n= #1\n= #1\n= #1\n= #1\n= #1\n= #1\n= #1\n= #1\n= #1\n= #1\n= #1\n= #1\n= #1\n= #1\n= #1\n= #1\n= #1\n= #1\n= #1\n= #1\n= #1\n= #1\n= #1\n= #1\n= #1\n= #1\n= #1\n= #1\n= #1\n= #1\n= #1\n= #1\n= #1\n= #1\n= #1\n= #1\n= #1\n= #1\n= #1\n= #1\n= #1\n= #1\n= #1\n= #1\n= #1\n= #1\n= #1\n= #1\n= #1\n= #1\n= #1\n= #1\n= #1\n= #1\n= #1\n= #1\n= #1\n= #1\n= #1\n= #1\n= #1\n= #1\n= #1\n= #1\n= #1\n= #1\n= #1\n= #1\n= #1\n= #1\n= #1\n= #1\n= #1\n= #1\n= #1\n= #1\n= #1\n= #1\n= #1\n= #1\n= #1\n= #1\n= #1\n= #1\n= #1\n= #1\n= #1\n= #1\n= #1\n= #1\n= #1\n= #1\n= #1\n= #1\n= #1\n= #1\n= #1\n= #1\n= #1\n= #1\n= #1\n= #1\n= #1\n= #1\n= #1\n= #1\n= #1\n= #1\n= #1\n= #1\n= #1\n= #1\n= #1\n= #1\n= #1\n= #1\n= #1\n= #1\n= #1\n= #1\n= #1\n= #1\n= #1\n= #1\n= #1\n= #1\n= #1\n= #1\n= #1\n= #1\n= #1\n= #1\n= #1\n= #1\n= #1\n= #1\n= #1\n= #1\n= #1\n= #1\n= #1\n= #1\n= #1\n= #1\n= #1\n= #1\n= #1\n= #1\n= #1\n= #1\n= #1\n= #1\n= #1\n= #1\n= #1\n= #1\n= #1\n= #1\n= #1\n= #1\n= #1\n= #1\n= #1\n= #1\n= #1\n= #1\n= #1\n= #1\n= #1\n= #1\n= #1\n= #1\n= #1\n= #1\n= #1\n= #1\n= ok\n= #1\n= #1\n= #1\n= ok\n= ok\n- unlink #1\n- free #1\n= ok\n= none\n= none\n")
+unfolding all_of_a_run
+every_weak_register_notes_one_native = record { writes = refl; passes = refl; audited = refl }
+
 -- The map of an entry and its key are brought back one after the other, so the value is kept though it was reached at no moment.
 pub map_and_key_come_back_at_different_moments : Works default_limits ample input.map_and_key_come_back_at_different_moments
     (codes "= ok\n= #1\n= ok\n= @1\n= ok\n= #1\n= #2\n= ok\n= @2\n= ok\n= #2\n= #3\n= ok\n= ~3\n= @3\n= ok\n= ok\n= ok\n= ok\n= ok\n= ok\n= ok\n= ok\n= ok\n= ok\n= ok\n= #1\n= ok\n= #2\n= ok\n= ok\n- unlink #1\n- unlink #2\n- unlink #3\n- free #1\n- free #2\n= ok\n+ #3\n+ @1\n+ @2\n+ ~3\n+ @3\n= census 5\n")
@@ -47,9 +53,3 @@ pub gray_script_object_of_a_native_brought_back : Works default_limits ample inp
     (codes "= ok\n= #1\n= ok\n= @1\n= ok\n= ok\n= #1\n= ok\n= ok\n= ok\n= ok\n= #1\n= @1\n= ok\n= ok\n- unlink #1\n- free #1\n= ok\n+ @1\n= census 1\n")
 unfolding all_of_a_run
 gray_script_object_of_a_native_brought_back = record { writes = refl; passes = refl; audited = refl }
-
--- A native whose mark was taken is a suspect again once what a weak register brought back is let go.
-pub forgotten_suspect_is_brought_back : Works default_limits ample input.forgotten_suspect_is_brought_back
-    (codes "= ok\n= #1\n= ok\n= #1\n= #1\n= ok\n= ok\n= ok\n= ok\n= #1\n= ok\n= ok\n= ok\n- unlink #1\n- free #1\n= ok\n= none\n")
-unfolding all_of_a_run
-forgotten_suspect_is_brought_back = record { writes = refl; passes = refl; audited = refl }

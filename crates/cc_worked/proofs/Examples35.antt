@@ -6,6 +6,12 @@ use Rattle.cc_worked.specs.Inputs as input
 use Rattle.cc_worked.specs.Works.{Works}
 use Rattle.cc_worked.proofs.Opened.{all_of_a_run}
 
+-- A native whose mark was taken is a suspect again once what a weak register brought back is let go.
+pub forgotten_suspect_is_brought_back : Works default_limits ample input.forgotten_suspect_is_brought_back
+    (codes "= ok\n= #1\n= ok\n= #1\n= #1\n= ok\n= ok\n= ok\n= ok\n= #1\n= ok\n= ok\n= ok\n- unlink #1\n- free #1\n= ok\n= none\n")
+unfolding all_of_a_run
+forgotten_suspect_is_brought_back = record { writes = refl; passes = refl; audited = refl }
+
 -- Weak and deref take a weak and a native register in their own order, and no other word but drop names a weak register.
 pub refused_forms_of_weak_registers : Works default_limits ample input.refused_forms_of_weak_registers
     (codes "= ok\n= #1\n= @1\n! line\n! line\n! line\n! line\n! line\n! line\n! line\n! line\n! line\n! line\n! line\n! line\n! line\n! line\n! line\n! line\n! line\n! line\n! line\n! line\n= #1\n= #1\n")

@@ -1078,6 +1078,10 @@ weak_register_is_noted_again = codes "version 2\nnative n0 0\nnative n1 0\nweak 
 abbrev pub all_weak_registers : List ℕ
 all_weak_registers = codes "version 2\nnative n0 0\nweak w255 n0\nweak w256 n0\nderef n1 w255\nderef n1 w256\ndrop w256\ndrop w255\nderef n1 w255\nweak w00 n0\nweak w0 n1023\nderef n1023 w0\nweak w0 n1024\nweak w-1 n0\n"
 
+-- All 256 weak registers note one native, keep it no more than one does, and give it till it has ended.
+abbrev pub every_weak_register_notes_one_native : List ℕ
+every_weak_register_notes_one_native = codes "version 2\nnative n0 1\nset n0 0 n0\nweak w0 n0\nweak w1 n0\nweak w2 n0\nweak w3 n0\nweak w4 n0\nweak w5 n0\nweak w6 n0\nweak w7 n0\nweak w8 n0\nweak w9 n0\nweak w10 n0\nweak w11 n0\nweak w12 n0\nweak w13 n0\nweak w14 n0\nweak w15 n0\nweak w16 n0\nweak w17 n0\nweak w18 n0\nweak w19 n0\nweak w20 n0\nweak w21 n0\nweak w22 n0\nweak w23 n0\nweak w24 n0\nweak w25 n0\nweak w26 n0\nweak w27 n0\nweak w28 n0\nweak w29 n0\nweak w30 n0\nweak w31 n0\nweak w32 n0\nweak w33 n0\nweak w34 n0\nweak w35 n0\nweak w36 n0\nweak w37 n0\nweak w38 n0\nweak w39 n0\nweak w40 n0\nweak w41 n0\nweak w42 n0\nweak w43 n0\nweak w44 n0\nweak w45 n0\nweak w46 n0\nweak w47 n0\nweak w48 n0\nweak w49 n0\nweak w50 n0\nweak w51 n0\nweak w52 n0\nweak w53 n0\nweak w54 n0\nweak w55 n0\nweak w56 n0\nweak w57 n0\nweak w58 n0\nweak w59 n0\nweak w60 n0\nweak w61 n0\nweak w62 n0\nweak w63 n0\nweak w64 n0\nweak w65 n0\nweak w66 n0\nweak w67 n0\nweak w68 n0\nweak w69 n0\nweak w70 n0\nweak w71 n0\nweak w72 n0\nweak w73 n0\nweak w74 n0\nweak w75 n0\nweak w76 n0\nweak w77 n0\nweak w78 n0\nweak w79 n0\nweak w80 n0\nweak w81 n0\nweak w82 n0\nweak w83 n0\nweak w84 n0\nweak w85 n0\nweak w86 n0\nweak w87 n0\nweak w88 n0\nweak w89 n0\nweak w90 n0\nweak w91 n0\nweak w92 n0\nweak w93 n0\nweak w94 n0\nweak w95 n0\nweak w96 n0\nweak w97 n0\nweak w98 n0\nweak w99 n0\nweak w100 n0\nweak w101 n0\nweak w102 n0\nweak w103 n0\nweak w104 n0\nweak w105 n0\nweak w106 n0\nweak w107 n0\nweak w108 n0\nweak w109 n0\nweak w110 n0\nweak w111 n0\nweak w112 n0\nweak w113 n0\nweak w114 n0\nweak w115 n0\nweak w116 n0\nweak w117 n0\nweak w118 n0\nweak w119 n0\nweak w120 n0\nweak w121 n0\nweak w122 n0\nweak w123 n0\nweak w124 n0\nweak w125 n0\nweak w126 n0\nweak w127 n0\nweak w128 n0\nweak w129 n0\nweak w130 n0\nweak w131 n0\nweak w132 n0\nweak w133 n0\nweak w134 n0\nweak w135 n0\nweak w136 n0\nweak w137 n0\nweak w138 n0\nweak w139 n0\nweak w140 n0\nweak w141 n0\nweak w142 n0\nweak w143 n0\nweak w144 n0\nweak w145 n0\nweak w146 n0\nweak w147 n0\nweak w148 n0\nweak w149 n0\nweak w150 n0\nweak w151 n0\nweak w152 n0\nweak w153 n0\nweak w154 n0\nweak w155 n0\nweak w156 n0\nweak w157 n0\nweak w158 n0\nweak w159 n0\nweak w160 n0\nweak w161 n0\nweak w162 n0\nweak w163 n0\nweak w164 n0\nweak w165 n0\nweak w166 n0\nweak w167 n0\nweak w168 n0\nweak w169 n0\nweak w170 n0\nweak w171 n0\nweak w172 n0\nweak w173 n0\nweak w174 n0\nweak w175 n0\nweak w176 n0\nweak w177 n0\nweak w178 n0\nweak w179 n0\nweak w180 n0\nweak w181 n0\nweak w182 n0\nweak w183 n0\nweak w184 n0\nweak w185 n0\nweak w186 n0\nweak w187 n0\nweak w188 n0\nweak w189 n0\nweak w190 n0\nweak w191 n0\nweak w192 n0\nweak w193 n0\nweak w194 n0\nweak w195 n0\nweak w196 n0\nweak w197 n0\nweak w198 n0\nweak w199 n0\nweak w200 n0\nweak w201 n0\nweak w202 n0\nweak w203 n0\nweak w204 n0\nweak w205 n0\nweak w206 n0\nweak w207 n0\nweak w208 n0\nweak w209 n0\nweak w210 n0\nweak w211 n0\nweak w212 n0\nweak w213 n0\nweak w214 n0\nweak w215 n0\nweak w216 n0\nweak w217 n0\nweak w218 n0\nweak w219 n0\nweak w220 n0\nweak w221 n0\nweak w222 n0\nweak w223 n0\nweak w224 n0\nweak w225 n0\nweak w226 n0\nweak w227 n0\nweak w228 n0\nweak w229 n0\nweak w230 n0\nweak w231 n0\nweak w232 n0\nweak w233 n0\nweak w234 n0\nweak w235 n0\nweak w236 n0\nweak w237 n0\nweak w238 n0\nweak w239 n0\nweak w240 n0\nweak w241 n0\nweak w242 n0\nweak w243 n0\nweak w244 n0\nweak w245 n0\nweak w246 n0\nweak w247 n0\nweak w248 n0\nweak w249 n0\nweak w250 n0\nweak w251 n0\nweak w252 n0\nweak w253 n0\nweak w254 n0\nweak w255 n0\ndrop n0\nderef n1 w0\nderef n2 w255\nderef n1 w128\ndrop n1\ndrop n2\ncollect\nderef n1 w0\nderef n1 w255\n"
+
 -- The map of an entry and its key are brought back one after the other, so the value is kept though it was reached at no moment.
 abbrev pub map_and_key_come_back_at_different_moments : List ℕ
 map_and_key_come_back_at_different_moments = codes "version 2\nnative n0 2\nset n0 1 n0\nweakmap s0\nset n0 0 s0\nweak w0 n0\nnative n1 2\nset n1 1 n1\nscript s1 0\nset n1 0 s1\nweak w1 n1\nnative n2 1\nset n2 0 n2\nwrap s3 n2\nscript s2 1\nput s2 0 s3\nwset s0 s1 s2\ndrop n0\ndrop n1\ndrop n2\ndrop s0\ndrop s1\ndrop s2\ndrop s3\ngc\nslice 1\nderef n0 w0\ndrop n0\nderef n1 w1\ndrop n1\nslice 99\ncollect\ncensus\n"
