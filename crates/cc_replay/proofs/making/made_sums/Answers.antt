@@ -28,3 +28,7 @@ returns c =
     let done = made-done c.args.seed c.args.count c.requires c.answer_input-status.result _ c.in_ok-heaps.heaps.heap.limits given limits c.answer_input-status.ensures.done_always in
     made-run c.args.seed c.args.count c.requires c.in_ok-heaps.heaps.heap.limits limits c.new-counter.result c.answer_input-status.new.out c.sums.result
     c.new-counter.ensures c.sums.ensures (c.answer_input-status.ensures.counted done _ given)
+
+-- registers that note nothing hold their keys
+pub answer_input-status-requires-clause-keys : goal.answer_input-status-requires-clause-keys
+answer_input-status-requires-clause-keys c = c.in_ok-weak.ensures.keys c.in_ok-heaps.heaps
