@@ -26,4 +26,5 @@ pub mod Growing
 pub mod LettingGo
 pub mod MadeBelow
 pub mod MadeChange
+pub mod MadeTaken
 pub mod Counting

@@ -3,7 +3,7 @@
 //! What is written is in a register of the host's own meanwhile, so that it is reached; what is stored is exposed before, so
 //! that it is black. When the native leaves that register again it is a suspect, and the next collection looks at it. What a
 //! root holds needs no other register, and stays what it was.
-ghost use Rattle.std.specs.Prelude.{◌≡◌, ◌⊎◌, ◌+◌, ◌<◌, ◌≤◌, ℕ, [], length, Option, Some, None, Err, IsSome, IfOk, OnOk, OnErr};
+ghost use Rattle.std.specs.Prelude.{◌≡◌, ◌⊎◌, ◌+◌, ◌<◌, ◌≤◌, ℕ, false, [], length, Option, Some, None, Err, IsSome, IfOk, OnOk, OnErr};
 ghost use Rattle.cc_lists.specs.Members.{Among};
 ghost use Rattle.cc_names.specs.declared.name.Name.{Name};
 ghost use Rattle.cc_names.specs.declared.register.Reg.TheVariants.{N as n_register};
@@ -15,7 +15,7 @@ ghost use Rattle.cc_model.specs.Graph as graph;
 ghost use Rattle.cc_model.specs.Heap.{native_at, register};
 ghost use Rattle.cc_model.specs.Telling.{TellsEvents};
 ghost use Rattle.cc_model.specs.WellFormed.{names_there};
-ghost use Rattle.cc_counted.specs.Counts.{slots_of};
+ghost use Rattle.cc_counted.specs.Counts.{slots_of, unlinked_at};
 ghost use Rattle.cc_heaps.specs.Keyed.{IsInOrder, counts_of, number_at, the_number};
 ghost use Rattle.cc_heaps.specs.Changes.{IsBlackHeld, IsNativeThere, IsThere, held_name, native_name, script_name, slot_held};
 ghost use Rattle.cc_heaps.specs.Leaving.{NoneCame, TellsWhatIsFreed};
@@ -254,6 +254,7 @@ pub(crate) fn make_below<N: Notices>(
     requires slots { slots ≤ most_slots }
     ensures change { OnOk result (IsChange (Unit {0}) (hung (native_name heaps.old (Some above)) i slots (Some (native (heaps.old.heap.natives_made + 1)))) heaps.old heaps.new) }
     ensures name { IfOk result (λ key. native_name heaps.new (Some key) ≡ Some (native (heaps.old.heap.natives_made + 1))) }
+    ensures whole { OnOk result (unlinked_at (native_at heaps.new.heap (heaps.old.heap.natives_made + 1)) ≡ false) }
     ensures full { result ≡ Err MakeStop.Full → heaps.old.heap.limits.natives ≤ heaps.old.heap.natives_made }
     ensures full_always { heaps.old.heap.limits.natives ≤ heaps.old.heap.natives_made → result ≡ Err MakeStop.Full }
     ensures same { OnErr result (heaps.new ≡ heaps.old) }

@@ -1,12 +1,13 @@
 //! Objects made, each in a root, and where they stand.
-ghost use Rattle.std.specs.Prelude.{◌≡◌, ◌+◌, ◌<◌, ◌≤◌, Option, Some, None, Err, IsTrue, IfOk, OnOk, OnErr};
+ghost use Rattle.std.specs.Prelude.{◌≡◌, ◌+◌, ◌<◌, ◌≤◌, false, Option, Some, None, Err, IsTrue, IfOk, OnOk, OnErr};
 ghost use Rattle.cc_names.specs.Names.{native, object};
 ghost use Rattle.cc_names.specs.Sizes.{most_slots};
 ghost use Rattle.cc_names.specs.declared.name.Name.{Name};
 ghost use Rattle.cc_names.specs.declared.register.Reg.TheVariants.{N as n_register, S as s_register};
 ghost use Rattle.cc_model.specs.declared.command.Command.TheVariants as command;
 ghost use Rattle.cc_model.specs.Graph as graph;
-ghost use Rattle.cc_model.specs.Heap.{register};
+ghost use Rattle.cc_model.specs.Heap.{native_at, register};
+ghost use Rattle.cc_counted.specs.Counts.{unlinked_at};
 ghost use Rattle.cc_script.specs.Objects.{is_there};
 ghost use Rattle.cc_heaps.specs.Changes.{native_name, script_name};
 ghost use Rattle.cc_heaps.specs.Leaving.{NoneCame, TellsWhatIsFreed};
@@ -32,6 +33,7 @@ pub(crate) fn make_native<N: Notices>(
     ensures change { OnOk result (IsChange (Unit {0}) (λ g. graph.step g (command.Native r slots)) heaps.old heaps.new) }
     ensures name { IfOk result (λ key. native_name heaps.new (Some key) ≡ Some (native (heaps.old.heap.natives_made + 1))) }
     ensures held { OnOk result (register heaps.new.heap (n_register r) ≡ Some (native (heaps.old.heap.natives_made + 1))) }
+    ensures whole { OnOk result (unlinked_at (native_at heaps.new.heap (heaps.old.heap.natives_made + 1)) ≡ false) }
     ensures full { result ≡ Err MakeStop.Full → heaps.old.heap.limits.natives ≤ heaps.old.heap.natives_made }
     ensures full_always { heaps.old.heap.limits.natives ≤ heaps.old.heap.natives_made → result ≡ Err MakeStop.Full }
     ensures same { OnErr result (heaps.new ≡ heaps.old) }

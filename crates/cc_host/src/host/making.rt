@@ -9,7 +9,7 @@ ghost use Rattle.cc_model.specs.Heap.{register};
 ghost use Rattle.cc_heaps.specs.Standing.{IsReached};
 ghost use Rattle.cc_host.specs.Calls.{Always, Comes, Does, NoneComes, TellsFreed, Tries};
 ghost use Rattle.cc_host.specs.Hosted.{IsRooted, IsThere};
-ghost use Rattle.cc_host.specs.Stops.{IsStoppedOrRefused, are_natives_made, are_scripts_made, stop_making, stop_proxy};
+ghost use Rattle.cc_host.specs.Stops.{IsStoppedOrRefused, are_natives_made, are_scripts_made, stop_at, stop_making, stop_proxy};
 
 use crate::changes::{make_map, make_native, make_plain, make_proxy};
 use crate::host::{Host, ROOTS};
@@ -31,6 +31,7 @@ impl Host {
         ensures stops { IsStoppedOrRefused (stop_making r slots (are_natives_made self.old)) result }
         ensures does { OnOk result (Does Always (λ g. graph.step g (command.Native r slots)) self.old self.new) }
         ensures there { IfOk result (λ x. IsThere self.new x) }
+        ensures taken { IfOk result (λ x. stop_at self.new x ≡ None) }
         ensures name { IfOk result (λ x. x.name ≡ native (self.old.heaps.heap.natives_made + 1)) }
         ensures held { IfOk result (λ x. register self.new.heaps.heap (n_register r) ≡ Some x.name) }
         ensures same { OnErr result (self.new ≡ self.old) }

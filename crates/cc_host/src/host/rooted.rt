@@ -14,7 +14,7 @@ ghost use Rattle.cc_heaps.specs.Standing.{IsReached};
 ghost use Rattle.cc_host.specs.Calls.{Always, Comes, Does, NoneComes, TellsFreed};
 ghost use Rattle.cc_host.specs.Hosted.{IsRootedIfAny, IsThere, IsThereIfAny, named, roots};
 ghost use Rattle.cc_host.specs.Paths.{hung, native_below, native_in_slot, slots_below};
-ghost use Rattle.cc_host.specs.Stops.{IsStoppedBy, IsStoppedOrRefused, stop_free_below_root, stop_making_below_root, stop_slot_below_root, stop_storing_at_root, stop_storing_below_root};
+ghost use Rattle.cc_host.specs.Stops.{IsStoppedBy, IsStoppedOrRefused, stop_at, stop_free_below_root, stop_making_below_root, stop_slot_below_root, stop_storing_at_root, stop_storing_below_root};
 
 use crate::changes;
 use crate::host::{Host, ROOTS};
@@ -201,6 +201,7 @@ impl Host {
         ensures stops { IsStoppedOrRefused (stop_making_below_root self.old r path.now i slots) result }
         ensures does { OnOk result (Does Always (hung (native_below self.old r path.now) i slots (Some (native (self.old.heaps.heap.natives_made + 1)))) self.old self.new) }
         ensures there { IfOk result (λ x. IsThere self.new x) }
+        ensures taken { IfOk result (λ x. stop_at self.new x ≡ None) }
         ensures name { IfOk result (λ x. x.name ≡ native (self.old.heaps.heap.natives_made + 1)) }
         ensures same { OnErr result (self.new ≡ self.old) }
         ensures tells { TellsFreed self.old self.new (N.telling out.old) (N.telling out.new) }

@@ -3,6 +3,9 @@ use Rattle.cc_names.specs.Names.{native}
 use Rattle.cc_heaps.specs.Changes.{native_name}
 use Rattle.cc_heaps.proofs.FewCounts.{none-owned}
 use Rattle.cc_host.proofs.MadeChange.{held-b, live-b, order-then, change-came, change-made, change-name, change-reached, change-reaches, change-tells, within-b}
+use Rattle.cc_heaps.specs.Keyed.{Keyed}
+use Rattle.cc_host.specs.Hosted.{spare}
+use Rattle.cc_host.proofs.MadeTaken.{below-keeps, made-kept}
 use Rattle.cc_host.proofs.changes.make_below.Given as given
 use Rattle.cc_host.proofs.changes.make_below.Goals as goal
 use Rattle.cc_host.proofs.changes.make_below.Goals.{After-let_go}
@@ -99,3 +102,10 @@ returns-clause-reached g c =
     let s = c.store_native.ensures in
     change-reached c.args.heaps.now c.new_native.new.self q.ready c.args.above c.in-Some.key c.args.i c.args.slots q.slots (λ few. let full = e.full_always few in absurd (cc)) e.heap e.kept q.reached q.live q.within q.empty
     c.store_native.new.self c.let_go.new.heaps (name g c) s.heap s.kept c.let_go.ensures.empty
+
+pub returns-clause-whole : goal.returns-clause-whole
+returns-clause-whole g c =
+    let w = c.new_native.new.self in
+    made-kept c.args.heaps.now.heap w.heap c.let_go.new.heaps.heap spare c.args.slots c.requires.ready.order.sound.well_formed c.in_ok-new_native.ensures.heap
+    (below-keeps w.heap c.store_native.new.self.heap c.let_go.new.heaps.heap _ _ _ (ap (λ (u : Keyed). u.heap) c.store_native.ensures.heap)
+    (ap (λ (u : Keyed). u.heap) c.let_go.ensures.empty.given_up))

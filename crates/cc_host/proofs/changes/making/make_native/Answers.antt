@@ -5,6 +5,7 @@ use Rattle.cc_host.specs.Hosted.{spare}
 use Rattle.cc_host.specs.Missing.{KeepsDoomed}
 use Rattle.cc_host.proofs.KeptDoomed.{make_native-doomed}
 use Rattle.cc_host.proofs.Making.{native-beside, native-came, native-held, native-reaches}
+use Rattle.cc_host.proofs.MadeTaken.{made-whole}
 use Rattle.cc_host.proofs.Coming.{OneCame-named}
 use Rattle.cc_host.proofs.changes.making.make_native.Goals as goal
 
@@ -57,3 +58,7 @@ returns-clause-came g c =
     let h = c.args.heaps.now.heap in
     let e = c.in_ok-new_native.ensures in
     OneCame-named h c.new_native.new.self.heap (native (h.natives_made + 1)) _ (returns-clause-name g c) (native-came h c.new_native.new.self.heap c.args.r c.args.slots (omega (arith, c.requires.within)) c.requires.slots (λ few. let full = e.full_always few in absurd (cc)) c.requires.ready.order.sound e.heap)
+
+pub returns-clause-whole : goal.returns-clause-whole
+returns-clause-whole g c =
+    made-whole c.args.heaps.now.heap c.new_native.new.self.heap c.args.r c.args.slots c.requires.ready.order.sound.well_formed c.in_ok-new_native.ensures.heap

@@ -1,7 +1,8 @@
-use Rattle.std.proofs.Common.{sym, ◌∙◌, ap}
+use Rattle.std.proofs.Common.{◌+◌, sym, ◌∙◌, ap}
 use Rattle.cc_host.specs.Hosted.{named}
 use Rattle.cc_host.proofs.Coming.{came-here}
 use Rattle.cc_host.proofs.Keeping.{change-keeps}
+use Rattle.cc_host.proofs.MadeTaken.{whole-taken}
 use Rattle.cc_host.proofs.host.Host.new_native.Goals as goal
 
 pub invariant_of-self-2 : goal.invariant_of-self-2
@@ -10,3 +11,8 @@ invariant_of-self-2 g c =
 
 pub returns-clause-came : goal.returns-clause-came
 returns-clause-came g c = came-here c.self.view_is c.make_native.new.heaps.heap (sym (ap named c.in-Some.is) ∙ c.of_native.ensures.name) c.in_ok-key.ensures.came
+
+-- what was made is taken by each call
+pub returns-clause-taken : goal.returns-clause-taken
+returns-clause-taken g c =
+    whole-taken (record { heaps = c.make_native.new.heaps; running = c.self.inside.collector; mark = c.self.inside.mark }) c.in-Some.made (c.self.inside.heaps.heap.natives_made + 1) (c.in-Some.ensures.name ∙ c.in_ok-key.ensures.name) c.in-Some.ensures.there c.in_ok-key.ensures.whole
