@@ -1,5 +1,5 @@
 //! Objects made. Each stands in a numbered root from then on.
-ghost use Rattle.std.specs.Prelude.{◌≡◌, ◌+◌, Some, IfOk, OnErr, OnOk};
+ghost use Rattle.std.specs.Prelude.{◌≡◌, ◌+◌, Some, None, IfOk, OnErr, OnOk};
 ghost use Rattle.cc_names.specs.Names.{native, object};
 ghost use Rattle.cc_names.specs.declared.register.Reg.TheVariants.{N as n_register, S as s_register};
 ghost use Rattle.cc_model.specs.declared.command.Command.TheVariants as command;
@@ -8,7 +8,7 @@ ghost use Rattle.cc_model.specs.Heap.{register};
 ghost use Rattle.cc_host.specs.Calls.{Always, Does, TellsFreed, Tries};
 ghost use Rattle.cc_host.specs.Hosted.{IsRooted, IsThere};
 ghost use Rattle.cc_host.specs.Queues.{told_all};
-ghost use Rattle.cc_host.specs.Stops.{are_natives_made, are_scripts_made};
+ghost use Rattle.cc_host.specs.Stops.{are_natives_made, are_scripts_made, stop_at};
 ghost use Rattle.cc_session.specs.Sessions.{Aside, Quiet};
 ghost use Rattle.cc_session.specs.Refusals.{IsStoppedOrWants, stop_native_made, stop_proxy_made, stop_script_made};
 
@@ -24,6 +24,7 @@ impl Session {
         ensures stops { IsStoppedOrWants (stop_native_made r slots (are_natives_made self.old.host)) result }
         ensures does { OnOk result (Does Always (λ g. graph.step g (command.Native r slots)) self.old.host self.new.host) }
         ensures there { IfOk result (λ x. IsThere self.new.host x) }
+        ensures taken { IfOk result (λ x. stop_at self.new.host x ≡ None) }
         ensures name { IfOk result (λ x. x.name ≡ native (self.old.host.heaps.heap.natives_made + 1)) }
         ensures held { IfOk result (λ x. register self.new.host.heaps.heap (n_register r) ≡ Some x.name) }
         ensures same { OnErr result (self.new ≡ self.old) }
