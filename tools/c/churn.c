@@ -13,7 +13,8 @@
  * - The steps of cc_why are steps in the model, and there are none where nothing leads to the object.
  *
  * Operations are done to objects that are reached, since the contracts speak of these. Some are written that nothing reaches any
- * more, which must change nothing of what is reached. Objects that are gone, of another collector and made up must be refused.
+ * more, which must change nothing of what is reached. A native that was told as unlinked must be refused, and so must objects
+ * that are gone, of another collector and made up.
  *
  * The meaning is that of docs/COMMANDS.md. A native refers to what its slots hold, and to its reflector once that is preserved;
  * a reflector to what its slots hold and to its native; a proxy to its delegate. An entry gives its value where map and key are
@@ -60,6 +61,7 @@ struct thing {
     uint8_t what;          /* 0 for a native, else CC_PLAIN, CC_MAP, CC_REFLECTS or CC_PROXY */
     bool is_preserved;     /* of a reflector */
     bool is_freed;         /* told as freed */
+    bool is_unlinked;      /* a native that was told as unlinked: gone for each call */
     uint8_t slots;
     uint32_t slot[MOST_SLOTS];
     uint32_t other;        /* a native's reflector, a reflector's native, a proxy's delegate; or 0 */
@@ -195,6 +197,7 @@ static void fetch(void) {
         SO(told.kind != CC_NATIVE || told.data == things[t].data, "a native was told with another number", t);
         if (told.what == CC_UNLINKED) {
             SO(is_native(t), "a script object was told as unlinked", t);
+            things[t].is_unlinked = true;
             told_unlinked++;
         } else {
             things[t].is_freed = true;
@@ -378,7 +381,7 @@ static void store(void) {
 static void store_unreached(void) {
     uint32_t x = draw_unreached(), y = draw_script();
     if (x == 0 || things[x].slots == 0 || things[x].what == CC_REFLECTS) return;
-    TRY(cc_store(&c, object_of(x), (uint16_t)draw(things[x].slots), object_of(y)));
+    WANT(cc_store(&c, object_of(x), (uint16_t)draw(things[x].slots), object_of(y)), things[x].is_unlinked ? CC_GONE : CC_OK);
 }
 
 static void move_slot(void) {
@@ -580,7 +583,8 @@ static void ask_why_not(void) {
     cc_step s;
     uint32_t t = draw_unreached(), led;
     if (t == 0) return;
-    TRY(cc_why(&c, object_of(t), &led));
+    WANT(cc_why(&c, object_of(t), &led), things[t].is_unlinked ? CC_GONE : CC_OK);
+    if (things[t].is_unlinked) return;
     SO(led == 0, "roots lead to an object that nothing reaches", t);
     WANT(cc_next_step(&c, &s), CC_NONE);
 }
