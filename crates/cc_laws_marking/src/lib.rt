@@ -1,0 +1,10 @@
+//! Laws of a script marking in slices that stand on those of the heaps and of the snapshot: what its end forgets and frees,
+//! and in which order its lists stand.
+//!
+//! Each function has an empty body and is a law that its clauses state, over the definitions of `cc_model`, over heaps that
+//! are sound (`Sound` of `cc_laws_heap`), and over what a marking keeps to (`UnderMarking` there).
+#![tactic(auto)]
+
+mod suspected;
+
+pub use suspected::markings_keep_suspected;
