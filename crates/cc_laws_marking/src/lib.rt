@@ -5,6 +5,8 @@
 //! are sound (`Sound` of `cc_laws_heap`), and over what a marking keeps to (`UnderMarking` there).
 #![tactic(auto)]
 
+mod lists;
 mod suspected;
 
+pub use lists::markings_keep_order;
 pub use suspected::markings_keep_suspected;
