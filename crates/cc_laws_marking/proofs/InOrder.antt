@@ -56,9 +56,9 @@ once-last xs y absent once x = go (same_name x y) refl
         let none : count_by (same_name x) xs ≡ 0 = count_by-none (same_name x) xs
         (λ z i. false-left (same_name x z) (λ t. absent (subst (λ w. Among w xs) (sym ((same_name-exact x z).0 t) ∙ (same_name-exact x y).0 e) i))) in
         let here : count_by (same_name x) (xs ++ y ∷ []) ≡ count_by (same_name x) xs + (cond true 1 0 + 0) =
-            whole ∙ ap (λ b. count_by (same_name x) xs + (cond b 1 0 + 0)) e in
+        whole ∙ ap (λ b. count_by (same_name x) xs + (cond b 1 0 + 0)) e in
         omega (arith, here, none)
     go false e =
         let here : count_by (same_name x) (xs ++ y ∷ []) ≡ count_by (same_name x) xs + (cond false 1 0 + 0) =
-            whole ∙ ap (λ b. count_by (same_name x) xs + (cond b 1 0 + 0)) e in
+        whole ∙ ap (λ b. count_by (same_name x) xs + (cond b 1 0 + 0)) e in
         omega (arith, here, once x)

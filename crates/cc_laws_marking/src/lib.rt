@@ -5,8 +5,10 @@
 //! are sound (`Sound` of `cc_laws_heap`), and over what a marking keeps to (`UnderMarking` there).
 #![tactic(auto)]
 
+mod freed;
 mod lists;
 mod suspected;
 
+pub use freed::{commands_keep_unmarkable, markings_free_what_was_not_marked};
 pub use lists::markings_keep_order;
 pub use suspected::markings_keep_suspected;
