@@ -1,7 +1,6 @@
 -- THE LISTS OF A MARKING ARE IN ORDER from its begin on, whatever commands come between.
-use Rattle.std.proofs.Common.{arith, ◌≡◌, ℕ, ◌≤◌, not, List, [], ◌++◌, Option, Some, None, sym, subst, count_by}
+use Rattle.std.proofs.Common.{arith, ℕ, ◌≤◌, not, List, [], ◌++◌, Option, Some, None, sym, subst, count_by}
 use Rattle.std.specs.Prelude.{IsTrue}
-use Rattle.std.specs.List.{filter}
 use Rattle.cc_lists.specs.Members.{Among, has}
 use Rattle.cc_lists.proofs.Filtering.{count_by-filter-le}
 use Rattle.cc_lists.proofs.OnceEach.{with_all_last-once}

@@ -1,5 +1,5 @@
 -- EACH COMMAND THAT IS NOT REFUSED LEAVES WHAT CAN'T BE MARKED SO, but for the reflector of a native that it wraps.
-use Rattle.std.proofs.Common.{arith, ◌≡◌, ℕ, ◌&&◌, not, List, [], ◌∷◌, ◌++◌, Option, Some, None, refl, sym, subst, inl, inr, ◌⊎◌, ⊎_elim, option_to_list}
+use Rattle.std.proofs.Common.{◌≡◌, ℕ, ◌&&◌, List, [], ◌∷◌, Option, Some, None, refl, sym, subst, inl, inr, ◌⊎◌, ⊎_elim, option_to_list}
 use Rattle.std.specs.Prelude.{IsTrue}
 use Rattle.std.specs.List.{filter}
 use Rattle.cc_lists.specs.Members.{Among, has}
@@ -14,7 +14,7 @@ use Rattle.cc_model.specs.declared.command.Command.{Command}
 use Rattle.cc_model.specs.Deeds.{deed_of}
 use Rattle.cc_model.specs.Ranges.{in_range}
 use Rattle.cc_model.specs.Slots.{contents}
-use Rattle.cc_model.specs.Entries.{Entry, Joint, joints}
+use Rattle.cc_model.specs.Entries.{Entry, Joint}
 use Rattle.cc_model.proofs.Joints.{Gives, its_value, its_key, joint-cases, gives-joint}
 use Rattle.cc_model.specs.Heap.{Heap, objects_of}
 use Rattle.cc_model.specs.Exposure.{slots_of_scripts}
@@ -29,7 +29,7 @@ use Rattle.cc_laws_heap.proofs.CommandsMarking.{effects-marking}
 use Rattle.cc_laws_heap.proofs.EdgesBut.{effects-scanned}
 use Rattle.cc_laws_marking.specs.Unmarkable.{IsUnmarkable, wrapped_by, LeadsNowhere}
 use Rattle.cc_laws_marking.proofs.Grown.{IsNewEntry, effects-grow}
-use Rattle.cc_laws_marking.proofs.ReadingOthers.{them-there, exposed-wrapped, wrapped-exposed}
+use Rattle.cc_laws_marking.proofs.ReadingOthers.{exposed-wrapped, wrapped-exposed}
 
 -- what can't be marked, as marks: all else is black, and all is scanned
 abbrev marks_beside : List Name → NewMarks

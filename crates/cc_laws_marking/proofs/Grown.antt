@@ -1,22 +1,21 @@
 -- WHICH SCRIPT OBJECTS AND ENTRIES ARE THERE AFTER A DEED: those that were, and one that is made goes last; entries are written of
 -- what script registers hold.
-use Rattle.std.proofs.Common.{arith, ◌≡◌, ℕ, ◌+◌, ◌<◌, ◌≤◌, Bool, true, false, not, List, [], ◌∷◌, ◌++◌, map, length, Option, Some, None, refl, sym, ◌∙◌, ap, subst, inl, inr, ◌⊎◌, ⊎_elim, slice_index_or, option_to_list}
+use Rattle.std.proofs.Common.{arith, ◌≡◌, ℕ, ◌+◌, ◌<◌, ◌≤◌, Bool, true, false, not, List, [], ◌∷◌, ◌++◌, map, length, Option, Some, None, refl, sym, ◌∙◌, ap, subst, inl, inr, ◌⊎◌, ⊎_elim, slice_index_or}
 use Rattle.std.specs.Prelude.{IsTrue}
 use Rattle.std.proofs.lemmas.List.{append-nil, map-append}
 use Rattle.cc_lists.specs.Members.{Among}
-use Rattle.cc_lists.proofs.Members.{Among-filtered, Among-flat_map, Among-flat_map_cases}
+use Rattle.cc_lists.proofs.Members.{Among-filtered}
 use Rattle.cc_names.specs.declared.name.Name.{Name}
 use Rattle.cc_names.specs.declared.name.Name.TheVariants as name
 use Rattle.cc_names.specs.declared.register.Reg.TheVariants.{N}
-use Rattle.cc_names.specs.declared.kind.Kind.{Kind}
 use Rattle.cc_names.specs.declared.kind.Kind.TheVariants.{Plain, Reflector, Map, Proxy as proxy_kind}
 use Rattle.cc_names.specs.Names.{native, object, reflector}
 use Rattle.cc_model.specs.declared.command.Command.{Command}
 use Rattle.cc_model.specs.Deeds.{Deed, nothing_done, native_made, plain_made, map_made, proxy_made, native_held, script_held, script_copied, native_stored, slot_moved, script_stored, reflector_held, reflector_preserved, entry_written, object_exposed, weak_written, deed_of}
 use Rattle.cc_model.specs.Slots.{reflector_slots, contents}
 use Rattle.cc_model.specs.Ranges.{in_range}
-use Rattle.cc_model.specs.Checks.{slots_at, slot_at}
-use Rattle.cc_model.specs.Entries.{Entry, Joint, entry, joints_of, joints, is_entry_of}
+use Rattle.cc_model.specs.Checks.{slots_at}
+use Rattle.cc_model.specs.Entries.{Entry, is_entry_of}
 use Rattle.cc_model.specs.Heap.{Heap, HeapScript, Outcome, objects_of, preserve, has_reflector, new_script, delegate_at}
 use Rattle.cc_model.specs.Cascade.{take_up, let_go}
 use Rattle.cc_model.specs.Exposure.{exposed}
@@ -29,7 +28,7 @@ use Rattle.cc_laws_heap.proofs.CascadeTakesOut.{TakesOut-let_go}
 use Rattle.cc_laws_heap.proofs.HoldsTheSame.{HoldsTheSame-take_up}
 use Rattle.cc_laws_heap.proofs.Owning.{IsIn, take_up-sound}
 use Rattle.cc_laws_heap.proofs.EntryLists.{with_entry-cases}
-use Rattle.cc_laws_heap.proofs.ScriptsKept.{ChangesScripts-slot, native-no_script, preserve-scripts, script_names-exposed}
+use Rattle.cc_laws_heap.proofs.ScriptsKept.{ChangesScripts-slot, preserve-scripts, script_names-exposed}
 use Rattle.cc_laws_heap.proofs.Holding.{has_reflector-none}
 use Rattle.cc_laws_heap.proofs.Taken.{IsTaken}
 use Rattle.cc_laws_heap.proofs.Resting.{RestsOn, rests_on}

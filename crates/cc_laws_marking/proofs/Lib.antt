@@ -6,3 +6,4 @@ pub mod CommandsOrder
 pub mod Unmarkable
 pub mod ReadingOthers
 pub mod CommandsUnmarkable
+pub mod Wrapped

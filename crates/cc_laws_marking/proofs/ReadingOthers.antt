@@ -1,7 +1,6 @@
 -- WHAT COMMANDS READ FROM SLOTS AND ENTRIES, and so expose, is nothing that can't be marked; but a native that they wrap may have such
 -- a reflector.
-use Rattle.std.proofs.Common.{arith, ◌≡◌, ℕ, true, List, [], ◌∷◌, Option, Some, None, refl, sym, ap, subst, inl, ⊎_elim, slice_index_or, option_to_list, option_map}
-use Rattle.std.specs.Prelude.{IsTrue}
+use Rattle.std.proofs.Common.{arith, ◌≡◌, ℕ, true, List, [], ◌∷◌, Option, Some, None, refl, sym, subst, inl, ⊎_elim, slice_index_or, option_to_list, option_map}
 use Rattle.std.specs.Option.{option_and_then}
 use Rattle.std.proofs.lemmas.Bool.{false≢true}
 use Rattle.cc_lists.specs.Members.{Among}
@@ -12,46 +11,51 @@ use Rattle.cc_names.specs.declared.name.Name.TheVariants as name
 use Rattle.cc_names.specs.declared.register.Reg.{Reg}
 use Rattle.cc_names.specs.declared.register.Reg.TheVariants.{N, S, W}
 use Rattle.cc_names.specs.declared.kind.Kind.{Kind}
-use Rattle.cc_names.specs.declared.kind.Kind.TheVariants.{Plain, Reflector, Map, Proxy as proxy_kind}
+use Rattle.cc_names.specs.declared.kind.Kind.TheVariants.{Map}
 use Rattle.cc_names.specs.Names.{native, object, reflector, same_name, is_script}
 use Rattle.cc_names.proofs.NameTests.{same_name-true}
 use Rattle.cc_model.specs.declared.command.Command.{Command}
 use Rattle.cc_model.specs.declared.command.Command.TheVariants.{Drop, Get, Move, Take, Wrap, GetEntry, Expose}
 use Rattle.cc_model.specs.Deeds.{Deed, reflector_held, deed_of}
-use Rattle.cc_model.specs.Slots.{Slots, contents, from_to}
-use Rattle.cc_model.specs.Checks.{slot_at, value_at, slots_or_none, reflector_of}
+use Rattle.cc_model.specs.Slots.{contents, from_to}
+use Rattle.cc_model.specs.Checks.{slot_at, value_at, slots_or_none}
 use Rattle.cc_model.specs.Entries.{Entry, value_in, joint, joints, is_entry_of}
 use Rattle.cc_model.proofs.Joints.{value-joint}
 use Rattle.cc_model.proofs.Places.{slot-place}
 use Rattle.cc_model.specs.Heap.{Heap, HeapNative, HeapScript, register, native_at, script_at, slots_in, slots_of_kind, slots_of_script, objects_of}
 use Rattle.cc_model.specs.View.{script_slot_edges}
 use Rattle.cc_model.specs.Places.{script_places_of}
-use Rattle.cc_model.specs.Exposure.{slots_of_scripts}
-use Rattle.cc_model.specs.Colours.{scripts_held, scripts_held_by}
-use Rattle.cc_model.specs.WellFormed.{IsWellFormed, script_names, native_names}
+use Rattle.cc_model.specs.Colours.{scripts_held_by}
+use Rattle.cc_model.specs.WellFormed.{IsWellFormed, script_names}
 use Rattle.cc_model.specs.Marking.{NewMarks, exposed_by}
 use Rattle.cc_laws_heap.specs.UnderMarking.{IsUnderMarking}
 use Rattle.cc_laws_heap.proofs.Natives.{native_at-there}
 use Rattle.cc_laws_heap.proofs.Writes.{contents-at}
 use Rattle.cc_laws_heap.proofs.EntryLists.{is_entry_of-parts}
 use Rattle.cc_laws_heap.proofs.ScriptNames.{script_names-named}
-use Rattle.cc_laws_heap.proofs.ScriptsKept.{native-no_script}
 use Rattle.cc_laws_heap.proofs.Holding.{native_register-there}
 use Rattle.cc_laws_heap.proofs.NativesHold.{held_by-slot}
 use Rattle.cc_laws_marking.specs.Unmarkable.{IsUnmarkable, wrapped_by}
 
--- the value of a map and a key is that of their entry
+-- an entry leads from its map and its key to its value, by these names
+entry-joint : (es : List Entry) (e : Entry) (m k y : Name) → Among e es → e.the_map ≡ m → e.key ≡ k → e.value ≡ y → Among (joint m k y) (joints es)
+entry-joint es e m k y i a b c =
+    subst (λ z. Among (joint z k y) (joints es)) a
+    (subst (λ z. Among (joint e.the_map z y) (joints es)) b
+    (subst (λ z. Among (joint e.the_map e.key z) (joints es)) c (value-joint es e i)))
+
+-- the value of a map and a key is that of one of their entries
+value-found : (es : List Entry) (m k y : Name) → Among y (option_to_list (value_in es m k)) →
+    (e : Entry) × Among e es × (is_entry_of m k e ≡ true) × (e.value ≡ y)
+value-found [] m k y i = absurd i
+value-found (e ∷ es) m k y i = grind (arith, value-found es m k y)
+
+-- so their entry leads to it
 value-entry : (es : List Entry) (m k y : Name) → Among y (option_to_list (value_in es m k)) → Among (joint m k y) (joints es)
 value-entry es m k y i =
-    let e = its_entry es i in
+    let e = value-found es m k y i in
     let p = is_entry_of-parts m k e.0 e.2 in
-    subst (λ a. Among (joint a k y) (joints es)) p.0
-    (subst (λ b. Among (joint e.0.the_map b y) (joints es)) p.1
-    (subst (λ v. Among (joint e.0.the_map e.0.key v) (joints es)) e.3 (value-joint es e.0 e.1)))
-  where
-    its_entry : (fs : List Entry) → Among y (option_to_list (value_in fs m k)) → (e : Entry) × Among e fs × (is_entry_of m k e ≡ true) × (e.value ≡ y)
-    its_entry [] j = absurd j
-    its_entry (f ∷ fs) j = grind (arith, its_entry fs)
+    entry-joint es e.0 m k y e.1 p.0 p.1 e.3
 
 module _ (h : Heap) (m : NewMarks) (them : List Name) (well : IsWellFormed h) (u : IsUnderMarking h m) (w : IsUnmarkable h m them) where
   -- each of them is there

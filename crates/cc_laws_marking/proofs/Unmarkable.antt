@@ -1,10 +1,9 @@
 -- WHAT CAN'T BE MARKED stays so through begin and scans, and an end frees it.
 use Rattle.std.specs.Prelude.{◌↔◌}
-use Rattle.std.proofs.Common.{arith, ◌≡◌, ℕ, Bool, true, false, not, ◌⊎◌, List, [], ◌∷◌, ◌++◌, Some, None, Option, refl, sym, ◌∙◌, ap, subst, inl, inr, ⊎_elim, option_map, map}
+use Rattle.std.proofs.Common.{◌≡◌, ℕ, Bool, true, false, not, ◌⊎◌, List, [], ◌∷◌, ◌++◌, Some, None, Option, refl, sym, ◌∙◌, ap, subst, inl, inr, ⊎_elim, option_map}
 use Rattle.std.specs.List.{filter}
-use Rattle.std.proofs.lemmas.Bool.{true≢false}
 use Rattle.cc_lists.specs.Members.{Among, has, without}
-use Rattle.cc_lists.proofs.Members.{Among-map, Among-map_cases, Among-left, Among-right, Among-append, Among-filter, Among-filtered, Among-passes, Among-flat_map, Among_or_not, has-there, has-among}
+use Rattle.cc_lists.proofs.Members.{Among-map, Among-map_cases, Among-left, Among-right, Among-append, Among-filter, Among-passes, Among-flat_map, Among_or_not, has-among}
 use Rattle.cc_lists.proofs.CountsOf.{false-left}
 use Rattle.cc_lists.proofs.Filtering.{find-among, find-passes}
 use Rattle.cc_lists.proofs.Least.{derive-root, derive-along}
@@ -13,7 +12,7 @@ use Rattle.cc_lists.proofs.OnceEach.{with_all_last-cases}
 use Rattle.cc_lists.proofs.ListWrites.{each-map}
 use Rattle.cc_names.specs.declared.name.Name.{Name}
 use Rattle.cc_names.specs.declared.kind.Colour.TheVariants.{White}
-use Rattle.cc_names.specs.Names.{native, same_name}
+use Rattle.cc_names.specs.Names.{same_name}
 use Rattle.cc_names.proofs.NameTests.{same_name-exact, same_name-true}
 use Rattle.cc_model.specs.declared.item.Event.TheVariants.{Freed}
 use Rattle.cc_model.specs.Slots.{contents, from_to}
@@ -34,7 +33,7 @@ use Rattle.cc_laws_heap.specs.UnderMarking.{IsUnderMarking, IsScannedSoFar}
 use Rattle.cc_laws_heap.proofs.NameLists.{is_not_among-apart}
 use Rattle.cc_laws_heap.proofs.ScriptNames.{delegate-there}
 use Rattle.cc_laws_heap.proofs.Led.{edge-source}
-use Rattle.cc_laws_heap.proofs.Raising.{without-cases, without_all-cases, without_all-in}
+use Rattle.cc_laws_heap.proofs.Raising.{without_all-cases, without_all-in}
 use Rattle.cc_laws_heap.proofs.Marking.{colour_of}
 use Rattle.cc_laws_heap.proofs.MarkedWellFormed.{is_spared}
 use Rattle.cc_laws_heap.proofs.MarkingKeeps.{as_coloured, script_names-coloured, IsSound-coloured}

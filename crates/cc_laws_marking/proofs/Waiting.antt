@@ -13,7 +13,7 @@ use Rattle.cc_model.specs.WellFormed.{script_names}
 use Rattle.cc_model.specs.Marking.{NewMarks, held_by_script, raised_black, raised_gray, each_raised, scanned}
 use Rattle.cc_laws_heap.specs.UnderMarking.{IsScannedSoFar}
 use Rattle.cc_laws_heap.proofs.Raising.{without-cases}
-use Rattle.cc_laws_marking.specs.Lists.{AreInOrderOf, HasListsInOrder}
+use Rattle.cc_laws_marking.specs.Lists.{HasListsInOrder}
 use Rattle.cc_laws_marking.proofs.InOrder.{AreInOrderOf-part, once-last}
 
 -- the lists of those to scan have black objects and marked ones

@@ -1,5 +1,5 @@
 -- THE LISTS OF A MARKING: in which order they stand, and how often a name stands there.
-use Rattle.std.specs.Prelude.{ℕ, ◌≡◌, ◌≤◌, List, filter, count_by}
+use Rattle.std.specs.Prelude.{◌≡◌, ◌≤◌, List, filter, count_by}
 use Rattle.cc_lists.specs.Members.{has}
 use Rattle.cc_names.specs.declared.name.Name.{Name}
 use Rattle.cc_names.specs.Names.{same_name}

@@ -1,6 +1,6 @@
 -- WHAT A MARKING THAT GOES ON WILL NOT MARK ANY MORE, whatever commands come between: nothing that has a mark, or may get one, leads
 -- there. A script object that is not reached may be answered again by one command alone: one that wraps its native.
-use Rattle.std.specs.Prelude.{◌≡◌, ◌⊎◌, List, [], ◌++◌, option_to_list}
+use Rattle.std.specs.Prelude.{◌≡◌, ◌⊎◌, List, [], option_to_list}
 use Rattle.cc_lists.specs.Members.{Among}
 use Rattle.cc_names.specs.declared.name.Name.{Name}
 use Rattle.cc_model.specs.Slots.{contents}
