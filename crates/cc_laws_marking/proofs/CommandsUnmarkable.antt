@@ -151,7 +151,7 @@ effects-unmarkable_left h m them c s u w r t nowhere =
     (effects-scanned h (marks_beside them) c s (beside-under h m them u w) (beside-scanned h m them u w) r t)
 
 -- the same names in another list
-unmarkable-alike : (h : Heap) (m : NewMarks) (xs ys : List Name) → ((x : Name) → Among x xs → Among x ys) → ((x : Name) → Among x ys → Among x xs) →
+pub unmarkable-alike : (h : Heap) (m : NewMarks) (xs ys : List Name) → ((x : Name) → Among x xs → Among x ys) → ((x : Name) → Among x ys → Among x xs) →
     IsUnmarkable h m xs → IsUnmarkable h m ys
 unmarkable-alike h m xs ys to from w = record {
   unmarked = λ x i. w.unmarked x (from x i);

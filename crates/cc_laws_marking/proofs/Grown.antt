@@ -76,9 +76,9 @@ GrowsTo-same h g names entries = record { names = HasMore-same (script_names h) 
 -- Natives
 
 -- the same script objects and entries
-record SameObjects (h g : Heap) : Type 0 where
-  scripts : g.scripts ≡ h.scripts
-  entries : g.entries ≡ h.entries
+pub record SameObjects (h g : Heap) : Type 0 where
+  pub scripts : g.scripts ≡ h.scripts
+  pub entries : g.entries ≡ h.entries
 
 -- heaps that are the same but for natives and the buffer have the same script objects and entries
 SameObjects-beside : (h g : Heap) → SameBeside h g → SameObjects h g
@@ -101,7 +101,7 @@ SameObjects-put_in_register : (h : Heap) (d : ℕ) (x : Option Name) → SameObj
 SameObjects-put_in_register h d x = grind (arith, SameObjects-let_go)
 
 -- a native register written, with the reference taken first
-SameObjects-hold_native : (h : Heap) (d : ℕ) (x : Option Name) → SameObjects h (hold_native h d x).heap
+pub SameObjects-hold_native : (h : Heap) (d : ℕ) (x : Option Name) → SameObjects h (hold_native h d x).heap
 unfolding hold_native
 SameObjects-hold_native h d x = grind (arith, SameObjects-trans, SameObjects-take_up, SameObjects-put_in_register)
 

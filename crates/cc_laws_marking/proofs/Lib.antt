@@ -7,3 +7,5 @@ pub mod Unmarkable
 pub mod ReadingOthers
 pub mod CommandsUnmarkable
 pub mod Wrapped
+pub mod Beside
+pub mod GoingOn

@@ -5,10 +5,12 @@
 //! are sound (`Sound` of `cc_laws_heap`), and over what a marking keeps to (`UnderMarking` there).
 #![tactic(auto)]
 
+mod between;
 mod freed;
 mod lists;
 mod suspected;
 
+pub use between::{markings_free_what_was_white, other_commands_keep_marking};
 pub use freed::{commands_keep_unmarkable, markings_free_what_was_not_marked};
 pub use lists::markings_keep_order;
 pub use suspected::markings_keep_suspected;
