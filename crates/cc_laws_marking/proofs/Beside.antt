@@ -21,23 +21,23 @@ use Rattle.cc_laws_marking.proofs.Grown.{SameObjects-hold_native}
 
 module _ (h g : Heap) (scripts : g.scripts ≡ h.scripts) (registers : g.script_registers ≡ h.script_registers) (entries : g.entries ≡ h.entries)
     (held : HeldOr [] h g) where
-  -- the same names of script objects
+  -- the names of script objects stay
   same-names : script_names g ≡ script_names h
   same-names = subst (λ (os : List HeapScript). map (λ (o : HeapScript). o.name) os ≡ script_names h) (sym scripts) refl
 
-  -- no more in script registers
+  -- script registers hold no more
   same-registers : (x : Name) → Among x (contents g.script_registers) → Among x (contents h.script_registers)
   same-registers x i = subst (λ (rs : Slots). Among x (contents rs)) registers i
 
-  -- no more edges
+  -- script objects lead to no more
   same-edges : (x y : Name) → Among (x, y) (slots_of_scripts g) → Among (x, y) (slots_of_scripts h)
   same-edges x y i = subst (λ (os : List HeapScript). Among (x, y) (flat_map script_slot_edges os)) scripts i
 
-  -- no more joints
+  -- entries give no more
   same-joints : (j : Joint) → Among j (joints g.entries) → Among j (joints h.entries)
   same-joints j i = subst (λ (es : List Entry). Among j (joints es)) entries i
 
-  -- no more held by natives
+  -- natives hold no more of script objects
   same-held : (x : Name) → Among x (scripts_held g) → Among x (scripts_held h)
   same-held x i = ⊎_elim (λ a. a) (λ none. absurd none) (held x i)
 
@@ -76,7 +76,7 @@ pub hold_native-keeps : (h : Heap) (d : ℕ) (x : Option Name) → KeepsMarkings
 hold_native-keeps h d x = beside-keeps h (hold_native h d x).heap (hold_native-scripts h d x).scripts (hold_native-scripts h d x).registers
     (SameObjects-hold_native h d x).entries (HeldOr-hold_native h d x)
 
--- another buffer
+-- ANOTHER BUFFER
 buffer-keeps : (h : Heap) (bs : List Buffered) → KeepsMarkings h (record h { buffer = bs })
 buffer-keeps h bs = beside-keeps h (record h { buffer = bs }) refl refl refl (HeldOr-same [] h (record h { buffer = bs }) refl)
 

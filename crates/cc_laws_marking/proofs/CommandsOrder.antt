@@ -25,14 +25,15 @@ use Rattle.cc_laws_marking.specs.Lists.{AreInOrderOf, HasListsInOrder}
 use Rattle.cc_laws_marking.proofs.InOrder.{AreInOrderOf-part, AreInOrderOf-own, AreInOrderOf-more}
 use Rattle.cc_laws_marking.proofs.Grown.{HasMore, effects-grow}
 
--- each name of a list once
+-- a list of each name once has each name once
 once-each : (names : List Name) (x : Name) → count_by (same_name x) (each_once names) ≤ 1
 once-each names x = with_all_last-once same_name same_name-exact [] names x (omega arith)
 
--- names left out of a list leave it in order, and each name as often at most
+-- names left out of a list leave it in order
 left-in_order : (names others xs : List Name) → AreInOrderOf names xs → AreInOrderOf names (without_all others xs)
 left-in_order names others xs = AreInOrderOf-part names (λ y. not (has same_name others y)) xs
 
+-- names left out of a list leave each other name as often
 left-once : (others xs : List Name) → ((x : Name) → count_by (same_name x) xs ≤ 1) → (x : Name) → count_by (same_name x) (without_all others xs) ≤ 1
 left-once others xs once x = omega (arith, count_by-filter-le (same_name x) (λ y. not (has same_name others y)) xs, once x)
 
@@ -46,7 +47,7 @@ HasListsInOrder-begun h = record {
   gray_list = left-once (registered h) (each_once (scripts_held h)) (once-each (scripts_held h));
 }
 
--- names made black
+-- names that are made black leave the lists in order
 HasListsInOrder-blackened : (h : Heap) (m : NewMarks) (names : List Name) → HasListsInOrder h m → HasListsInOrder h (blackened_by_mark m names)
 HasListsInOrder-blackened h m names l = record {
   unmarked = left-in_order (script_names h) names m.unmarked l.unmarked;
@@ -55,7 +56,7 @@ HasListsInOrder-blackened h m names l = record {
   gray_list = left-once names m.gray_list l.gray_list;
 }
 
--- an exposure
+-- an exposure leaves the lists in order
 HasListsInOrder-exposed : (h : Heap) (x : Option Name) (m : NewMarks) → HasListsInOrder h m → HasListsInOrder h (exposed_marks h x m)
 unfolding exposed_marks
 HasListsInOrder-exposed h None m l = l

@@ -51,7 +51,7 @@ module _ (h : Heap) (m : NewMarks) (them : List Name) (u : IsUnderMarking h m) (
     there = λ x t. u.there x (u.within x (w.unmarked x t));
   }
 
-  -- with all scanned
+  -- by these marks all is scanned
   beside-scanned : IsScannedSoFar h (marks_beside them)
   beside-scanned = record {
     black_on = λ x y e a b t. a (w.holders x y e t);
@@ -74,7 +74,7 @@ module _ (h : Heap) (m : NewMarks) (them : List Name) (u : IsUnderMarking h m) (
         (λ ps v k. absurd k)
         x (closure-derived same_name same_name-exact (exposure_rules_by_mark h n z) x i)
 
-    -- so the others keep to have no mark
+    -- an exposure gives no mark to the others of them
     exposure-spares : (n : NewMarks) (x : Name) → Among x them → ¬ (Among x shown) →
         (Among x n.unmarked → Among x (exposed_marks h e n).unmarked) × (Among x n.unblack → Among x (exposed_marks h e n).unblack)
     unfolding exposed_marks
@@ -94,16 +94,16 @@ module _ (h : Heap) (m : NewMarks) (them : List Name) (u : IsUnderMarking h m) (
       abbrev left : List Name
       left = without_all shown them
 
-      -- it is not black by the marks beside them
+      -- what is left of them is not black by the marks beside them
       left-unblack : (x : Name) → Among x left → Among x (exposed_marks h e (marks_beside them)).unblack
       left-unblack x i = let c = without_all-cases shown them x i in (exposure-spares (marks_beside them) x c.0 c.1).1 c.0
 
-      -- what is not black by them is left
+      -- what is not black by the marks beside them is left
       unblack-left : (x : Name) → Among x (exposed_marks h e (marks_beside them)).unblack → Among x left
       unblack-left x i = without_all-in shown them x ((Raises-exposed h e (marks_beside them)).unblack x i)
           (λ s. exposed-not_unblack h e (marks_beside them) x (named x s) i)
 
-      -- map and key of an entry are not shown where they are among them
+      -- what is not shown is left
       member-left : (x : Name) → Among x them → ¬ (Among x shown) → Among x left
       member-left x i d = without_all-in shown them x i d
 
@@ -150,7 +150,7 @@ effects-unmarkable_left h m them c s u w r t nowhere =
     (effects-marking h (marks_beside them) c s (beside-under h m them u w) r t)
     (effects-scanned h (marks_beside them) c s (beside-under h m them u w) (beside-scanned h m them u w) r t)
 
--- the same names in another list
+-- the same names stand in another list
 pub unmarkable-alike : (h : Heap) (m : NewMarks) (xs ys : List Name) → ((x : Name) → Among x xs → Among x ys) → ((x : Name) → Among x ys → Among x xs) →
     IsUnmarkable h m xs → IsUnmarkable h m ys
 unmarkable-alike h m xs ys to from w = record {

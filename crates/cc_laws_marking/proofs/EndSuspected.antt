@@ -22,7 +22,7 @@ module _ (blacks marks : List Name) (h : Heap) where
   edges-coloured : (view (coloured_by blacks marks h)).edges ≡ (view h).edges
   edges-coloured = ap (λ es. flat_map native_edges h.natives ++ es) (flat_map-kept script_edges (as_coloured blacks marks) h.scripts (λ o. refl))
 
-  -- so nothing is lost by them
+  -- nothing is lost by other colours
   coloured-loses : LosesTo (stage [] [] h) (stage [] [] (coloured_by blacks marks h))
   coloured-loses = grind (arith, edges-coloured)
 

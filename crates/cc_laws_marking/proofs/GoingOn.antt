@@ -55,8 +55,8 @@ pub record IsOn (them : List Name) (k : Heap) (f : Graph) (m : NewMarks) : Type 
   pub lists : HasListsInOrder k m
   pub unmarkable : IsUnmarkable k m them
 
--- a command that is not refused
-IsOn-command : (them answered : List Name) (k : Heap) (f : Graph) (m : NewMarks) (c : Command) → IsOn (without_all answered them) k f m → IsTrue (in_range c) →
+-- A COMMAND that is not refused leaves a marking as it should be.
+pub IsOn-command : (them answered : List Name) (k : Heap) (f : Graph) (m : NewMarks) (c : Command) → IsOn (without_all answered them) k f m → IsTrue (in_range c) →
     refusal_of (objects_of k) c ≡ None →
     IsOn (without_all (answered ++ wrapped_by (deed_of (objects_of k) c)) them) (effects k c).heap (step f c) (marking_after k (deed_of (objects_of k) c) m)
 IsOn-command them answered k f m c o r e =

@@ -45,7 +45,7 @@ pub record HasMore (xs ys : List Name) : Type 0 where
   pub whole : ys ≡ xs ++ more
   pub others : (x : Name) → Among x more → ¬ (Among x xs)
 
--- the same names
+-- there may be no others
 HasMore-same : (xs ys : List Name) → ys ≡ xs → HasMore xs ys
 HasMore-same xs ys e = record { more = []; whole = e ∙ sym (append-nil xs); others = λ x i. absurd i }
 
@@ -65,7 +65,7 @@ pub record GrowsTo (h g : Heap) : Type 0 where
   pub names : HasMore (script_names h) (script_names g)
   pub entries : EntriesBut h g.entries
 
--- entries that were there
+-- entries may be as they were
 EntriesBut-same : (h g : Heap) → g.entries ≡ h.entries → EntriesBut h g.entries
 EntriesBut-same h g e x i = inl (subst (Among x) e i)
 

@@ -9,3 +9,4 @@ pub mod CommandsUnmarkable
 pub mod Wrapped
 pub mod Beside
 pub mod GoingOn
+pub mod Face

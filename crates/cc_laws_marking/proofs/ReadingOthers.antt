@@ -50,7 +50,7 @@ value-found : (es : List Entry) (m k y : Name) → Among y (option_to_list (valu
 value-found [] m k y i = absurd i
 value-found (e ∷ es) m k y i = grind (arith, value-found es m k y)
 
--- so their entry leads to it
+-- a map and a key lead to the value that is found
 value-entry : (es : List Entry) (m k y : Name) → Among y (option_to_list (value_in es m k)) → Among (joint m k y) (joints es)
 value-entry es m k y i =
     let e = value-found es m k y i in
@@ -83,7 +83,7 @@ module _ (h : Heap) (m : NewMarks) (them : List Name) (well : IsWellFormed h) (u
       go Map j = absurd j
       go _ j = held j
 
-  -- what slots of a script object that is none of them, found by its name, hold
+  -- what slots of a script object that is found by its name hold is none of them, where it is none of them
   found-slots : (z : Name) → ¬ (Among z them) → (o : Option HeapScript) → script_at h z ≡ o → (x : Name) →
       Among x (contents (slots_or_none (option_and_then slots_of_script o))) → ¬ (Among x them)
   found-slots z other None e x i = absurd i
@@ -91,7 +91,7 @@ module _ (h : Heap) (m : NewMarks) (them : List Name) (well : IsWellFormed h) (u
       let named : o.name ≡ z = same_name-true o.name z (find-passes (λ p. same_name p.name z) h.scripts o e) in
       script-slots o (find-among (λ p. same_name p.name z) h.scripts o e) (λ t. other (subst (λ y. Among y them) named t)) x i
 
-  -- what slots of an object that is none of them hold
+  -- what slots of an object that is none of them hold is none of them
   object-slots : (z : Name) → ¬ (Among z them) → (x : Name) → Among x (contents (slots_or_none (slots_in h z))) → ¬ (Among x them)
   object-slots (name.Native k) other x i = go (native_at h k.0) refl i
     where
@@ -107,11 +107,11 @@ module _ (h : Heap) (m : NewMarks) (them : List Name) (well : IsWellFormed h) (u
       let f = Among-map_cases (λ (n : HeapNative). native n.number) h.natives x (native_register-there h d well x i) in
       false≢true (subst (λ z. is_script z ≡ true) (sym f.2) (script_names-named h well x (them-there x t)))
 
-  -- nor is what a script register holds
+  -- what a script register holds is none of them
   script_register-other : (d : ℕ) → IsNoneOf (register h (S d))
   script_register-other d x i t = w.registers x t (contents-at h.script_registers d x i)
 
-  -- what a slot of what is none of them holds
+  -- what a slot of what is none of them holds is none of them
   slot-other : (r : Reg) (i : ℕ) → IsNoneOf (register h r) → IsNoneOf (slot_at (objects_of h) r i)
   slot-other r i = go (register h r)
     where
@@ -119,7 +119,7 @@ module _ (h : Heap) (m : NewMarks) (them : List Name) (well : IsWellFormed h) (u
       go None other = λ x j. absurd j
       go (Some z) other = λ x j. object-slots z (other z (inl refl)) x (contents-at (slots_or_none (slots_in h z)) i x j)
 
-  -- the value of a map and a key that are none of them
+  -- the value of a map and a key that are none of them is none of them
   value-other : (a b : Option Name) → IsNoneOf a → IsNoneOf b → IsNoneOf (value_at (objects_of h) a b)
   value-other (Some a) (Some b) p q x i t = ⊎_elim (p a (inl refl)) (q b (inl refl)) (w.members (joint a b x) (value-entry h.entries a b x i) t)
   value-other (Some a) None p q x i t = absurd i

@@ -43,7 +43,7 @@ use Rattle.cc_laws_marking.specs.Unmarkable.{IsUnmarkable, not_marked}
 
 -- What is not marked
 
--- it is there, and the least sets do not mark it
+-- what is not marked is there, and the least sets do not mark it
 pub not_marked-cases : (h : Heap) (x : Name) → Among x (not_marked h) ↔ (Among x (script_names h) × (¬ (IsMarked h x)))
 not_marked-cases h x = (
   λ i. let c = without_all-cases (marked_names h) (script_names h) x i in (c.0, λ d. c.1 (derived-closure same_name same_name-exact (mark_rules h) x d)),
@@ -225,7 +225,7 @@ module _ (h : Heap) (m : NewMarks) (them : List Name) (u : IsUnderMarking h m) (
       (λ y r t. (without_all-cases m.unblack (script_names h) y r).1 (u.within y (w.unmarked y t))) edge-other joint-other x
       (closure-derived same_name same_name-exact (black_rules_by_mark h m) x i)
 
-  -- nor marked
+  -- none of them is marked at the end
   not_marked_then : (x : Name) → Among x (marks_by_mark h m) → ¬ (Among x them)
   not_marked_then x i = derived-by_joints (blacks_by_mark h m ++ without_all m.unmarked (script_names h)) (slots_of_scripts h) (joints h.entries) (λ y. ¬ (Among y them))
       (λ y r. ⊎_elim (not_black y) (λ k t. (without_all-cases m.unmarked (script_names h) y k).1 (w.unmarked y t))
@@ -233,7 +233,7 @@ module _ (h : Heap) (m : NewMarks) (them : List Name) (u : IsUnderMarking h m) (
       edge-other joint-other x
       (closure-derived same_name same_name-exact (mark_rules_by_mark h m) x i)
 
-  -- so it is white
+  -- each of them is white at the end
   white-then : (x : Name) → Among x them → colour_by (blacks_by_mark h m) (marks_by_mark h m) x ≡ White
   white-then x i =
       ap (λ b. colour_of b (has same_name (marks_by_mark h m) x))
@@ -241,7 +241,7 @@ module _ (h : Heap) (m : NewMarks) (them : List Name) (u : IsUnderMarking h m) (
       ∙ ap (λ b. colour_of false b)
       (false-left (has same_name (marks_by_mark h m) x) (λ e. not_marked_then x (has-among same_name same_name-exact (marks_by_mark h m) x e) i))
 
-  -- a sweep takes it
+  -- each of them is to be swept
   swept-then : (x : Name) → Among x them → Among x (unmarked (by_new_marks h m))
   swept-then x i =
       let f = Among-map_cases (λ (o : HeapScript). o.name) (by_new_marks h m).scripts x
@@ -267,7 +267,7 @@ module _ (h : Heap) (m : NewMarks) (them : List Name) (u : IsUnderMarking h m) (
       xs : List Name
       xs = (taken-sweep k sound).0
 
-      -- it is not there any more
+      -- it is not there after the sweep
       gone : ¬ (Among x (script_names (sweep k).heap))
       gone j =
           let f = Among-map_cases (λ (o : HeapScript). o.name) (sweep k).heap.scripts x j in

@@ -50,7 +50,7 @@ wrapped-native h _ may x i = absurd i
 reflector-no_map : (k : ℕ) (x : Name) (kind : Kind) (slots : Slots) → FitsName x kind slots → x ≡ reflector k → kind ≡ Map → ⊥
 reflector-no_map k x kind slots f e m = grind arith
 
--- nor a proxy
+-- a reflector is no proxy
 reflector-no_proxy : (k : ℕ) (x : Name) (kind : Kind) (slots : Slots) → FitsName x kind slots → x ≡ reflector k → is_proxy_kind kind ≡ false
 reflector-no_proxy k x kind slots f e = grind arith
 
@@ -75,7 +75,7 @@ module _ (h : Heap) (g : Graph) (w : IsWellFormed h) (s : StandsFor h g) (n : He
           (subst (λ b. Among (reflector n.number) (option_to_list (where_set b (Some (reflector n.number))))) (sym e) (inl refl))))
           refl)))
 
-  -- it holds nothing
+  -- the reflector of such a native holds nothing
   its-edges : (y : Name) → ¬ (Among (reflector n.number, y) (slots_of_scripts h))
   its-edges y e =
       let f = Among-flat_map_cases script_slot_edges h.scripts (reflector n.number, y) e in
@@ -88,7 +88,7 @@ module _ (h : Heap) (g : Graph) (w : IsWellFormed h) (s : StandsFor h g) (n : He
       (script_place-cases f.0 p.0 p.1)
 
   module _ (o : HeapScript) (at : Among o h.scripts) (named : o.name ≡ reflector n.number) where
-    -- no entry goes by it
+    -- no entry goes by the reflector
     its-entries : (e : Entry) → Among e h.entries → (j : Joint) → Gives e j → (¬ (j.the_map ≡ reflector n.number)) × (¬ (j.key ≡ reflector n.number))
     its-entries e i j gives = (no_map j gives, no_key j gives)
       where
