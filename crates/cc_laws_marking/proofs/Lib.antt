@@ -3,6 +3,7 @@ pub mod InOrder
 pub mod Waiting
 pub mod Grown
 pub mod CommandsOrder
+pub mod Few
 pub mod Unmarkable
 pub mod ReadingOthers
 pub mod CommandsUnmarkable

@@ -12,5 +12,5 @@ mod suspected;
 
 pub use between::{markings_free_what_was_white, other_commands_keep_marking};
 pub use freed::{commands_keep_unmarkable, markings_free_what_was_not_marked};
-pub use lists::markings_keep_order;
+pub use lists::{markings_keep_order, markings_scan_few};
 pub use suspected::markings_keep_suspected;
