@@ -25,7 +25,7 @@ member-there objects o m = ap is_some (find-some (λ (z : Object). z.key == o.ke
 
 module _ (to : Colour) (objects : List Object) (key : ℕ) where
   -- what has a colour is there,
-  at_least-there : IsTrue (has_at_least to objects key) → IsTrue (is_there objects key)
+  pub at_least-there : IsTrue (has_at_least to objects key) → IsTrue (is_there objects key)
   at_least-there = grind (arith, false≢true)
 
   -- and stands among their keys

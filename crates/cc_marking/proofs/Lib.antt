@@ -7,6 +7,8 @@ pub mod Levels
 pub mod Marks
 pub mod Started
 pub mod Underway
+pub mod Begun
 pub mod Turns
 pub mod Steps
 pub mod LeastColours
+pub mod CarriedOn

@@ -1,6 +1,6 @@
 -- WHAT A MARK OVER SLOTS AND ENTRIES COMES TO: how a key comes in, and induction.
 use Rattle.std.specs.Prelude.{◌↔◌, IsTrue}
-use Rattle.std.proofs.Common.{◌≡◌, ℕ, ◌==◌, List, [], refl, sym, subst, inl, inr, arith}
+use Rattle.std.proofs.Common.{◌≡◌, ℕ, ◌==◌, List, refl, sym, subst, inl, inr, arith}
 use Rattle.cc_lists.specs.Members.{Among, has}
 use Rattle.cc_lists.specs.Least.{Least, system}
 use Rattle.cc_lists.proofs.Closure.{closure-decides}

@@ -7,7 +7,7 @@ use Rattle.cc_lists.proofs.ListWrites.{flat_map-kept, map-agree}
 use Rattle.cc_names.specs.declared.kind.Colour.{Colour}
 use Rattle.cc_script.specs.Objects.{Object, with_colour, is_below, raised, raised_among, places_of}
 use Rattle.cc_script.specs.Walking.{edges, slot_edges}
-use Rattle.cc_script.proofs.Walks.{risen, risen-key, risen-slots, risen-places}
+use Rattle.cc_script.proofs.Walks.{risen, risen-key, risen-places}
 use Rattle.cc_marking.proofs.Painting.{painted, painted-alike, painted-twice}
 
 -- at least this colour

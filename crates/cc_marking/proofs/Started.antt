@@ -22,6 +22,7 @@ use Rattle.cc_weakmaps.specs.Index.{has_object}
 use Rattle.cc_marking.specs.Joints.{Joint, joints, joints_of}
 use Rattle.cc_marking.specs.Levels.{has_at_least}
 use Rattle.cc_marking.specs.Looking.{with_all_started, with_all_given, with_given, with_given_of, with_joint, with_joints}
+use Rattle.cc_marking.specs.Carrying.{is_looked_into, IsTidy}
 use Rattle.cc_marking.proofs.Joints.{entry-joint}
 use Rattle.cc_marking.proofs.Levels.{at_least-cases, at_least-kept, at_least-risen}
 use Rattle.cc_marking.proofs.Raising.{raised-twice}
@@ -32,15 +33,6 @@ has-append [] ys key = refl
 has-append (x ∷ xs) ys key = grind (arith, has-append xs ys key)
 
 module _ (to : Colour) where
-  -- an object has the colour, and was looked into
-  abbrev pub looked : Marking → ℕ → Bool
-  looked m key = has_at_least to m.objects key && not (has ◌==◌ m.waiting key)
-
-  -- what waits has the colour, and waits once
-  pub record IsTidy (m : Marking) : Type 0 where
-    pub risen : (key : ℕ) → Among key m.waiting → IsTrue (has_at_least to m.objects key)
-    pub once : (key : ℕ) → count_by (λ j. key == j) m.waiting ≤ 1
-
   -- what has the colour has a property
   abbrev pub AllHave : (ℕ → Type 0) → Marking → Type 0
   AllHave P m = (key : ℕ) → IsTrue (has_at_least to m.objects key) → P key
@@ -49,8 +41,8 @@ module _ (to : Colour) where
   pub record IsFurther (P : ℕ → Type 0) (m n : Marking) : Type 0 where
     pub keys : List ℕ
     pub raised : n.objects ≡ raised_among keys to m.objects
-    pub looked : (key : ℕ) → looked n key ≡ looked m key
-    pub tidy : IsTidy m → IsTidy n
+    pub looked : (key : ℕ) → is_looked_into to n key ≡ is_looked_into to m key
+    pub tidy : IsTidy to m → IsTidy to n
     pub have : AllHave P m → AllHave P n
 
   pub further-none : (P : ℕ → Type 0) (m : Marking) → IsFurther P m m
@@ -112,13 +104,13 @@ module _ (to : Colour) where
       one-cases j h = grind (arith, has-one, at_least-cases, not_below-self, one-raised)
 
       -- what waits has the colour, so the one that has not does not wait
-      one-absent : IsTidy m → ¬ (Among key m.waiting)
+      one-absent : IsTidy to m → ¬ (Among key m.waiting)
       one-absent tidy n = true≢false (sym (tidy.risen key n) ∙ lower-less m.objects key low)
 
-      one-looked : (j : ℕ) → looked risen_one j ≡ looked m j
+      one-looked : (j : ℕ) → is_looked_into to risen_one j ≡ is_looked_into to m j
       one-looked j = grind (arith, has-append, eqb-true, lower-less, one-more, true≢false, eq-eqb, one-cases)
 
-      one-tidy : IsTidy m → IsTidy risen_one
+      one-tidy : IsTidy to m → IsTidy to risen_one
       one-tidy tidy = record {
         risen = λ j n. ⊎_elim
             (λ was. one-more j (tidy.risen j was))
@@ -246,14 +238,14 @@ module _ (to : Colour) where
         place-member e place at = place-among e all place at
 
   -- a joint of which the first two were looked into gives the third the colour
-  looked-at_least : (m : Marking) (key : ℕ) → IsTrue (looked m key) → IsTrue (has_at_least to m.objects key)
+  looked-at_least : (m : Marking) (key : ℕ) → IsTrue (is_looked_into to m key) → IsTrue (has_at_least to m.objects key)
   looked-at_least m key h = (and_parts (has_at_least to m.objects key) (not (has ◌==◌ m.waiting key)) h).0
 
   -- whatever they are
   abbrev Any : ℕ → Type 0
   Any key = Unit {0}
 
-  joint-here : (j : Joint) (m : Marking) → IsTrue (is_there m.objects j.value) → IsTrue (looked m j.the_map) → IsTrue (looked m j.key) →
+  joint-here : (j : Joint) (m : Marking) → IsTrue (is_there m.objects j.value) → IsTrue (is_looked_into to m j.the_map) → IsTrue (is_looked_into to m j.key) →
       IsTrue (has_at_least to (with_joint to j m).objects j.value)
   joint-here j m there the_map key =
       let both : (has_at_least to m.objects j.the_map && has_at_least to m.objects j.key) ≡ true =
@@ -274,15 +266,15 @@ module _ (to : Colour) where
   any-joints (j ∷ js) m = further-then Any m (with_joint to j m) (with_joints to js (with_joint to j m)) (any-joint j m) (any-joints js (with_joint to j m))
 
   -- so does one of many
-  joints-here : (js : List Joint) (m : Marking) (j : Joint) → Among j js → IsTrue (is_there m.objects j.value) → IsTrue (looked m j.the_map) → IsTrue (looked m j.key) →
+  pub joints-here : (js : List Joint) (m : Marking) (j : Joint) → Among j js → IsTrue (is_there m.objects j.value) → IsTrue (is_looked_into to m j.the_map) → IsTrue (is_looked_into to m j.key) →
       IsTrue (has_at_least to (with_joints to js m).objects j.value)
   joints-here [] m j n there the_map key = absurd n
   joints-here (i ∷ js) m j n there the_map key = ⊎_elim
       (λ is.
       subst (λ (z : Joint). IsTrue (has_at_least to (with_joints to js (with_joint to i m)).objects z.value)) is
       (further-more Any (with_joint to i m) (with_joints to js (with_joint to i m)) (any-joints js (with_joint to i m)) i.value
-      (joint-here i m (subst (λ (z : Joint). IsTrue (is_there m.objects z.value)) (sym is) there) (subst (λ (z : Joint). IsTrue (looked m z.the_map)) (sym is) the_map)
-      (subst (λ (z : Joint). IsTrue (looked m z.key)) (sym is) key))))
+      (joint-here i m (subst (λ (z : Joint). IsTrue (is_there m.objects z.value)) (sym is) there) (subst (λ (z : Joint). IsTrue (is_looked_into to m z.the_map)) (sym is) the_map)
+      (subst (λ (z : Joint). IsTrue (is_looked_into to m z.key)) (sym is) key))))
       (λ t.
       let one = any-joint i m in
       joints-here js (with_joint to i m) j t (further-there Any m (with_joint to i m) one j.value ∙ there) (one.looked j.the_map ∙ the_map) (one.looked j.key ∙ key))
@@ -295,7 +287,7 @@ module _ (to : Colour) where
   any-values es object n m = further-values Any es (λ e among a b. tt) es (λ e among. among) object n m (λ key h. tt)
 
   pub values-here : (es : List KeyedEntry) (object n : ℕ) (m : Marking) (i : ℕ) (e : KeyedEntry) (j : Joint) → Among j (joints_of e) → i < n → slice_get es i ≡ Some e → has_object object e ≡ true →
-      IsTrue (is_there m.objects j.value) → IsTrue (looked m j.the_map) → IsTrue (looked m j.key) →
+      IsTrue (is_there m.objects j.value) → IsTrue (is_looked_into to m j.the_map) → IsTrue (is_looked_into to m j.key) →
       IsTrue (has_at_least to (with_all_given to es object n m).objects j.value)
   values-here es object zero m i e j among below at has there the_map key = absurd (omega (arith, below))
   values-here es object (suc n) m i e j among below at has there the_map key = ⊎_elim
@@ -323,7 +315,7 @@ module _ (to : Colour) where
 
   -- The first of those that wait leaves
 
-  module _ (m : Marking) (key : ℕ) (rest : List ℕ) (front : m.waiting ≡ key ∷ rest) (tidy : IsTidy m) where
+  module _ (m : Marking) (key : ℕ) (rest : List ℕ) (front : m.waiting ≡ key ∷ rest) (tidy : IsTidy to m) where
     abbrev pub left : Marking
     left = record { objects = m.objects; waiting = rest }
 
@@ -335,17 +327,17 @@ module _ (to : Colour) where
         let all : count_by (λ i. j == i) (key ∷ rest) ≤ 1 = subst (λ ks. count_by (λ i. j == i) ks ≤ 1) front (tidy.once j) in
         omega (arith, all, count_by-cons (λ i. j == i) key rest)
 
-    pub left-tidy : IsTidy left
+    pub left-tidy : IsTidy to left
     left-tidy = record {
       risen = λ j n. tidy.risen j (subst (Among j) (sym front) (inr n));
       once = λ j. let c = counted j in omega (arith, c);
     }
 
-    pub front-waits : looked m key ≡ false
+    pub front-waits : is_looked_into to m key ≡ false
     front-waits = grind (arith, has-there, number-exact)
 
     -- it alone is looked into then
-    pub left-looked : (j : ℕ) → looked left j ≡ (looked m j || key == j)
+    pub left-looked : (j : ℕ) → is_looked_into to left j ≡ (is_looked_into to m j || key == j)
     left-looked j = go (key == j) refl
       where
         none : has ◌==◌ rest key ≡ false
@@ -367,12 +359,12 @@ module _ (to : Colour) where
         same true = refl
         same false = refl
 
-        go : (b : Bool) → (key == j) ≡ b → looked left j ≡ (looked m j || b)
+        go : (b : Bool) → (key == j) ≡ b → is_looked_into to left j ≡ (is_looked_into to m j || b)
         go true e =
             let it : key ≡ j = eqb-true key j e in
-            subst (λ z. looked left z ≡ true) it
+            subst (λ z. is_looked_into to left z ≡ true) it
             (ap (λ b. b && not (has ◌==◌ rest key)) front-at_least ∙ ap not none)
-            ∙ right (looked m j)
+            ∙ right (is_looked_into to m j)
         go false e =
             let waits : has ◌==◌ m.waiting j ≡ has ◌==◌ rest j = ap (λ ks. has ◌==◌ ks j) front ∙ ap (λ b. b || has ◌==◌ rest j) e in
-            ap (λ b. has_at_least to m.objects j && not b) (sym waits) ∙ same (looked m j)
+            ap (λ b. has_at_least to m.objects j && not b) (sym waits) ∙ same (is_looked_into to m j)

@@ -1,15 +1,17 @@
 -- TURNS OF THE LOOPS of a marking: over roots, over the entries of an object, and what is left to be done after each.
 use Rattle.std.specs.Prelude.{slice_get}
-use Rattle.std.proofs.Common.{◌≡◌, ℕ, zero, suc, ◌+◌, ◌<◌, ◌≤◌, Bool, true, false, List, [], ◌∷◌, length, Option, Some, None, option_map, refl, sym, ◌∙◌, ap, arith, count_by}
+use Rattle.std.proofs.Common.{◌≡◌, ℕ, zero, suc, ◌+◌, ◌<◌, ◌≤◌, Bool, true, false, List, [], ◌∷◌, ◌++◌, length, drop, drop-cons, add-one, Option, Some, None, option_map, refl, sym, ◌∙◌, ap, arith, count_by}
+use Rattle.std.proofs.lemmas.Option.{get_or_from_slice_get, slice_get_within}
+use Rattle.std.proofs.Math.Seq.{drop-length}
 use Rattle.cc_names.specs.declared.kind.Colour.{Colour}
 use Rattle.cc_script.specs.Objects.{AreWhole, is_there, places_at}
 use Rattle.cc_script.specs.Marking.{Marking, raise_each, to_do}
-use Rattle.cc_script.specs.Underway.{Underway, marks_of, started}
+use Rattle.cc_script.specs.Underway.{Underway, looked_into, marks_of, started, with_marks}
 use Rattle.cc_script.proofs.Raising.{raise_key-spends, raise_each-spends}
 use Rattle.cc_weakmaps.specs.Entries.{KeyedEntry}
 use Rattle.cc_weakmaps.specs.Index.{has_object, IsPlaceOf, place_below}
 use Rattle.cc_weakmaps.proofs.Below.{below-last}
-use Rattle.cc_marking.specs.Joints.{Joint}
+use Rattle.cc_marking.specs.Joints.{Joint, joints, joints_of}
 use Rattle.cc_marking.specs.Looking.{with_all_started, with_all_given, with_given, with_given_of, with_joint, with_joints}
 use Rattle.cc_marking.proofs.Looked.{count_below, count-all, count-next, count-none}
 use Rattle.cc_marking.proofs.There.{AreThere}
@@ -105,3 +107,52 @@ values-spend to es object (suc n) m = omega (arith, values-spend to es object n 
 pub turn-spends : (to : Colour) (es : List KeyedEntry) (m : Marking) (key : ℕ) (rest : List ℕ) → m.waiting ≡ key ∷ rest → (n : Marking) →
     n ≡ with_all_given to es key (length es) (raise_each to (places_at m.objects key) (record { objects = m.objects; waiting = rest })) → to_do to n < to_do to m
 turn-spends to es m key rest front n e = grind (arith, values-spend, raise_each-spends)
+
+-- where none waits, none is looked into
+pub looked-none : (u : Underway) → u.waiting ≡ [] → looked_into u ≡ u
+looked-none u none = ap (with_marks u) (grind (arith))
+
+-- OVER ALL ENTRIES, at each once
+
+joints-append : (to : Colour) (firsts seconds : List Joint) (m : Marking) → with_joints to (firsts ++ seconds) m ≡ with_joints to seconds (with_joints to firsts m)
+joints-append to [] seconds m = refl
+joints-append to (j ∷ js) seconds m = joints-append to js seconds (with_joint to j m)
+
+-- the looks that are left lead where all do, and one step was taken for each of the others
+pub record IsLookingOver (to : Colour) (es : List KeyedEntry) (u : Underway) (before : ℕ) (v : Underway) (now i : ℕ) : Type 0 where
+  pub given : with_joints to (joints (drop i es)) (marks_of v) ≡ with_joints to (joints es) (marks_of u)
+  pub steps : now ≡ before + i
+  pub colour : v.to ≡ u.to
+  pub there : (k : ℕ) → is_there v.objects k ≡ is_there u.objects k
+  pub whole : AreWhole v.objects
+
+module _ (to : Colour) (es : List KeyedEntry) (u : Underway) (before : ℕ) where
+  pub over-begins : AreWhole u.objects → IsLookingOver to es u before u before 0
+  over-begins whole = record { given = refl; steps = omega arith; colour = refl; there = λ k. refl; whole = whole }
+
+  -- the entry at the next place was looked at
+  pub over-next : (v : Underway) (now i : ℕ) (e : KeyedEntry) (w : Underway) → slice_get es i ≡ Some e → marks_of w ≡ with_given to e (marks_of v) → w.to ≡ v.to →
+      ((k : ℕ) → is_there w.objects k ≡ is_there v.objects k) → AreWhole w.objects → IsLookingOver to es u before v now i → IsLookingOver to es u before w (now + 1) (i + 1)
+  over-next v now i e w at given colour there whole h = record {
+    given =
+        ap (with_joints to (joints (drop (i + 1) es))) given
+        ∙ (sym (joints-append to (joints_of e) (joints (drop (i + 1) es)) (marks_of v))
+        ∙ (ap (λ (left : List KeyedEntry). with_joints to (joints left) (marks_of v)) (sym (next_left)) ∙ h.given));
+    steps = let so_far = h.steps in omega (arith, so_far);
+    colour = colour ∙ h.colour;
+    there = λ k. there k ∙ h.there k;
+    whole = whole;
+  }
+    where
+      next_left : drop i es ≡ e ∷ drop (i + 1) es
+      next_left =
+          drop-cons es i e (slice_get_within es i e at)
+          ∙ (ap (λ x. x ∷ drop (suc i) es) (get_or_from_slice_get es i e e at) ∙ ap (λ n. e ∷ drop n es) (sym (add-one i)))
+
+  -- all were
+  pub over-done : (v : Underway) (now i : ℕ) → i ≡ length es → IsLookingOver to es u before v now i →
+      (marks_of v ≡ with_joints to (joints es) (marks_of u)) × (now ≡ before + length es)
+  over-done v now i end h = (
+    ap (λ (left : List KeyedEntry). with_joints to (joints left) (marks_of v)) (sym (ap (λ n. drop n es) end ∙ drop-length es)) ∙ h.given,
+    h.steps ∙ ap (λ n. before + n) end,
+  )

@@ -1,4 +1,5 @@
 pub mod Joints
 pub mod Marking
 pub mod Levels
+pub mod Carrying
 pub mod Looking

@@ -1,73 +1,38 @@
-use Rattle.std.proofs.Common.{◌≡◌, [], ◌∷◌, length, drop, sym, ◌∙◌, ap, subst, arith}
-use Rattle.cc_script.specs.Objects.{AreWhole, is_there, places_at}
-use Rattle.cc_script.specs.Marking.{Marking, raise_each}
+use Rattle.std.proofs.Common.{◌++◌, ◌∙◌, List, ℕ, subst, sym, arith}
+use Rattle.cc_script.specs.Objects.{AreWhole}
 use Rattle.cc_script.specs.Underway.{Underway, marks_of}
-use Rattle.cc_script.proofs.Popping.{front-popped, none-popped}
-use Rattle.cc_script.proofs.Underway.{first-looked}
-use Rattle.cc_script.proofs.Wholeness.{there-raised}
-use Rattle.cc_marking.specs.Looking.{with_all_given}
-use Rattle.cc_marking.proofs.There.{AreEntriesThere-stay}
-use Rattle.cc_marking.proofs.Turns.{turn-spends}
-use Rattle.cc_marking.proofs.Underway.{IsUnderWay, under_way-begins, under_way-turns, under_way-ends, under_way-spent}
+use Rattle.cc_marking.specs.Levels.{keys_at_least}
+use Rattle.cc_marking.proofs.Begun.{IsBegunFrom, roots-begin, begun-so_far, begun-sides, begun-carried}
 use Rattle.cc_marking.proofs.marking.mark_to.Given as given
 use Rattle.cc_marking.proofs.marking.mark_to.Goals as goal
 
 pub start_each-requires-clause-whole : goal.start_each-requires-clause-whole
 start_each-requires-clause-whole g c = subst (λ (u : Underway). AreWhole u.objects) (sym c.start_marking-marking.ensures.marking) c.requires.ordered.whole
 
-pub loop-key-init : goal.loop-key-init
-loop-key-init g c = grind (arith, under_way-begins, g.R.Roots.left)
+pub look_into_all-requires-clause-so_far : goal.look_into_all-requires-clause-so_far
+look_into_all-requires-clause-so_far g c =
+    begun-so_far c.args.to c.args.weak.now c.args.scripts.now _ (marks_of c.start_each.new.marking)
+    (roots-begin c.args.to c.args.weak.now c.args.scripts.now (g.R.Roots.left c.args.roots.now) c.requires.followed c.requires.live c.start_marking-marking.result
+    c.start_each.new.marking c.start_marking-marking.ensures.marking c.start_each.ensures.started)
+    c.requires.ordered c.start_marking-marking.ensures.own c.requires.entries
 
--- the first of those that wait
-module _ (g : given.Over) (c : goal.After-mark_entries g) where
-  abbrev m : Marking
-  m = marks_of c.loop-key.marking
-
-  front : m.waiting ≡ c.in-Some.key.0 ∷ drop 1 m.waiting
-  front = front-popped m.waiting c.in-Some.key.0 c.in-Some.ensures.first
-
-  abbrev slotted : Marking
-  slotted = raise_each c.args.to (places_at m.objects c.in-Some.key.0) (record { objects = m.objects; waiting = drop 1 m.waiting })
-
-  slotted-is : marks_of c.next_marked.new.self ≡ slotted
-  slotted-is = grind (arith, first-looked, front)
-
-  valued-is : marks_of c.mark_entries.new.marking ≡ with_all_given c.args.to c.args.weak.now c.in-Some.key.0 (length c.args.weak.now) slotted
-  valued-is = c.mark_entries.ensures.given ∙ ap (with_all_given c.args.to c.args.weak.now c.in-Some.key.0 (length c.args.weak.now)) slotted-is
-
-pub mark_entries-requires-clause-entries : goal.mark_entries-requires-clause-entries
-mark_entries-requires-clause-entries g c =
-    let u = c.loop-key.invariant.0 in
-    AreEntriesThere-stay c.args.scripts.now c.next_marked.new.self.objects
-    (λ k h. c.in-Some.ensures.there k ∙ (ap (λ os. is_there os k) u.raised ∙ (there-raised u.keys c.args.to c.args.scripts.now k ∙ h))) c.args.weak.now c.requires.entries
-
-pub loop-key-smaller : goal.loop-key-smaller
-loop-key-smaller g c =
-    turn-spends c.args.to c.args.weak.now (m g c) c.in-Some.key.0 (drop 1 (m g c).waiting) (front g c) (marks_of c.mark_entries.new.marking) (valued-is g c)
-
-pub loop-key-preserved : goal.loop-key-preserved
-loop-key-preserved g c = (
-  subst (λ n. IsUnderWay c.args.to c.args.weak.now c.args.scripts.now (g.R.Roots.left c.args.roots.now) c.args.steps.now n (marks_of c.mark_entries.new.marking)) (sym c.mark_entries.ensures.steps)
-      (under_way-turns c.args.to c.args.weak.now c.args.scripts.now (g.R.Roots.left c.args.roots.now) c.requires.ordered c.start_marking-marking.ensures.own c.requires.entries
-      c.args.steps.now c.loop-key.steps (m g c) c.loop-key.invariant.0 c.in-Some.key.0 (drop 1 (m g c).waiting) (front g c) (marks_of c.mark_entries.new.marking) (valued-is g c)),
-  c.mark_entries.ensures.colour ∙ (ap (λ (u : Underway). u.to) c.in-Some.ensures.looked ∙ c.loop-key.invariant.1),
-  c.mark_entries.ensures.whole,
-)
-
--- none waits
+-- the roots were started
 module _ (g : given.Over) (c : goal.After-end_marking g) where
-  emptied : (marks_of c.loop-key.marking).waiting ≡ []
-  emptied = none-popped c.loop-key.marking.waiting c.in_default.ensures.first
+  abbrev from : List ℕ
+  from = keys_at_least c.args.to c.args.scripts.now ++ g.R.Roots.left c.args.roots.now
 
-  end-is : c.end_marking.new.self ≡ c.loop-key.marking.objects
-  end-is = search (emptied)
+  begun : IsBegunFrom c.args.to c.args.weak.now c.args.scripts.now from (marks_of c.start_each.new.marking)
+  begun =
+      roots-begin c.args.to c.args.weak.now c.args.scripts.now (g.R.Roots.left c.args.roots.now) c.requires.followed c.requires.live c.start_marking-marking.result
+      c.start_each.new.marking c.start_marking-marking.ensures.marking c.start_each.ensures.started
 
 pub returns-clause-raised : goal.returns-clause-raised
 returns-clause-raised g c =
-    end-is g c
-    ∙ under_way-ends c.args.to c.args.weak.now c.args.scripts.now (g.R.Roots.left c.args.roots.now) c.requires.ordered c.args.steps.now c.loop-key.steps (marks_of c.loop-key.marking) c.loop-key.invariant.0 (emptied g c)
+    c.end_marking.ensures ∙ (c.look_into_all.ensures.carried
+    ∙ begun-carried c.args.to c.args.weak.now c.args.scripts.now (from g c) (marks_of c.start_each.new.marking) (begun g c))
 
 pub returns-clause-steps : goal.returns-clause-steps
 returns-clause-steps g c =
-    let spent = under_way-spent c.args.to c.args.weak.now c.args.scripts.now (g.R.Roots.left c.args.roots.now) c.requires.ordered c.args.steps.now c.loop-key.steps (marks_of c.loop-key.marking) c.loop-key.invariant.0 (emptied g c) in
-    rw (end-is g c) spent
+    let sides = begun-sides c.args.to c.args.weak.now c.args.scripts.now (from g c) (marks_of c.start_each.new.marking) (begun g c) in
+    let taken = c.look_into_all.ensures.steps in
+    rw c.end_marking.ensures (omega (arith, sides, taken))

@@ -1,0 +1,42 @@
+use Rattle.std.proofs.Common.{◌≡◌, ◌∙◌, ap, subst, sym, arith}
+use Rattle.cc_names.specs.declared.kind.Colour.TheVariants.{Gray, Black}
+use Rattle.cc_script.specs.ColourOrder.{HasColourOrder}
+use Rattle.cc_script.specs.Objects.{AreWhole}
+use Rattle.cc_marking.specs.Carrying.{carried_on, marked_on}
+use Rattle.cc_marking.specs.Levels.{has_at_least, keys_at_least}
+use Rattle.cc_marking.specs.Marking.{AreEntriesThere}
+use Rattle.cc_marking.proofs.CarriedOn.{blacked-entries, blacked-order, blacked-whole, marked_on-colours}
+use Rattle.cc_marking.proofs.LeastColours.{marked-least}
+use Rattle.cc_marking.proofs.Looked.{sides-all, sides-less}
+use Rattle.cc_marking.proofs.Steps.{black-gray}
+use Rattle.cc_marking.proofs.marking.mark_on.Given as given
+use Rattle.cc_marking.proofs.marking.mark_on.Goals as goal
+
+pub carry_on-requires-2-clause-entries : goal.carry_on-requires-2-clause-entries
+carry_on-requires-2-clause-entries g c = subst (λ os. AreEntriesThere os c.args.weak.now) (sym c.carry_on.ensures.carried) (blacked-entries c.args.weak.now c.args.scripts.now c.requires.whole c.requires.entries)
+
+pub carry_on-requires-2-clause-whole : goal.carry_on-requires-2-clause-whole
+carry_on-requires-2-clause-whole g c = subst AreWhole (sym c.carry_on.ensures.carried) (blacked-whole c.args.weak.now c.args.scripts.now c.requires.whole c.requires.entries)
+
+pub carry_on-requires-2-clause-ordered : goal.carry_on-requires-2-clause-ordered
+carry_on-requires-2-clause-ordered g c = subst HasColourOrder (sym c.carry_on.ensures.carried) (blacked-order c.args.weak.now c.args.scripts.now c.requires.whole c.requires.entries c.requires.ordered)
+
+colours : (g : given.Over) (c : goal.After-carry_on-2 g) → c.carry_on-2.new.scripts ≡ marked_on c.args.weak.now c.args.scripts.now
+colours g c = c.carry_on-2.ensures.carried ∙ ap (carried_on Gray c.args.weak.now) c.carry_on.ensures.carried
+
+pub returns-clause-colours : goal.returns-clause-colours
+returns-clause-colours g c =
+    colours g c ∙ marked_on-colours c.args.weak.now c.args.scripts.now c.requires.whole c.requires.entries c.carry_on.ensures.own
+
+pub returns-clause-least : goal.returns-clause-least
+returns-clause-least g c = marked-least c.args.scripts.now c.args.weak.now (keys_at_least Black c.args.scripts.now) (keys_at_least Gray c.args.scripts.now) c.carry_on-2.new.scripts
+    (returns-clause-colours g c)
+
+-- each entry twice, and a step for each side at most
+pub returns-clause-steps : goal.returns-clause-steps
+returns-clause-steps g c =
+    let first = c.carry_on.ensures.steps in
+    let second = c.carry_on-2.ensures.steps in
+    let between = sides-less (has_at_least Black c.carry_on.new.scripts) (has_at_least Gray c.carry_on.new.scripts) c.args.weak.now (black-gray c.carry_on.new.scripts) in
+    let all = sides-all (has_at_least Black c.args.scripts.now) c.args.weak.now in
+    omega (arith, first, second, between, all)
