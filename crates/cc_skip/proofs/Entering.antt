@@ -1,7 +1,8 @@
 -- OBJECTS COME INTO THE WALK one after another.
-use Rattle.std.proofs.Common.{◌≡◌, ℕ, ◌+◌, ◌<◌, List, [], ◌∷◌, ◌++◌, take, length, get_or, Option, Some, None, refl, sym, ◌∙◌, ap, subst, inl, inr, ◌⊎◌, ⊎_elim}
+use Rattle.std.proofs.Common.{◌≡◌, ℕ, ◌+◌, ◌<◌, ◌≤◌, List, [], ◌∷◌, ◌++◌, take, length, get_or, Option, Some, None, refl, sym, ◌∙◌, ap, subst, inl, inr, ◌⊎◌, ⊎_elim, arith}
 use Rattle.std.specs.Prelude.{IsTrue}
 use Rattle.std.specs.Option.{option_to_list}
+use Rattle.std.proofs.Math.Seq.{take-length}
 use Rattle.std.proofs.lemmas.Grind.{flat_map-append}
 use Rattle.std.proofs.lemmas.List.{append-nil, take_more}
 use Rattle.cc_lists.specs.Members.{Among}
@@ -16,11 +17,12 @@ use Rattle.cc_counted.specs.declared.held.Held.{Held}
 use Rattle.cc_heaps.specs.Keyed.{Keyed}
 use Rattle.cc_heaps.specs.Changes.{held_name}
 use Rattle.cc_heaps.specs.Keeping.{KeepsAll}
+use Rattle.cc_heaps.specs.Places.{places_at}
 use Rattle.cc_heaps.specs.Walking.{state_in, unwalked, with_state_in}
 use Rattle.cc_heaps.proofs.Kept.{KeepsAll-same}
 use Rattle.cc_heaps.proofs.MarksKept.{marks-then}
 use Rattle.cc_skip.specs.Walked.{Enters, IsInWalk, is_given, left_to_give}
-use Rattle.cc_skip.proofs.States.{IsOne, entered-given, entered-walked, left-kept, named-rest, rest-stated, stated-cases}
+use Rattle.cc_skip.proofs.States.{IsOne, entered-given, entered-walked, left-kept, named-rest, places-rest, rest-stated, stated-cases}
 
 -- ALL IS KEPT by two changes in a row, where the second leaves which objects there are
 pub kept-over : (a b c : Keyed) → native_names c.heap ≡ native_names b.heap → script_names c.heap ≡ script_names b.heap → KeepsAll a b → KeepsAll b c → KeepsAll a c
@@ -110,3 +112,19 @@ pub Enters-more : (a b c : Keyed) (slots : Slots) (i : ℕ) (x : Option Name) �
     Enters a b (contents (take i slots)) → Enters b c (option_to_list x) → Enters a c (contents (take (i + 1) slots))
 Enters-more a b c slots i x within is s t = subst (Enters a c) (sym (contents-more slots i within))
     (Enters-then a b c (contents (take i slots)) (option_to_list (get_or slots i None)) s (subst (λ o. Enters b c (option_to_list o)) (sym is) t))
+
+-- ONE MORE PLACE OF AN OBJECT: what is read there comes in
+pub Enters-place : (a b c : Keyed) (o : Held) (i : ℕ) (x : Option Name) → i < length (places_at a o) → x ≡ get_or (places_at b o) i None →
+    Enters a b (contents (take i (places_at a o))) → Enters b c (option_to_list x) → Enters a c (contents (take (i + 1) (places_at a o)))
+Enters-place a b c o i x within read s t =
+    Enters-more a b c (places_at a o) i x within (ap (λ slots. get_or slots i None) (sym (places-rest a b s.rest o)) ∙ sym read) s t
+
+-- THE LAST PLACE, and so all of them
+pub Enters-last : (a b c : Keyed) (o : Held) (n : ℕ) (x : Option Name) → length (places_at a o) ≡ n + 1 → x ≡ get_or (places_at b o) n None →
+    Enters a b (contents (take n (places_at a o))) → Enters b c (option_to_list x) → Enters a c (contents (places_at a o))
+Enters-last a b c o n x many read s t = subst (λ slots. Enters a c (contents slots)) (ap (λ i. take i (places_at a o)) (sym many) ∙ take-length (places_at a o))
+    (Enters-place a b c o n x (omega (arith, many)) read s t)
+
+-- those of all slots, where a walk over them ended
+pub Enters-slots : (a b : Keyed) (o : Held) (i n : ℕ) → i ≤ n → n ≤ i → Enters a b (contents (take i (places_at a o))) → Enters a b (contents (take n (places_at a o)))
+Enters-slots a b o i n below above s = let same : i ≡ n = omega (arith, below, above) in subst (λ j. Enters a b (contents (take j (places_at a o)))) same s

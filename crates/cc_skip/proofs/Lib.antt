@@ -1,6 +1,8 @@
 pub mod Written
 pub mod States
 pub mod Entering
+pub mod NativePlaces
+pub mod ScriptPlaces
 pub mod Edges
 pub mod Walks
 pub mod Buffers

@@ -11,8 +11,6 @@ use Rattle.cc_lists.proofs.ListWrites.{count_by-kept_map, map-kept}
 use Rattle.cc_names.specs.declared.name.Name.{Name}
 use Rattle.cc_names.specs.declared.kind.Walked.{Walked}
 use Rattle.cc_names.specs.declared.kind.Walked.TheVariants.{Out, Waiting, Given}
-use Rattle.cc_names.specs.declared.number.NKey.{NKey}
-use Rattle.cc_names.specs.declared.number.SKey.{SKey}
 use Rattle.cc_names.specs.Names.{native}
 use Rattle.cc_model.specs.Checks.{slots_or_none}
 use Rattle.cc_model.specs.Places.{places_in}
@@ -24,7 +22,7 @@ use Rattle.cc_counted.specs.declared.held.Held.TheVariants as held
 use Rattle.cc_script.specs.Objects.{Object, change_object, is_there, name_at, object_at, walked_at, with_walked}
 use Rattle.cc_script.specs.Objects as objects
 use Rattle.cc_heaps.specs.Keyed.{Keyed, number_at}
-use Rattle.cc_heaps.specs.Changes.{IsThere, held_name, native_name, script_name}
+use Rattle.cc_heaps.specs.Changes.{IsThere, held_name}
 use Rattle.cc_heaps.specs.Places.{places_at}
 use Rattle.cc_heaps.specs.Walking.{restated, state_in, state_or_out, unwalked, with_state_in}
 use Rattle.cc_heaps.proofs.Reaching.{object_at-found}
@@ -95,15 +93,6 @@ there-rest v w e (Some (held.Script key)) t =
 pub places-rest : (v w : Keyed) → unwalked w ≡ unwalked v → (x : Held) → places_at w x ≡ places_at v x
 places-rest v w e x =
     λ i. slots_or_none (option_and_then (places_in (ap (λ (u : Keyed). u.heap) e i)) (named-rest v w e (Some x) i))
-
--- what registers hold, by its name
-pub native-held : (v : Keyed) (o : Option NKey) → held_name v (held_of_native o) ≡ native_name v o
-native-held v None = refl
-native-held v (Some key) = refl
-
-pub script-held : (v : Keyed) (o : Option SKey) → held_name v (option_map held.Script o) ≡ script_name v o
-script-held v None = refl
-script-held v (Some key) = refl
 
 -- what is there has a name
 pub there-named : (v : Keyed) (x : Held) → IsThere v (Some x) → (z : Name) × (held_name v (Some x) ≡ Some z)

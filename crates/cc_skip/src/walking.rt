@@ -1,10 +1,10 @@
 //! The walk from the registers over the places of objects.
-ghost use Rattle.std.specs.Prelude.{◌≡◌, ◌↔◌, ℕ, List, option_map, option_to_list, Some};
+ghost use Rattle.std.specs.Prelude.{◌≡◌, ◌↔◌, ℕ, List, option_to_list, Some};
 ghost use Rattle.cc_names.specs.declared.name.Name.{Name};
 ghost use Rattle.cc_model.specs.Slots.{contents};
 ghost use Rattle.cc_model.specs.Skipping.{IsSkippable};
 ghost use Rattle.cc_counted.specs.declared.held.Held.TheVariants as held;
-ghost use Rattle.cc_heaps.specs.Changes.{IsThere, held_name};
+ghost use Rattle.cc_heaps.specs.Changes.{IsNativeThere, IsScriptThere, IsThere, held_name, native_name, script_name};
 ghost use Rattle.cc_heaps.specs.Keeping.{KeepsAll};
 ghost use Rattle.cc_heaps.specs.Keyed.{IsInOrder};
 ghost use Rattle.cc_heaps.specs.Places.{places_at};
@@ -13,7 +13,7 @@ ghost use Rattle.cc_skip.specs.Walked.{Enters, IsInWalk};
 
 use cc_counted::Held;
 use cc_heaps::Heaps;
-use cc_names::SKey;
+use cc_names::{NKey, SKey};
 
 /// The walk over all that the registers reach by places: afterwards exactly what can be skipped is in it.
 pub(crate) fn walk(heaps: &mut Heaps)
@@ -35,8 +35,8 @@ fn enter_natives(heaps: &mut Heaps)
     ensures { Enters heaps.old heaps.new (contents heaps.old.heap.native_registers) }
 {
     for r in 0..heaps.native_reg_count() {
-        let content = Held::of_native(heaps.native_reg(r));
-        enter(heaps, content);
+        let content = heaps.native_reg(r);
+        enter_native(heaps, content);
     }
 }
 
@@ -45,18 +45,8 @@ fn enter_scripts(heaps: &mut Heaps)
     ensures { Enters heaps.old heaps.new (contents heaps.old.heap.script_registers) }
 {
     for r in 0..heaps.script_reg_count() {
-        let content = held_script(heaps.script_reg(r));
-        enter(heaps, content);
-    }
-}
-
-/// A script object that may be there, as a place holds it.
-fn held_script(content: Option<SKey>) -> Option<Held>
-    ensures { result ≡ option_map held.Script content }
-{
-    match content {
-        Some(key) => Some(Held::Script(key)),
-        None => None,
+        let content = heaps.script_reg(r);
+        enter_script(heaps, content);
     }
 }
 
@@ -66,18 +56,74 @@ fn enter_places(heaps: &mut Heaps, object: Held)
     requires there { IsThere heaps.old (Some object) }
     ensures { Enters heaps.old heaps.new (contents (places_at heaps.old object)) }
 {
-    for i in 0..heaps.places(object) {
-        let content = heaps.place(object, i);
-        enter(heaps, content);
+    match object {
+        Held::Native(key) => enter_of_native(heaps, key),
+        Held::Script(key) => enter_of_script(heaps, key),
     }
 }
 
+/// What a native refers to comes into the walk: what each slot holds, and its reflector, where that is preserved.
+fn enter_of_native(heaps: &mut Heaps, key: NKey)
+    requires order { (owned : List ℕ) × IsInOrder owned heaps.old }
+    requires there { IsThere heaps.old (Some (held.Native key)) }
+    ensures { Enters heaps.old heaps.new (contents (places_at heaps.old (held.Native key))) }
+{
+    for i in 0..heaps.counted().slots(key) {
+        let content = heaps.counted().slot(key, i);
+        enter(heaps, content);
+    }
+    if heaps.counted().preserved(key) {
+        let its_reflector = heaps.counted().reflector(key);
+        enter_script(heaps, its_reflector);
+    }
+}
+
+/// What a script object refers to comes into the walk: what each slot holds, the delegate of a proxy, and the native of a
+/// reflector.
+fn enter_of_script(heaps: &mut Heaps, key: SKey)
+    requires order { (owned : List ℕ) × IsInOrder owned heaps.old }
+    requires there { IsThere heaps.old (Some (held.Script key)) }
+    ensures { Enters heaps.old heaps.new (contents (places_at heaps.old (held.Script key))) }
+{
+    for i in 0..heaps.scripts().slots(key) {
+        let content = heaps.scripts().slot(key, i);
+        enter_script(heaps, content);
+    }
+    let delegate = heaps.scripts().delegate(key);
+    enter_script(heaps, delegate);
+    let native = heaps.scripts().native_of(key);
+    enter_native(heaps, native);
+}
+
 /// What a place holds comes into the walk, where it holds something.
+#[inline(always)]
 fn enter(heaps: &mut Heaps, content: Option<Held>)
     requires there { IsThere heaps.old content }
     ensures { Enters heaps.old heaps.new (option_to_list (held_name heaps.old content)) }
 {
     if let Some(object) = content {
         heaps.walk_add(object);
+    }
+}
+
+/// The same of a native.
+#[inline(always)]
+fn enter_native(heaps: &mut Heaps, content: Option<NKey>)
+    requires there { IsNativeThere heaps.old content }
+    ensures { Enters heaps.old heaps.new (option_to_list (native_name heaps.old content)) }
+{
+    if let Some(key) = content {
+        heaps.walk_add(Held::Native(key));
+    }
+}
+
+/// The same of a script object.
+#[inline(always)]
+fn enter_script(heaps: &mut Heaps, content: Option<SKey>)
+    requires there { IsScriptThere heaps.old content }
+    ensures { Enters heaps.old heaps.new (option_to_list (script_name heaps.old content)) }
+{
+    if let Some(key) = content {
+        heaps.walk_add(Held::Script(key));
     }
 }

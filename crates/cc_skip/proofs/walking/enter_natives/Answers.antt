@@ -1,8 +1,7 @@
 use Rattle.std.proofs.Common.{◌≡◌, None, get_or, sym, ◌∙◌, ap, arith}
-use Rattle.cc_heaps.specs.Changes.{held_name}
+use Rattle.cc_heaps.specs.Changes.{native_name}
 use Rattle.cc_heaps.specs.Keyed.{Keyed}
 use Rattle.cc_skip.proofs.Entering.{Enters-more, Enters-none}
-use Rattle.cc_skip.proofs.States.{native-held}
 use Rattle.cc_skip.proofs.walking.enter_natives.Goals as goal
 
 pub loop-r-init : goal.loop-r-init
@@ -12,8 +11,8 @@ pub loop-r-preserved : goal.loop-r-preserved
 loop-r-preserved c =
     let v = c.args.heaps.now in
     let b = c.loop-r.heaps in
-    let read : get_or v.heap.native_registers c.loop-r.r None ≡ held_name b c.of_native-content.result =
-    ap (λ (u : Keyed). get_or u.heap.native_registers c.loop-r.r None) (sym c.loop-r.invariant.rest)
-    ∙ (sym c.native_reg.ensures.name ∙ (sym (native-held b c.native_reg.result) ∙ ap (held_name b) (sym c.of_native-content.ensures))) in
-    Enters-more v b c.enter.new.heaps v.heap.native_registers c.loop-r.r (held_name b c.of_native-content.result) (omega (arith, c.loop-r-test.true, c.native_reg_count-r-end.ensures)) read
-    c.loop-r.invariant c.enter.ensures
+    let content = c.native_reg-content.result in
+    let read : get_or v.heap.native_registers c.loop-r.r None ≡ native_name b content =
+    ap (λ (u : Keyed). get_or u.heap.native_registers c.loop-r.r None) (sym c.loop-r.invariant.rest) ∙ sym c.native_reg-content.ensures.name in
+    Enters-more v b c.enter_native.new.heaps v.heap.native_registers c.loop-r.r (native_name b content) (omega (arith, c.loop-r-test.true, c.native_reg_count-r-end.ensures)) read
+    c.loop-r.invariant c.enter_native.ensures
