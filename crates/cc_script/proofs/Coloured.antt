@@ -11,13 +11,13 @@ use Rattle.cc_lists.proofs.Held.{is_some-map, is_some-found}
 use Rattle.slab.specs.Slab.{Slab, ContainsKey, Updates, get}
 use Rattle.cc_lists.proofs.ListWrites.{map-agree}
 use Rattle.cc_names.specs.declared.kind.Colour.{Colour}
-use Rattle.cc_names.specs.declared.kind.Colour.TheVariants.{White, Gray}
+use Rattle.cc_names.specs.declared.kind.Colour.TheVariants.{White, Gray, Black}
 use Rattle.cc_chain.specs.declared.link.Link.{Link}
 use Rattle.cc_chain.specs.Links.{is_live}
-use Rattle.cc_script.specs.Lists.{Placed, cell_at, newly_marked, painted}
+use Rattle.cc_script.specs.Lists.{Placed, cell_at, exchanged_marks, newly_marked, painted}
 use Rattle.cc_script.specs.Paired.{Reaches, paired}
 use Rattle.cc_script.specs.Threads.{Thread, same_thread}
-use Rattle.cc_script.specs.Cells.{AreGrayNoted, Changes, Content, HasColourAt, HaveAll, Label, Linked, Whitens, bare_slab, cells_of, coloured_slab, filled, filled_slab, in_colour, in_new_mark, link_of, links_in, marked_slab, nothing}
+use Rattle.cc_script.specs.Cells.{AreGrayNoted, Changes, ChangesEach, Content, HasColourAt, HaveAll, Label, Linked, bare_slab, cells_of, coloured_slab, filled, filled_slab, in_colour, in_new_mark, link_of, links_in, marked_slab, nothing}
 use Rattle.cc_script.proofs.Linking.{Relinks, cell-held, cell-read, changes-written, relinks-written}
 use Rattle.cc_script.proofs.Paired.{held-in, held-out, paired-at, paired-same, paired-set, paired-written, read-at, updates-made, updates-taken, vacant-at}
 
@@ -46,30 +46,91 @@ replicate-white zero key = refl
 replicate-white (suc n) zero = refl
 replicate-white (suc n) (suc key) = replicate-white n key
 
--- links stay
-links-white : (t : Thread) (slots : List (Option Linked)) → links_in t (map (option_map (in_colour White)) slots) ≡ links_in t slots
-links-white t slots = fun_ext (λ key. ap (option_map (link_of t)) (get_or-map (option_map (in_colour White)) slots key None) ∙ go (get_or slots key None))
+-- each object changed in the same way, and no link
+links-each : (f : Linked → Linked) (t : Thread) → ((z : Linked) → link_of t (f z) ≡ link_of t z) → (slots : List (Option Linked)) → links_in t (map (option_map f) slots) ≡ links_in t slots
+links-each f t same slots = fun_ext (λ key. ap (option_map (link_of t)) (get_or-map (option_map f) slots key None) ∙ go (get_or slots key None))
   where
-    go : (o : Option Linked) → option_map (link_of t) (option_map (in_colour White) o) ≡ option_map (link_of t) o
+    go : (o : Option Linked) → option_map (link_of t) (option_map f o) ≡ option_map (link_of t) o
     go None = refl
-    go (Some z) = refl
+    go (Some z) = ap Some (same z)
 
-pub whitens-all : {room : ℕ} (s : Slab Linked) (colours : List Colour) (n : ℕ) → Whitens (coloured_slab room s colours) (coloured_slab room s (replicate n White))
-whitens-all {room} s colours n =
-    let old = coloured s.slots colours in
-    let all = coloured-white s.slots (replicate n White) colours (replicate-white n) in
-    record {
-      cells = ap cells_of all
-          ∙ (map-map (option_map (λ (z : Linked). z.placed)) (option_map (in_colour White)) old
-          ∙ (map-agree (λ o. option_map (λ (z : Linked). z.placed) (option_map (in_colour White) o)) (λ o. option_map (painted White) (option_map (λ (z : Linked). z.placed) o)) old (λ o m. go o)
-          ∙ sym (map-map (option_map (painted White)) (option_map (λ (z : Linked). z.placed)) old)));
-      links = λ t. ap (links_in t) all ∙ links-white t old;
-      capacity = refl;
-    }
+pub changes-each : (old new : Slab Linked) (f : Linked → Linked) (change : Placed → Placed) → new.slots ≡ map (option_map f) old.slots → new.capacity ≡ old.capacity →
+    ((z : Linked) → (f z).placed ≡ change z.placed) → ((t : Thread) (z : Linked) → link_of t (f z) ≡ link_of t z) → ChangesEach old new change
+changes-each old new f change all capacity changes same = record {
+  cells = ap cells_of all
+      ∙ (map-map (option_map object_in) (option_map f) old.slots
+      ∙ (map-agree (λ o. option_map object_in (option_map f o)) (λ o. option_map change (option_map object_in o)) old.slots (λ o m. go o)
+      ∙ sym (map-map (option_map change) (option_map object_in) old.slots)));
+  links = λ t. ap (links_in t) all ∙ links-each f t (same t) old.slots;
+  capacity = capacity;
+}
   where
-    go : (o : Option Linked) → option_map (λ (z : Linked). z.placed) (option_map (in_colour White) o) ≡ option_map (painted White) (option_map (λ (z : Linked). z.placed) o)
+    object_in : Linked → Placed
+    object_in z = z.placed
+
+    go : (o : Option Linked) → option_map object_in (option_map f o) ≡ option_map change (option_map object_in o)
     go None = refl
-    go (Some z) = refl
+    go (Some z) = ap Some (changes z)
+
+-- all colours white
+pub whitens-all : {room : ℕ} (s : Slab Linked) (colours : List Colour) (n : ℕ) → ChangesEach (coloured_slab room s colours) (coloured_slab room s (replicate n White)) (painted White)
+whitens-all {room} s colours n = changes-each (coloured_slab room s colours) (coloured_slab room s (replicate n White)) (in_colour White) (painted White)
+    (coloured-white s.slots (replicate n White) colours (replicate-white n)) refl (λ z. refl) (λ t z. refl)
+
+-- the objects with new marks and colours
+abbrev marked : List (Option Linked) → List Colour → List Colour → List (Option Linked)
+marked slots marks colours = coloured (paired in_new_mark White slots marks) colours
+
+-- all new marks white
+marked-white : (slots : List (Option Linked)) (whites marks colours : List Colour) → ((key : ℕ) → get_or whites key White ≡ White) →
+    marked slots whites colours ≡ map (option_map (in_new_mark White)) (marked slots marks colours)
+marked-white [] whites marks colours white = refl
+marked-white (o ∷ slots) whites marks colours white =
+    ap (λ x. x ∷ marked slots (drop 1 whites) (drop 1 colours)) (ap (λ c. option_map (in_colour colour) (option_map (in_new_mark c) o)) (white 0) ∙ go o)
+    ∙ ap (λ rest. option_map (in_new_mark White) (option_map (in_colour colour) (option_map (in_new_mark mark) o)) ∷ rest)
+    (marked-white slots (drop 1 whites) (drop 1 marks) (drop 1 colours) (λ key. next-white whites key ∙ white (suc key)))
+  where
+    colour : Colour
+    colour = get_or colours 0 White
+
+    mark : Colour
+    mark = get_or marks 0 White
+
+    go : (o : Option Linked) → option_map (in_colour colour) (option_map (in_new_mark White) o) ≡ option_map (in_new_mark White) (option_map (in_colour colour) (option_map (in_new_mark mark) o))
+    go None = refl
+    go (Some b) = refl
+
+pub unmarks-all : {room : ℕ} (s : Slab Linked) (marks colours : List Colour) (n : ℕ) →
+    ChangesEach (coloured_slab room (marked_slab s marks) colours) (coloured_slab room (marked_slab s (replicate n White)) colours) (newly_marked White)
+unmarks-all {room} s marks colours n =
+    changes-each (coloured_slab room (marked_slab s marks) colours) (coloured_slab room (marked_slab s (replicate n White)) colours) (in_new_mark White) (newly_marked White)
+    (marked-white s.slots (replicate n White) marks colours (replicate-white n)) refl (λ z. refl) (λ t z. refl)
+
+-- the new marks for the colours, and the colours for the new marks
+abbrev with_marks_exchanged : Linked → Linked
+with_marks_exchanged z = record z { placed = exchanged_marks z.placed }
+
+marked-exchanged : (slots : List (Option Linked)) (marks colours : List Colour) → marked slots colours marks ≡ map (option_map with_marks_exchanged) (marked slots marks colours)
+marked-exchanged [] marks colours = refl
+marked-exchanged (o ∷ slots) marks colours =
+    ap (λ x. x ∷ marked slots (drop 1 colours) (drop 1 marks)) (go o)
+    ∙ ap (λ rest. option_map with_marks_exchanged (option_map (in_colour colour) (option_map (in_new_mark mark) o)) ∷ rest) (marked-exchanged slots (drop 1 marks) (drop 1 colours))
+  where
+    colour : Colour
+    colour = get_or colours 0 White
+
+    mark : Colour
+    mark = get_or marks 0 White
+
+    go : (o : Option Linked) → option_map (in_colour mark) (option_map (in_new_mark colour) o) ≡ option_map with_marks_exchanged (option_map (in_colour colour) (option_map (in_new_mark mark) o))
+    go None = refl
+    go (Some b) = refl
+
+pub exchanges-all : {room other : ℕ} (s : Slab Linked) (marks colours : List Colour) → other ≡ room →
+    ChangesEach (coloured_slab room (marked_slab s marks) colours) (coloured_slab other (marked_slab s colours) marks) exchanged_marks
+exchanges-all {room} {other} s marks colours same =
+    changes-each (coloured_slab room (marked_slab s marks) colours) (coloured_slab other (marked_slab s colours) marks) with_marks_exchanged exchanged_marks
+    (marked-exchanged s.slots marks colours) same (λ z. refl) (λ t z. refl)
 
 -- one object given a colour
 pub changes-painted : {room : ℕ} (s : Slab Linked) (colours : List Colour) (key : ℕ) (colour : Colour) (b : Linked) → key < length colours → get s key ≡ Some b →
@@ -285,7 +346,11 @@ pub noted-written : {before after : Bool} (old colours : List Colour) (key : ℕ
     (after ≡ false → (before ≡ false) × (colour ≢ Gray)) → AreGrayNoted before old → AreGrayNoted after (set colours key colour)
 noted-written old colours key colour within kept tells noted none k gray = grind (arith, get_or-set_same, set, get_or-set_other, eqb_tells)
 
+-- black is not gray
+pub black-not_gray : Black ≢ Gray
+black-not_gray e = cc
+
 -- a content written where an object stands
-pub HaveAll-written : (s : Slab Label) (contents : List Content) (marks colours : List Colour) (key : ℕ) (content : Content) {may_be_gray : Bool} → ContainsKey s key →
-    HaveAll s contents marks colours may_be_gray → HaveAll s (set contents key content) marks colours may_be_gray
+pub HaveAll-written : (s : Slab Label) (contents : List Content) (marks colours : List Colour) (key : ℕ) (content : Content) {may_be_marked_gray may_be_gray : Bool} → ContainsKey s key →
+    HaveAll s contents marks colours may_be_marked_gray may_be_gray → HaveAll s (set contents key content) marks colours may_be_marked_gray may_be_gray
 HaveAll-written s contents marks colours key content held all = grind (arith, length-set, emptied, false≢true, get_or-set_other, eqb_tells, all.filled, all.emptied)

@@ -4,7 +4,7 @@ pub mod Places
 pub mod Changing
 pub mod Painting
 pub mod Writing
-pub mod Whitening
+pub mod ChangingEach
 pub mod OfColour
 pub mod Making
 pub mod Leaving

@@ -12,7 +12,7 @@ use Rattle.cc_script.specs.Objects.{Object, AreWhole, object_at, is_there, colou
 use Rattle.cc_script.specs.ColourOrder.{HasColourOrder}
 use Rattle.cc_script.specs.Marking.{Marking, is_lower, raise_key, raise_each, to_do}
 use Rattle.cc_script.specs.Underway.{IsOrderedBut, IsMarked, with_first_looked_into}
-use Rattle.cc_script.proofs.Keys.{object_at-map, object_at-among, object_at-key, changed_at, changed_at-key, changed_at-same}
+use Rattle.cc_script.proofs.Keys.{object_at-map, object_at-among, object_at-key, changed_at, changed_at-key, changed_at-same, coloured-there}
 use Rattle.cc_script.proofs.Colours.{raised-key, raised-same, raised-below, raised-enough, raised-keeps, not_below-self}
 use Rattle.cc_script.proofs.Raising.{raise_key-lower, raise_key-enough, raise_key-there, raise_each-spends, lower-some, raise_key-cases, one_raised-places}
 use Rattle.cc_script.proofs.Popping.{popped-does}
@@ -230,3 +230,20 @@ module _ (to : Colour) where
 
   pub looked-none : (m : Marking) → m.waiting ≡ [] → with_first_looked_into to m ≡ m
   looked-none m none = ap (looked_by m) none
+
+-- whether one waited or not
+pub first-marked : (to : Colour) (m : Marking) → AreWhole m.objects →
+    ((o : Object) → Among o (with_first_looked_into to m).objects → object_at (with_first_looked_into to m).objects o.key ≡ Some o) → IsMarked to m → IsMarked to (with_first_looked_into to m)
+first-marked to m whole own h = go m.waiting refl
+  where
+    go : (ks : List ℕ) → m.waiting ≡ ks → IsMarked to (with_first_looked_into to m)
+    go [] e = subst (IsMarked to) (sym (looked-none to m e)) h
+    go (key ∷ rest) e =
+        let same = first-looked to m key rest e in
+        subst (IsMarked to) (sym same)
+        (looked-marked to m key rest e (subst (λ (z : Marking). (o : Object) → Among o z.objects → object_at z.objects o.key ≡ Some o) same own)
+        (λ o q n held. there-some m.objects q (whole o q n held)) (λ k d at. object_at-among m.objects k d at) h)
+
+-- what waits is there, where it has a colour
+pub marked-there : (to : Colour) (m : Marking) → IsMarked to m → (k : ℕ) → Among k m.waiting → is_there m.objects k ≡ true
+marked-there to m h k n = coloured-there m.objects k to (h.coloured k n)

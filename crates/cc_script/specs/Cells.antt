@@ -84,12 +84,13 @@ coloured_slab room s colours = record (paired_slab in_colour White s colours) { 
 abbrev pub AreGrayNoted : Bool → List Colour → Type 0
 AreGrayNoted may_be_gray colours = may_be_gray ≡ false → (key : ℕ) → get_or colours key White ≢ Gray
 
--- each object has all of these, where none stands no content is kept, and gray ones are noted
-pub record HaveAll (s : Slab Label) (contents : List Content) (marks colours : List Colour) (may_be_gray : Bool) : Type 0 where
+-- each object has all of these, where none stands no content is kept, and gray ones are noted, by new marks and by colours
+pub record HaveAll (s : Slab Label) (contents : List Content) (marks colours : List Colour) (may_be_marked_gray may_be_gray : Bool) : Type 0 where
   pub filled : Reaches s contents
   pub marked : Reaches s marks
   pub coloured : Reaches s colours
   pub emptied : (key : ℕ) → get s key ≡ None → get_or contents key nothing ≡ nothing
+  pub marked_gray : AreGrayNoted may_be_marked_gray marks
   pub gray : AreGrayNoted may_be_gray colours
 
 -- the objects by key
@@ -122,9 +123,9 @@ pub record Changes (old new : Slab Linked) (key : ℕ) (change : Placed → Plac
   pub links : (t : Thread) → links_in t new.slots ≡ links_in t old.slots
   pub capacity : new.capacity ≡ old.capacity
 
--- ALL OBJECTS MADE WHITE, and nothing else
-pub record Whitens (old new : Slab Linked) : Type 0 where
-  pub cells : cells_of new.slots ≡ map (option_map (painted White)) (cells_of old.slots)
+-- EACH OBJECT CHANGED in the same way, and nothing else
+pub record ChangesEach (old new : Slab Linked) (change : Placed → Placed) : Type 0 where
+  pub cells : cells_of new.slots ≡ map (option_map change) (cells_of old.slots)
   pub links : (t : Thread) → links_in t new.slots ≡ links_in t old.slots
   pub capacity : new.capacity ≡ old.capacity
 

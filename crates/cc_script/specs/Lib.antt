@@ -1,6 +1,7 @@
 pub mod Beings
 pub mod Objects
 pub mod Walking
+pub mod NewMarks
 pub mod Lists
 pub mod ColourOrder
 pub mod Marking

@@ -40,6 +40,10 @@ painted colour c = record c { colour = colour }
 abbrev pub newly_marked : Colour → Placed → Placed
 newly_marked mark c = record c { new_mark = mark }
 
+-- with its colour for the new mark, and its new mark for the colour
+abbrev pub exchanged_marks : Placed → Placed
+exchanged_marks c = record c { colour = c.new_mark; new_mark = c.colour }
+
 -- with slot i written
 abbrev pub written : ℕ → Option ℕ → Placed → Placed
 written i x c = record c { slots = slice_set c.slots i x }

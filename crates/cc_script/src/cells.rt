@@ -9,14 +9,15 @@ ghost use Rattle.std.specs.Prelude.{◌≡◌, ◌≢◌, ◌↔◌, ◌<◌, �
 ghost use Rattle.slab.specs.Slab.{ContainsKey, Updates, get, slab_len};
 ghost use Rattle.cc_names.specs.declared.kind.Colour.{Colour};
 ghost use Rattle.cc_names.specs.declared.kind.Colour.TheVariants.{White, Gray, Black};
-ghost use Rattle.cc_script.specs.Lists.{cell_at, newly_marked, painted, slots_placed, written};
-ghost use Rattle.cc_script.specs.Cells.{Changes, Content, HasColourAt, Label, Whitens, cells_of, filled, in_colour, in_new_mark, nothing};
+ghost use Rattle.cc_script.specs.Lists.{cell_at, exchanged_marks, newly_marked, painted, slots_placed, written};
+ghost use Rattle.cc_script.specs.Cells.{Changes, ChangesEach, Content, HasColourAt, Label, cells_of, filled, in_colour, in_new_mark, nothing};
 
 use crate::cell::{Body, Cell};
 use cc_names::{Colour, NoMemory, SKey, narrow_key};
 use slab::Slab;
 use std::alloc::Global;
 use std::marker::Model;
+use std::mem;
 
 /// The objects as they stand at their keys, each with what it holds, its colour and its new mark.
 #[derive(Drop)]
@@ -29,6 +30,8 @@ pub(crate) struct Cells {
     // set where one is painted gray, and cleared where all are made white. Not set, none is gray; set, one may be, and all
     // those that were may be black by now
     may_be_gray: bool,
+    // the same of the new marks, for the time when they are the colours
+    may_be_marked_gray: bool,
     alloc: Global,
 }
 
@@ -42,7 +45,7 @@ impl Model for Cells {
 
     ghost view = { λ c. coloured_slab (c.slab.capacity + vec_capacity c.bodies + vec_capacity c.new_marks + vec_capacity c.colours) (bare_slab c.slab c.bodies.items c.new_marks.items) c.colours.items };
 
-    ghost invariant = { λ c. HaveAll c.slab c.bodies.items c.new_marks.items c.colours.items c.may_be_gray };
+    ghost invariant = { λ c. HaveAll c.slab c.bodies.items c.new_marks.items c.colours.items c.may_be_marked_gray c.may_be_gray };
 }
 
 /// Lengthens the bodies to so many at least, by those of no object. `NoMemory` leaves them at some length between.
@@ -93,6 +96,7 @@ impl Cells {
             colours: Vec::new(alloc),
             new_marks: Vec::new(alloc),
             may_be_gray: false,
+            may_be_marked_gray: false,
             alloc,
         }
     }
@@ -193,14 +197,31 @@ impl Cells {
         ensures changes { Changes self.old self.new key.0 (newly_marked mark) }
     {
         self.new_marks[key.0 as usize] = mark;
+        self.may_be_marked_gray = may_be_gray_with(self.may_be_marked_gray, mark);
     }
 
     /// Makes all objects white.
     pub(crate) fn whiten(&mut self)
-        ensures { Whitens self.old self.new }
+        ensures { ChangesEach self.old self.new (painted White) }
     {
         self.colours.fill(Colour::White);
         self.may_be_gray = false;
+    }
+
+    /// Makes all objects white by the new mark.
+    pub(crate) fn unmark_new(&mut self)
+        ensures { ChangesEach self.old self.new (newly_marked White) }
+    {
+        self.new_marks.fill(Colour::White);
+        self.may_be_marked_gray = false;
+    }
+
+    /// The new marks become the colours, and the colours the new marks.
+    pub(crate) fn exchange_marks(&mut self)
+        ensures { ChangesEach self.old self.new exchanged_marks }
+    {
+        mem::swap(&mut self.colours, &mut self.new_marks);
+        mem::swap(&mut self.may_be_gray, &mut self.may_be_marked_gray);
     }
 
     /// Whether there is an object at a key, and it is of this colour.

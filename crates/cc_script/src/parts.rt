@@ -1,5 +1,5 @@
 //! The parts of the script heap, and the marking that raises colours.
-ghost use Rattle.std.specs.Prelude.{◌≡◌, ◌↔◌, ℕ, ◌<◌, ◌≤◌, false, List, [], ◌∷◌, ◌++◌, length, Some, None, IfNone, IfOk, IfSome, IsTrue, OnErr, option_map, replicate, slice_index_or, vec_capacity};
+ghost use Rattle.std.specs.Prelude.{◌≡◌, ◌↔◌, ℕ, ◌<◌, ◌≤◌, false, List, [], ◌∷◌, ◌++◌, length, map, Some, None, IfNone, IfOk, IfSome, IsTrue, OnErr, option_map, replicate, slice_index_or, vec_capacity};
 ghost use Rattle.cc_lists.specs.Members.{Among};
 ghost use Rattle.cc_names.specs.declared.kind.Colour.{Colour};
 ghost use Rattle.cc_names.specs.declared.kind.Colour.TheVariants.{White, Black};
@@ -10,6 +10,8 @@ ghost use Rattle.cc_script.specs.Objects.{Object, AreWhole, IsGiven, IsNotBelow,
 ghost use Rattle.cc_lists.specs.Walks.{first_of};
 ghost use Rattle.cc_script.specs.Underway.{with_first_looked_into};
 ghost use Rattle.cc_script.specs.Walking.{keys_reached};
+ghost use Rattle.cc_script.specs.NewMarks.{exchanged};
+ghost use Rattle.cc_script.specs.ColourOrder.{HasColourOrder};
 ghost use Rattle.cc_script.specs.Cells.{Content, Label, filled, in_colour, in_new_mark};
 ghost use Rattle.cc_script.specs.Lists.{IsPlaced, cell_at};
 ghost use Rattle.cc_script.specs.Marking.{raise_each, raise_key, raise_slot};
@@ -206,6 +208,25 @@ impl ScriptParts {
         self.cells.whiten();
     }
 
+    /// Makes all objects white by the new mark.
+    pub(crate) fn unmark_new(&mut self)
+        requires at_rest { IsAtRest self.old }
+        ensures shows { shows self.new ≡ map (with_new_mark White) (shows self.old) }
+        ensures at_rest { IsAtRest self.new }
+    {
+        self.cells.unmark_new();
+    }
+
+    /// The new marks become the colours, and the colours the new marks.
+    pub(crate) fn exchange_marks(&mut self)
+        requires at_rest { IsAtRest self.old }
+        requires order { HasColourOrder (map exchanged (shows self.old)) }
+        ensures shows { shows self.new ≡ map exchanged (shows self.old) }
+        ensures at_rest { IsAtRest self.new }
+    {
+        self.cells.exchange_marks();
+    }
+
     /// Takes out the object at a key, which is white.
     pub(crate) fn remove(&mut self, key: SKey)
         requires at_rest { IsAtRest self.old }
@@ -313,6 +334,21 @@ impl ScriptParts {
     }
 
     /// Takes out the first of those that wait, and raises in the same way what it leads to; none exactly where none waits.
+    // the colours need not be in order
+    fn follow_first(&mut self, to: Colour) -> Option<SKey>
+        requires under_way { IsUnderWay to self.old }
+        requires there { (k : ℕ) → Among k (marking_of self.old).waiting → IsTrue (is_there (shows self.old) k) }
+        requires whole { AreWhole (shows self.old) }
+        ensures first { option_map (λ k. k.0) result ≡ first_of (marking_of self.old).waiting }
+        ensures looked { marking_of self.new ≡ with_first_looked_into to (marking_of self.old) }
+        ensures under_way { IsUnderWay to self.new }
+    {
+        let key = self.waiting.pop_front(&mut self.cells)?;
+        self.raise_places(SKey(key), to);
+        Some(SKey(key))
+    }
+
+    /// Takes out the first of those that wait, and raises in the same way what it leads to; none exactly where none waits.
     pub(crate) fn look_into_first(&mut self, to: Colour) -> Option<SKey>
         requires begun { IsBegun to self.old }
         requires whole { AreWhole (shows self.old) }
@@ -320,9 +356,7 @@ impl ScriptParts {
         ensures looked { marking_of self.new ≡ with_first_looked_into to (marking_of self.old) }
         ensures begun { IsBegun to self.new }
     {
-        let key = self.waiting.pop_front(&mut self.cells)?;
-        self.raise_places(SKey(key), to);
-        Some(SKey(key))
+        self.follow_first(to)
     }
 
     /// Raises the object at a key, and all that it reaches over slots and delegates, to at least the colour `to`.

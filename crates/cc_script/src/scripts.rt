@@ -1,5 +1,5 @@
 //! The script heap as callers see it.
-ghost use Rattle.std.specs.Prelude.{◌≡◌, ◌↔◌, ◌<◌, ◌≤◌, false, List, [], ◌∷◌, ◌++◌, length, Some, None, option_map, slice_index_or, IsSome, IsTrue, IfNone, IfSome, IfOk, OnOk, OnErr};
+ghost use Rattle.std.specs.Prelude.{◌≡◌, ◌↔◌, ◌<◌, ◌≤◌, false, List, [], ◌∷◌, ◌++◌, length, map, Some, None, option_map, slice_index_or, IsSome, IsTrue, IfNone, IfSome, IfOk, OnOk, OnErr};
 ghost use Rattle.cc_lists.specs.Members.{Among};
 ghost use Rattle.cc_names.specs.declared.kind.Colour.TheVariants.{White, Black};
 ghost use Rattle.cc_names.specs.declared.kind.Kind.TheVariants.{Proxy, Reflector};
@@ -7,6 +7,8 @@ ghost use Rattle.cc_names.specs.Sizes.{most_slots};
 ghost use Rattle.cc_walk.specs.Walks.{is_walked};
 ghost use Rattle.cc_script.specs.Objects.{Object, AreWhole, HaveOwnKeys, IsGiven, NoObjectWaits, change_object, colour_at, delegate_at, entering, first_key, is_there, key_after, kind_at, map_object, name_at, native_at, new_mark_at, plain_object, proxy_object, reflector_object, raised_among, slots_at, unwalked, walked_at, whitened, with_new_mark, with_slot, without_object, IsNotBelow};
 ghost use Rattle.cc_script.specs.Walking.{keys_reached};
+ghost use Rattle.cc_script.specs.NewMarks.{exchanged};
+ghost use Rattle.cc_script.specs.ColourOrder.{HasColourOrder};
 
 use crate::being::Being;
 use crate::marking::Marking;
@@ -168,6 +170,24 @@ impl Scripts {
         ensures { self.new ≡ change_object self.old key.0 (with_new_mark mark) }
     {
         self.parts.set_new_mark(key, mark);
+    }
+
+    /// No object has a new mark from then on: a marking in slices begins. Takes time by the objects, one fill.
+    pub fn unmark_new(&mut self)
+        ensures { self.new ≡ map (with_new_mark White) self.old }
+    {
+        self.parts.unmark_new();
+    }
+
+    /// The new marks become the colours, and the colours the new marks: so ends a marking in slices. The new marks are in the
+    /// order in which colours always are.
+    ///
+    /// It takes the same time however many objects there are.
+    pub fn exchange_marks(&mut self)
+        requires order { HasColourOrder (map exchanged self.old) }
+        ensures { self.new ≡ map exchanged self.old }
+    {
+        self.parts.exchange_marks();
     }
 
     /// Whether there is an object of this colour.

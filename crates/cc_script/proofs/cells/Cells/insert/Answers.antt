@@ -3,7 +3,7 @@ use Rattle.slab.specs.Slab.{Slab, Updates, get}
 use Rattle.cc_names.specs.declared.kind.Colour.TheVariants.{White, Black}
 use Rattle.cc_script.specs.Cells.{Label, bare_slab, filled, filled_slab, in_new_mark, nothing}
 use Rattle.cc_script.proofs.Paired.{updates-made}
-use Rattle.cc_script.proofs.Coloured.{inserted, noted-written, reaches-bare, reaches-filled, slots-reached, vacant-bare, vacant-coloured, written-here, written-others}
+use Rattle.cc_script.proofs.Coloured.{black-not_gray, inserted, noted-written, reaches-bare, reaches-filled, slots-reached, vacant-bare, vacant-coloured, written-here, written-others}
 use Rattle.cc_script.proofs.cells.Cells.insert.Goals as goal
 
 pub returns-in_err-reach-clause-err : goal.returns-in_err-reach-clause-err
@@ -66,6 +66,8 @@ invariant_of-self-2 c =
       marked = search rules;
       coloured = search rules;
       emptied = search rules;
+      marked_gray = noted-written c.self.inside.new_marks.items c.reach_white-2.new.colours.items free Black (omega (arith, c.in_ok-reach_white-2.ensures.reaches)) c.reach_white-2.ensures.same
+          (λ none. (none, black-not_gray)) c.self.invariant.marked_gray;
       gray = noted-written c.self.inside.colours.items c.reach_white.new.colours.items free c.args.colour (omega (arith, c.in_ok-reach_white.ensures.reaches)) c.reach_white.ensures.same
           (λ none. c.may_be_gray_with-self-inside.ensures none) c.self.invariant.gray;
     }
