@@ -2,13 +2,18 @@
 use Rattle.std.proofs.Common.{◌≡◌, ℕ, ◌≤◌, List, map, length, Option, Some, None, option_map, refl, sym, ◌∙◌, ap, subst, arith}
 use Rattle.std.proofs.Math.ListN.{get_or-map}
 use Rattle.std.proofs.lemmas.Simd.{map-map}
+use Rattle.slab.specs.Slab.{Slab}
 use Rattle.cc_lists.proofs.ListWrites.{map-agree}
 use Rattle.cc_names.specs.declared.kind.Colour.TheVariants.{White}
 use Rattle.cc_names.specs.declared.kind.Walked.{Walked}
 use Rattle.cc_names.specs.Sizes.{most_slots}
+use Rattle.cc_script.specs.declared.parts.ScriptParts.{ScriptParts}
 use Rattle.cc_script.specs.Objects.{Object, FitsKind, FitsDelegate, whitened, with_colour, with_new_mark}
 use Rattle.cc_script.specs.NewMarks.{exchanged}
 use Rattle.cc_script.specs.Lists.{Placed, Lists, cell_at, exchanged_marks, newly_marked, painted, placed_or_nothing, shown_at, objects_of, with_key, IsPlaced}
+use Rattle.cc_script.specs.Cells.{ChangesEach, Linked, cells_of}
+use Rattle.cc_script.specs.Parts.{lists_of, marking_of, shows, IsChained}
+use Rattle.cc_script.proofs.Chained.{lists-kept}
 
 -- a change of colours and new marks alone
 abbrev pub ChangesMarks : (Placed → Placed) → Type 0
@@ -61,8 +66,25 @@ module _ (l : Lists) (p : IsPlaced l) (cells : List (Option Placed)) where
     objects-unmarked = objects-each (newly_marked White) (λ c. refl) l p cells e (with_new_mark White) (λ key walked c. refl)
 
   module _ (e : cells ≡ map (option_map exchanged_marks) l.cells) where
-    pub IsPlaced-exchanged : IsPlaced (record l { cells = cells })
+    IsPlaced-exchanged : IsPlaced (record l { cells = cells })
     IsPlaced-exchanged = IsPlaced-each exchanged_marks (λ c. refl) l p cells e
 
-    pub objects-exchanged : objects_of (record l { cells = cells }) ≡ map exchanged (objects_of l)
+    objects-exchanged : objects_of (record l { cells = cells }) ≡ map exchanged (objects_of l)
     objects-exchanged = objects-each exchanged_marks (λ c. refl) l p cells e exchanged (λ key walked c. refl)
+
+-- the parts once marks and colours are exchanged
+pub record AreExchanged (p q : ScriptParts) : Type 0 where
+  pub placed : IsPlaced (lists_of q)
+  pub chained : IsChained q
+  pub objects : shows q ≡ map exchanged (shows p)
+  pub waits : (marking_of q).waiting ≡ (marking_of p).waiting
+
+pub are-exchanged : (p : ScriptParts) → IsPlaced (lists_of p) → IsChained p → (cells : Slab Linked) → ChangesEach p.cells cells exchanged_marks → AreExchanged p (record p { cells = cells })
+are-exchanged p placed chained cells each =
+    let a = lists-kept p chained cells each.links in
+    record {
+      placed = subst IsPlaced (sym a.lists) (IsPlaced-exchanged (lists_of p) placed (cells_of cells.slots) each.cells);
+      chained = a.chained;
+      objects = ap objects_of a.lists ∙ objects-exchanged (lists_of p) placed (cells_of cells.slots) each.cells;
+      waits = a.waits;
+    }

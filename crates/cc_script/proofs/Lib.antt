@@ -4,7 +4,6 @@ pub mod Places
 pub mod Changing
 pub mod Painting
 pub mod Writing
-pub mod ChangingEach
 pub mod OfColour
 pub mod Making
 pub mod Leaving
@@ -13,6 +12,7 @@ pub mod Linking
 pub mod Paired
 pub mod Coloured
 pub mod Chained
+pub mod ChangingEach
 pub mod Walked
 pub mod Joining
 pub mod Parting
@@ -27,3 +27,4 @@ pub mod Wholeness
 pub mod Whites
 pub mod ReachedLeast
 pub mod Underway
+pub mod Blackening

@@ -1,6 +1,6 @@
 -- A WALK RAISES EXACTLY WHAT IS REACHED.
-use Rattle.std.proofs.Common.{◌≡◌, ℕ, Bool, true, false, ◌||◌, List, [], ◌∷◌, ◌++◌, Option, Some, None, refl, sym, ◌∙◌, ap, subst, ⊎_elim, ◌⊎◌, inl, inr, ◌==◌, if◌then◌else◌, arith}
-use Rattle.std.proofs.lemmas.Bool.{ne_eqb, true≢false}
+use Rattle.std.proofs.Common.{◌≡◌, ℕ, Bool, true, false, ◌||◌, List, [], ◌∷◌, ◌++◌, Option, Some, None, option_map, refl, sym, ◌∙◌, ap, subst, ⊎_elim, ◌⊎◌, inl, inr, ◌==◌, if◌then◌else◌, arith}
+use Rattle.std.proofs.lemmas.Bool.{cases_Bool, ne_eqb, true≢false}
 use Rattle.std.proofs.lemmas.Bool.Decides.{eqb_tells}
 use Rattle.std.proofs.lemmas.List.{map-id}
 use Rattle.std.proofs.lemmas.Simd.{map-map}
@@ -17,7 +17,7 @@ use Rattle.cc_script.specs.ColourOrder.{HasColourOrder}
 use Rattle.cc_script.specs.Marking.{Marking, is_lower, raise_key, raise_each}
 use Rattle.cc_script.specs.Underway.{with_first_looked_into}
 use Rattle.cc_script.proofs.Keys.{object_at-among, object_at-key, object_at-map, changed_at, changed_at-same}
-use Rattle.cc_script.proofs.Colours.{not_below-trans, not_below-cases, not_below-white, raised-key, raised-slots, raised-delegate, raised-again, raised-same}
+use Rattle.cc_script.proofs.Colours.{not_below-trans, not_below-cases, not_below-white, raised-key, raised-slots, raised-delegate, raised-again, raised-enough, raised-same}
 use Rattle.cc_script.proofs.PlacesOf.{places-same}
 use Rattle.cc_script.proofs.Reaching.{reached-root, reached-slot, reached-within}
 use Rattle.cc_script.proofs.Raising.{places_at-kept, raise_key-cases}
@@ -72,7 +72,7 @@ slot-object objects k q m = go (object_at objects k) refl m
     go None e n = absurd n
     go (Some o) e n = (o, e, n)
 
-module _ (before : List Object) (root : ℕ) (to : Colour) where
+module _ (before : List Object) (to : Colour) where
   -- a key that was raised, or that needs no raising
   abbrev pub IsMet : List ℕ → ℕ → Type 0
   IsMet keys q = Among q keys ⊎ (is_lower to (object_at before q) ≡ false)
@@ -84,20 +84,37 @@ module _ (before : List Object) (root : ℕ) (to : Colour) where
   met-enough : (keys : List ℕ) (q : ℕ) → is_lower to (object_at (raised_among keys to before) q) ≡ false → IsMet keys q
   met-enough keys q e = grind (arith, object_at-map, risen-key, risen-out, object_at-key, has-among, number-exact)
 
-  -- THE WALK SO FAR: these keys were raised, each is reached, and what the slots of each hold was met, but for those
+  -- what is lower then was lower
+  lower-before : (keys : List ℕ) (q : ℕ) → is_lower to (object_at (raised_among keys to before) q) ≡ true → is_lower to (object_at before q) ≡ true
+  lower-before keys q e = go (object_at before q) (ap (is_lower to) (sym (object_at-map (risen keys to) (risen-key keys to) before q)) ∙ e)
+    where
+      go : (a : Option Object) → is_lower to (option_map (risen keys to) a) ≡ true → is_lower to a ≡ true
+      go None f = f
+      go (Some o) f = ⊎_elim
+          (λ t. t)
+          (λ t. absurd (true≢false (sym f ∙ changed_where-either (λ z. is_below z.colour to ≡ false) (λ z. has ◌==◌ keys z.key) (raised to) o (λ x. raised-enough to o) t)))
+          (cases_Bool (is_below o.colour to))
+
+-- WHAT A WALK MAY RAISE: where they are lower, its first object, and what a place of an object that it may raise leads to.
+pub record LeadsOn (before : List Object) (to : Colour) (May : ℕ → Type 0) (root : ℕ) : Type 0 where
+  pub first : is_lower to (object_at before root) ≡ true → May root
+  pub onward : (o : Object) (q : ℕ) → Among o before → Among (Some q) (places_of o) → May o.key → is_lower to (object_at before q) ≡ true → May q
+
+module _ (before : List Object) (to : Colour) (May : ℕ → Type 0) where
+  -- THE WALK SO FAR: these keys were raised, each is one that may be, and what the slots of each hold was met, but for those
   -- that wait or are in hand.
   pub record IsMarking (hand : List ℕ) (m : Marking) : Type 0 where
     pub keys : List ℕ
     pub objects : m.objects ≡ raised_among keys to before
-    pub reached : (k : ℕ) → Among k keys → IsReachedOverSlots before (root ∷ []) k
+    pub allowed : (k : ℕ) → Among k keys → May k
     pub waits : (k : ℕ) → Among k m.waiting → Among k keys
-    pub followed : (k q : ℕ) → Among k keys → Among (Some q) (places_at before k) → (Among k hand ⊎ Among k m.waiting) ⊎ IsMet keys q
+    pub followed : (k q : ℕ) → Among k keys → Among (Some q) (places_at before k) → (Among k hand ⊎ Among k m.waiting) ⊎ IsMet before to keys q
 
   pub marking-start : IsMarking [] (record { objects = before; waiting = [] })
   marking-start = record {
     keys = [];
     objects = sym (map-id before);
-    reached = λ k m. absurd m;
+    allowed = λ k m. absurd m;
     waits = λ k m. absurd m;
     followed = λ k q m s. absurd m;
   }
@@ -110,30 +127,32 @@ module _ (before : List Object) (root : ℕ) (to : Colour) where
 
   pub record Raises (hand keys : List ℕ) (q : ℕ) (new : Marking) : Type 0 where
     pub after : IsMarking hand new
-    pub met : IsMet after.keys q
+    pub met : IsMet before to after.keys q
     pub more : (k : ℕ) → Among k keys → Among k after.keys
 
-  pub raise_key-marks : (hand : List ℕ) (m : Marking) (h : IsMarking hand m) (q : ℕ) → IsReachedOverSlots before (root ∷ []) q → Raises hand h.keys q (raise_key to q m)
-  raise_key-marks hand m h q r = raise_key-cases to q m (Raises hand h.keys q) (λ e. lower) (λ e. record {
-    after = h;
-    met = met-enough h.keys q (ap (λ os. is_lower to (object_at os q)) (sym h.objects) ∙ e);
-    more = λ k n. n;
-  })
+  pub raise_key-marks : (hand : List ℕ) (m : Marking) (h : IsMarking hand m) (q : ℕ) → (is_lower to (object_at before q) ≡ true → May q) → Raises hand h.keys q (raise_key to q m)
+  raise_key-marks hand m h q may = raise_key-cases to q m (Raises hand h.keys q)
+      (λ e. lower (may (lower-before before to h.keys q (ap (λ os. is_lower to (object_at os q)) (sym h.objects) ∙ e))))
+      (λ e. record {
+        after = h;
+        met = met-enough before to h.keys q (ap (λ os. is_lower to (object_at os q)) (sym h.objects) ∙ e);
+        more = λ k n. n;
+      })
     where
-      mine : (j p : ℕ) → Among j (q ∷ h.keys) → Among (Some p) (places_at before j) → (Among j hand ⊎ Among j (m.waiting ++ q ∷ [])) ⊎ IsMet (q ∷ h.keys) p
+      mine : (j p : ℕ) → Among j (q ∷ h.keys) → Among (Some p) (places_at before j) → (Among j hand ⊎ Among j (m.waiting ++ q ∷ [])) ⊎ IsMet before to (q ∷ h.keys) p
       mine j p w s = ⊎_elim
           (λ e. inl (inr (Among-right j m.waiting (q ∷ []) (inl e))))
           (λ t. ⊎_elim
           (λ x. inl (⊎_elim (λ y. inl y) (λ y. inr (Among-left j m.waiting (q ∷ []) y)) x))
-          (λ x. inr (met-more h.keys (q ∷ h.keys) (λ k n. inr n) p x))
+          (λ x. inr (met-more before to h.keys (q ∷ h.keys) (λ k n. inr n) p x))
           (h.followed j p t s)) w
 
-      lower : Raises hand h.keys q (record { objects = change_object m.objects q (raised to); waiting = m.waiting ++ q ∷ [] })
-      lower = record {
+      lower : May q → Raises hand h.keys q (record { objects = change_object m.objects q (raised to); waiting = m.waiting ++ q ∷ [] })
+      lower r = record {
         after = record {
           keys = q ∷ h.keys;
           objects = ap (λ os. change_object os q (raised to)) h.objects ∙ raised-more h.keys to q before;
-          reached = λ k n. ⊎_elim (λ s. subst (IsReachedOverSlots before (root ∷ [])) s r) (λ t. h.reached k t) n;
+          allowed = λ k n. ⊎_elim (λ s. subst May s r) (λ t. h.allowed k t) n;
           waits = λ k n. ⊎_elim (λ t. inr (h.waits k t)) (λ t. ⊎_elim (λ s. inl s) (λ x. absurd x) t) (Among-append k m.waiting (q ∷ []) n);
           followed = mine;
         };
@@ -144,10 +163,10 @@ module _ (before : List Object) (root : ℕ) (to : Colour) where
   -- and what each of some slots holds
   pub record RaisesEach (hand keys : List ℕ) (xs : List (Option ℕ)) (new : Marking) : Type 0 where
     pub after : IsMarking hand new
-    pub met : (q : ℕ) → Among (Some q) xs → IsMet after.keys q
+    pub met : (q : ℕ) → Among (Some q) xs → IsMet before to after.keys q
     pub more : (k : ℕ) → Among k keys → Among k after.keys
 
-  pub raise_each-marks : (hand : List ℕ) (xs : List (Option ℕ)) (m : Marking) (h : IsMarking hand m) → ((q : ℕ) → Among (Some q) xs → IsReachedOverSlots before (root ∷ []) q) →
+  pub raise_each-marks : (hand : List ℕ) (xs : List (Option ℕ)) (m : Marking) (h : IsMarking hand m) → ((q : ℕ) → Among (Some q) xs → is_lower to (object_at before q) ≡ true → May q) →
       RaisesEach hand h.keys xs (raise_each to xs m)
   raise_each-marks hand [] m h r = record { after = h; met = λ q n. absurd n; more = λ k n. n }
   raise_each-marks hand (None ∷ xs) m h r =
@@ -159,31 +178,32 @@ module _ (before : List Object) (root : ℕ) (to : Colour) where
       record {
         after = s.after;
         met = λ q n. ⊎_elim
-            (λ e. let same : Some p ≡ Some q = e in let it : p ≡ q = cc in subst (IsMet s.after.keys) it (met-more f.after.keys s.after.keys s.more p f.met))
+            (λ e. let same : Some p ≡ Some q = e in let it : p ≡ q = cc in subst (IsMet before to s.after.keys) it (met-more before to f.after.keys s.after.keys s.more p f.met))
             (λ t. s.met q t) n;
         more = λ k n. s.more k (f.more k n);
       }
 
+module _ (before : List Object) (to : Colour) (May : ℕ → Type 0) (root : ℕ) where
   -- THE WALK: the first object was met.
   pub record IsWalk (m : Marking) : Type 0 where
-    pub marking : IsMarking [] m
-    pub begun : IsMet marking.keys root
+    pub marking : IsMarking before to May [] m
+    pub begun : IsMet before to marking.keys root
 
-  pub walk-start : IsWalk (raise_key to root (record { objects = before; waiting = [] }))
-  walk-start =
-      let f = raise_key-marks [] (record { objects = before; waiting = [] }) marking-start root (reached-root before root) in
+  pub walk-start : LeadsOn before to May root → IsWalk (raise_key to root (record { objects = before; waiting = [] }))
+  walk-start leads =
+      let f = raise_key-marks before to May [] (record { objects = before; waiting = [] }) (marking-start before to May) root leads.first in
       record { marking = f.after; begun = f.met }
 
   -- the first that waits looked into: what its slots hold raised
-  module _ (m : Marking) (w : IsWalk m) (key : ℕ) (ks : List ℕ) (front : m.waiting ≡ key ∷ ks) where
+  module _ (leads : LeadsOn before to May root) (m : Marking) (w : IsWalk m) (key : ℕ) (ks : List ℕ) (front : m.waiting ≡ key ∷ ks) where
     abbrev rest : Marking
     rest = record { objects = m.objects; waiting = ks }
 
-    abbrev taken : IsMarking (key ∷ []) rest
+    abbrev taken : IsMarking before to May (key ∷ []) rest
     taken = record {
       keys = w.marking.keys;
       objects = w.marking.objects;
-      reached = w.marking.reached;
+      allowed = w.marking.allowed;
       waits = λ k n. w.marking.waits k (subst (Among k) (sym front) (inr n));
       followed = λ k q n s. ⊎_elim
           (λ t. inl (⊎_elim
@@ -193,29 +213,26 @@ module _ (before : List Object) (root : ℕ) (to : Colour) where
           (w.marking.followed k q n s);
     }
 
-    stood : Among key w.marking.keys
-    stood = w.marking.waits key (subst (Among key) (sym front) (inl refl))
-
-    -- it is reached, and so is what its slots hold
-    walk-reached : IsReachedOverSlots before (root ∷ []) key
-    walk-reached = w.marking.reached key stood
+    -- it may be raised, and so may what its slots hold
+    walk-allowed : May key
+    walk-allowed = w.marking.allowed key (w.marking.waits key (subst (Among key) (sym front) (inl refl)))
 
     walk-slots : places_at m.objects key ≡ places_at before key
-    walk-slots = marking-slots [] m w.marking key
+    walk-slots = marking-slots before to May [] m w.marking key
 
-    walk-held : (q : ℕ) → Among (Some q) (places_at m.objects key) → IsReachedOverSlots before (root ∷ []) q
+    walk-held : (q : ℕ) → Among (Some q) (places_at m.objects key) → is_lower to (object_at before q) ≡ true → May q
     walk-held q n =
         let f = slot-object before key q (subst (λ xs. Among (Some q) xs) walk-slots n) in
-        reached-slot before root f.0 q (object_at-among before key f.0 f.1) f.2 (subst (IsReachedOverSlots before (root ∷ [])) (sym (object_at-key before key f.0 f.1)) walk-reached)
+        leads.onward f.0 q (object_at-among before key f.0 f.1) f.2 (subst May (sym (object_at-key before key f.0 f.1)) walk-allowed)
 
     walk-next : IsWalk (raise_each to (places_at m.objects key) (record { objects = m.objects; waiting = ks }))
     walk-next =
-        let s = raise_each-marks (key ∷ []) (places_at m.objects key) rest taken walk-held in
+        let s = raise_each-marks before to May (key ∷ []) (places_at m.objects key) rest taken walk-held in
         record {
           marking = record {
             keys = s.after.keys;
             objects = s.after.objects;
-            reached = s.after.reached;
+            allowed = s.after.allowed;
             waits = s.after.waits;
             followed = λ k q n t. ⊎_elim
                 (λ x. ⊎_elim
@@ -226,44 +243,61 @@ module _ (before : List Object) (root : ℕ) (to : Colour) where
                 (λ x. inr x)
                 (s.after.followed k q n t);
           };
-          begun = met-more w.marking.keys s.after.keys s.more root w.begun;
+          begun = met-more before to w.marking.keys s.after.keys s.more root w.begun;
         }
 
-  pub walk-looked : (m : Marking) → IsWalk m → IsWalk (with_first_looked_into to m)
-  walk-looked m w = grind (arith, walk-next)
+  pub walk-looked : LeadsOn before to May root → (m : Marking) → IsWalk m → IsWalk (with_first_looked_into to m)
+  walk-looked leads m w = grind (arith, walk-next)
 
-  -- THE END: where nothing waits, all that is reached was met
-  module _ (own : (o : Object) → Among o before → object_at before o.key ≡ Some o) (ordered : HasColourOrder before) (m : Marking) (w : IsWalk m) (emptied : m.waiting ≡ []) where
-    abbrev keys : List ℕ
-    keys = w.marking.keys
+  -- where nothing waits, what a place of a raised object leads to was met
+  pub walk-followed : (own : (o : Object) → Among o before → object_at before o.key ≡ Some o) (m : Marking) (w : IsWalk m) → m.waiting ≡ [] →
+      (o : Object) (q : ℕ) → Among o before → Among (Some q) (places_of o) → Among o.key w.marking.keys → IsMet before to w.marking.keys q
+  walk-followed own m w emptied o q n s there = ⊎_elim
+      (λ x. ⊎_elim (λ y. absurd y) (λ y. absurd (subst (Among o.key) emptied y)) x)
+      (λ x. x)
+      (w.marking.followed o.key q there (subst (λ a. Among (Some q) (places_or_none a)) (sym (own o n)) s))
 
-    -- an object that has the colour holds only such
-    enough : (o : Object) (q : ℕ) → Among o before → Among (Some q) (places_of o) → is_below o.colour to ≡ false → is_lower to (object_at before q) ≡ false
-    enough o q n s e = ⊎_elim
-        (λ white. go white (object_at before q))
-        (λ above. let f = ordered.held o q n above s in ap (is_lower to) f.1 ∙ not_below-trans f.0.colour o.colour to f.2 e)
-        (not_below-cases o.colour to e)
-      where
-        go : to ≡ White → (a : Option Object) → is_lower to a ≡ false
-        go white None = refl
-        go white (Some d) = ap (is_below d.colour) white ∙ not_below-white d.colour
+-- the same keys raised
+pub risen-agree : (keys more : List ℕ) (to : Colour) (objects : List Object) → ((o : Object) → Among o objects → has ◌==◌ keys o.key ≡ has ◌==◌ more o.key) →
+    raised_among keys to objects ≡ raised_among more to objects
+risen-agree keys more to objects same = map-agree (risen keys to) (risen more to) objects (λ o m. ap (λ b. if b then raised to o else o) (same o m))
 
-    step : (o : Object) (q : ℕ) → Among o before → Among (Some q) (places_of o) → IsMet keys o.key → IsMet keys q
-    step o q n s t = ⊎_elim
-        (λ there. ⊎_elim
-        (λ x. ⊎_elim (λ y. absurd y) (λ y. absurd (subst (Among o.key) emptied y)) x)
-        (λ x. x)
-        (w.marking.followed o.key q there (subst (λ a. Among (Some q) (places_or_none a)) (sym (own o n)) s)))
-        (λ e. inr (enough o q n s (ap (is_lower to) (sym (own o n)) ∙ e))) t
+-- THE END of a walk over ordered colours: where nothing waits, all that is reached was met
+abbrev pub Reached : List Object → ℕ → ℕ → Type 0
+Reached before root = IsReachedOverSlots before (root ∷ [])
 
-    met : (k : ℕ) → IsReachedOverSlots before (root ∷ []) k → IsMet keys k
-    met = reached-within before root (IsMet keys) w.begun step
+pub reached-leads : (before : List Object) (to : Colour) (root : ℕ) → LeadsOn before to (Reached before root) root
+reached-leads before to root = record { first = λ e. reached-root before root; onward = λ o q m s r e. reached-slot before root o q m s r }
 
-    reached_keys : (k : ℕ) → (has ◌==◌ (keys_reached before (root ∷ [])) k ≡ true → IsReachedOverSlots before (root ∷ []) k) × (IsReachedOverSlots before (root ∷ []) k → has ◌==◌ (keys_reached before (root ∷ [])) k ≡ true)
-    reached_keys k = closure-decides ◌==◌ number-exact (reach_rules before (root ∷ [])) k
+module _ (before : List Object) (root : ℕ) (to : Colour) (own : (o : Object) → Among o before → object_at before o.key ≡ Some o) (ordered : HasColourOrder before)
+    (m : Marking) (w : IsWalk before to (Reached before root) root m) (emptied : m.waiting ≡ []) where
+  abbrev keys : List ℕ
+  keys = w.marking.keys
 
-    each : (o : Object) → Among o before → risen keys to o ≡ risen (keys_reached before (root ∷ [])) to o
-    each o n = grind (arith, risen-in, risen-out, true≢false, reached_keys, has-among, number-exact, has-there, raised-same, met, w.marking.reached)
+  -- an object that has the colour holds only such
+  enough : (o : Object) (q : ℕ) → Among o before → Among (Some q) (places_of o) → is_below o.colour to ≡ false → is_lower to (object_at before q) ≡ false
+  enough o q n s e = ⊎_elim
+      (λ white. go white (object_at before q))
+      (λ above. let f = ordered.held o q n above s in ap (is_lower to) f.1 ∙ not_below-trans f.0.colour o.colour to f.2 e)
+      (not_below-cases o.colour to e)
+    where
+      go : to ≡ White → (a : Option Object) → is_lower to a ≡ false
+      go white None = refl
+      go white (Some d) = ap (is_below d.colour) white ∙ not_below-white d.colour
 
-    pub walk-end : m.objects ≡ raised_among (keys_reached before (root ∷ [])) to before
-    walk-end = w.marking.objects ∙ map-agree (risen keys to) (risen (keys_reached before (root ∷ [])) to) before each
+  step : (o : Object) (q : ℕ) → Among o before → Among (Some q) (places_of o) → IsMet before to keys o.key → IsMet before to keys q
+  step o q n s t = ⊎_elim
+      (λ there. walk-followed before to (Reached before root) root own m w emptied o q n s there)
+      (λ e. inr (enough o q n s (ap (is_lower to) (sym (own o n)) ∙ e))) t
+
+  met : (k : ℕ) → Reached before root k → IsMet before to keys k
+  met = reached-within before root (IsMet before to keys) w.begun step
+
+  reached_keys : (k : ℕ) → (has ◌==◌ (keys_reached before (root ∷ [])) k ≡ true → Reached before root k) × (Reached before root k → has ◌==◌ (keys_reached before (root ∷ [])) k ≡ true)
+  reached_keys k = closure-decides ◌==◌ number-exact (reach_rules before (root ∷ [])) k
+
+  each : (o : Object) → Among o before → risen keys to o ≡ risen (keys_reached before (root ∷ [])) to o
+  each o n = grind (arith, risen-in, risen-out, true≢false, reached_keys, has-among, number-exact, has-there, raised-same, met, w.marking.allowed)
+
+  pub walk-end : m.objects ≡ raised_among (keys_reached before (root ∷ [])) to before
+  walk-end = w.marking.objects ∙ map-agree (risen keys to) (risen (keys_reached before (root ∷ [])) to) before each

@@ -14,7 +14,7 @@ is_unblack objects key = elim (new_mark_at objects key) [ None ↦ false | Some 
 abbrev pub edges_unblack : List Object → List (ℕ × ℕ)
 edges_unblack objects = filter (λ e. is_unblack objects e.0 && is_unblack objects e.1) (edges objects)
 
--- from this key, past objects that are black by the new mark
+-- from this key, past objects that are not black by the new mark
 abbrev pub exposure_rules_by_mark : List Object → ℕ → List (Rule ℕ)
 exposure_rules_by_mark objects key = system (filter (is_unblack objects) (key ∷ [])) (edges_unblack objects) []
 

@@ -11,8 +11,10 @@
 //! one object after another (`start_marking`, with a type of its own); between markings `expose` makes black what script
 //! touches, with all that it reaches so. What stays white is removed, one object after another.
 //!
-//! Each object has a new mark beside its colour, for a marking that goes on in slices (`new_mark`, `set_new_mark`). An object is
-//! made black by it, and no other call reads or writes it.
+//! Each object has a new mark beside its colour, for a marking that goes on in slices (`new_mark`, `set_new_mark`). Such a marking
+//! begins by making all white by the new mark (`unmark_new`). While it goes on, what script touches is made black by it
+//! (`expose_new`), and an object is made black by it. At the end the new marks become the colours (`exchange_marks`). No other call
+//! reads or writes it.
 //!
 //! No object that isn't white holds one of a lower colour. So marking may stop at each object that has the colour to which
 //! it raises.

@@ -10,7 +10,7 @@ ghost use Rattle.cc_script.specs.Objects.{Object, AreWhole, IsGiven, IsNotBelow,
 ghost use Rattle.cc_lists.specs.Walks.{first_of};
 ghost use Rattle.cc_script.specs.Underway.{with_first_looked_into};
 ghost use Rattle.cc_script.specs.Walking.{keys_reached};
-ghost use Rattle.cc_script.specs.NewMarks.{exchanged};
+ghost use Rattle.cc_script.specs.NewMarks.{exchanged, keys_to_blacken, newly_blackened};
 ghost use Rattle.cc_script.specs.ColourOrder.{HasColourOrder};
 ghost use Rattle.cc_script.specs.Cells.{Content, Label, filled, in_colour, in_new_mark};
 ghost use Rattle.cc_script.specs.Lists.{IsPlaced, cell_at};
@@ -369,6 +369,36 @@ impl ScriptParts {
     {
         self.raise(key, to);
         while self.look_into_first(to).is_some() {}
+    }
+
+    /// Makes the object at a key black, with all that it reaches over slots and delegates past objects that are not black.
+    // goes on from what it made black alone, so the colours need not be in order
+    fn blacken_from(&mut self, key: SKey)
+        requires under_way { IsUnderWay Black self.old }
+        requires emptied { (marking_of self.old).waiting ≡ [] }
+        requires live { IsTrue (is_there (shows self.old) key.0) }
+        requires whole { AreWhole (shows self.old) }
+        ensures shows { shows self.new ≡ raised_among (keys_to_blacken (map exchanged (shows self.old)) key.0) Black (shows self.old) }
+        ensures under_way { IsUnderWay Black self.new }
+        ensures emptied { (marking_of self.new).waiting ≡ [] }
+    {
+        self.raise(key, Colour::Black);
+        while self.follow_first(Colour::Black).is_some() {}
+    }
+
+    /// Makes the object at a key black by the new mark, with all that it reaches over slots and delegates past objects that are
+    /// not black so.
+    // meanwhile the new marks stand in for the colours
+    pub(crate) fn expose_new(&mut self, key: SKey)
+        requires at_rest { IsAtRest self.old }
+        requires live { IsTrue (is_there (shows self.old) key.0) }
+        requires whole { AreWhole (shows self.old) }
+        ensures shows { shows self.new ≡ newly_blackened (keys_to_blacken (shows self.old) key.0) (shows self.old) }
+        ensures at_rest { IsAtRest self.new }
+    {
+        self.cells.exchange_marks();
+        self.blacken_from(key);
+        self.cells.exchange_marks();
     }
 }
 

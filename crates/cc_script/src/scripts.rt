@@ -7,7 +7,7 @@ ghost use Rattle.cc_names.specs.Sizes.{most_slots};
 ghost use Rattle.cc_walk.specs.Walks.{is_walked};
 ghost use Rattle.cc_script.specs.Objects.{Object, AreWhole, HaveOwnKeys, IsGiven, NoObjectWaits, change_object, colour_at, delegate_at, entering, first_key, is_there, key_after, kind_at, map_object, name_at, native_at, new_mark_at, plain_object, proxy_object, reflector_object, raised_among, slots_at, unwalked, walked_at, whitened, with_new_mark, with_slot, without_object, IsNotBelow};
 ghost use Rattle.cc_script.specs.Walking.{keys_reached};
-ghost use Rattle.cc_script.specs.NewMarks.{exchanged};
+ghost use Rattle.cc_script.specs.NewMarks.{exchanged, keys_to_blacken, newly_blackened};
 ghost use Rattle.cc_script.specs.ColourOrder.{HasColourOrder};
 
 use crate::being::Being;
@@ -172,15 +172,27 @@ impl Scripts {
         self.parts.set_new_mark(key, mark);
     }
 
-    /// No object has a new mark from then on: a marking in slices begins. Takes time by the objects, one fill.
+    /// No object has a new mark from then on: a marking in slices begins. It takes time by the objects, one fill.
     pub fn unmark_new(&mut self)
         ensures { self.new ≡ map (with_new_mark White) self.old }
     {
         self.parts.unmark_new();
     }
 
-    /// The new marks become the colours, and the colours the new marks: so ends a marking in slices. The new marks are in the
-    /// order in which colours always are.
+    /// An object is black by the new mark from then on, with all that it reaches over slots and from proxies to their delegates
+    /// past objects that are not black so. Where it is black by it, nothing changes.
+    ///
+    /// It takes no memory, and colours stay.
+    pub fn expose_new(&mut self, key: SKey)
+        requires live { IsTrue (is_there self.old key.0) }
+        requires whole { AreWhole self.old }
+        ensures { self.new ≡ newly_blackened (keys_to_blacken self.old key.0) self.old }
+    {
+        self.parts.expose_new(key);
+    }
+
+    /// The new marks become the colours, and the colours the new marks: a marking in slices ends. No object that isn't white by the
+    /// new mark holds one that is lower by it.
     ///
     /// It takes the same time however many objects there are.
     pub fn exchange_marks(&mut self)

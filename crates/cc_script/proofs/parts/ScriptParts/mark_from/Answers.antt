@@ -6,7 +6,7 @@ use Rattle.cc_script.specs.Parts.{lists_of, shows, marking_of}
 use Rattle.cc_script.specs.Underway.{IsMarked}
 use Rattle.cc_script.proofs.Places.{object_at-own}
 use Rattle.cc_script.proofs.Popping.{none-first}
-use Rattle.cc_script.proofs.Walks.{IsWalk, walk-start, walk-looked, walk-end}
+use Rattle.cc_script.proofs.Walks.{IsWalk, Reached, reached-leads, walk-start, walk-looked, walk-end}
 use Rattle.cc_script.proofs.Underway.{started-marked, ordered-marked, marked-ordered, whole-raised, whole-looked, looked-spends, looked-none}
 use Rattle.cc_script.proofs.parts.ScriptParts.mark_from.Goals as goal
 
@@ -15,9 +15,9 @@ loop-to-init c =
     let m = marking_of c.args.self.now in
     let raises = c.raise.ensures.raises in
     record {
-      walk = subst (IsWalk (shows c.args.self.now) c.args.key.0 c.args.to)
+      walk = subst (IsWalk (shows c.args.self.now) c.args.to (Reached (shows c.args.self.now) c.args.key.0) c.args.key.0)
           (sym (raises ∙ ap (λ ks. raise_key c.args.to c.args.key.0 (record { objects = shows c.args.self.now; waiting = ks })) c.requires.at_rest.emptied))
-          (walk-start (shows c.args.self.now) c.args.key.0 c.args.to);
+          (walk-start (shows c.args.self.now) c.args.to (Reached (shows c.args.self.now) c.args.key.0) c.args.key.0 (reached-leads (shows c.args.self.now) c.args.to c.args.key.0));
       begun = record {
         under_way = c.raise.ensures.under_way;
         marked = subst (IsMarked c.args.to) (sym raises)
@@ -36,8 +36,8 @@ loop-to-preserved c =
     let m = marking_of c.loop-to.self in
     let looked = c.look_into_first.ensures.looked in
     record {
-      walk = subst (IsWalk (shows c.args.self.now) c.args.key.0 c.args.to) (sym looked)
-          (walk-looked (shows c.args.self.now) c.args.key.0 c.args.to m c.loop-to.invariant.walk);
+      walk = subst (IsWalk (shows c.args.self.now) c.args.to (Reached (shows c.args.self.now) c.args.key.0) c.args.key.0) (sym looked)
+          (walk-looked (shows c.args.self.now) c.args.to (Reached (shows c.args.self.now) c.args.key.0) c.args.key.0 (reached-leads (shows c.args.self.now) c.args.to c.args.key.0) m c.loop-to.invariant.walk);
       begun = c.look_into_first.ensures.begun;
       whole = subst (λ (z : Marking). AreWhole z.objects) (sym looked) (whole-looked c.args.to m c.loop-to.invariant.whole);
     }
