@@ -7,4 +7,4 @@ pub mod Edges
 pub mod Walks
 pub mod Buffers
 pub mod Marks
-pub mod Passing
+pub mod Taking

@@ -1,5 +1,5 @@
 -- THE WALK: what is in it can be skipped, what the registers hold is in it, and so is what an object refers to that was given.
-use Rattle.std.proofs.Common.{◌≡◌, ◌≢◌, ℕ, ◌<◌, true, List, [], map, get_or, Option, Some, None, option_map, refl, sym, ◌∙◌, ap, subst, ◌⊎◌, ⊎_elim, ◌==◌}
+use Rattle.std.proofs.Common.{◌≡◌, ◌≢◌, ℕ, ◌<◌, true, List, [], map, get_or, Option, Some, None, option_map, refl, sym, ◌∙◌, ap, subst, inl, inr, ◌⊎◌, ⊎_elim, ◌==◌}
 use Rattle.std.specs.Prelude.{◌↔◌}
 use Rattle.std.proofs.lemmas.Bool.{false≢true}
 use Rattle.std.proofs.Math.ListN.{get_or-map}
@@ -20,14 +20,13 @@ use Rattle.cc_counted.specs.declared.held.Held.{Held}
 use Rattle.cc_counted.specs.declared.held.Held.TheVariants as held
 use Rattle.cc_script.specs.Objects.{Object, object_at, walked_at, with_walked}
 use Rattle.cc_script.specs.Objects as objects
-use Rattle.cc_heaps.specs.Keyed.{Keyed, IsInOrder}
+use Rattle.cc_heaps.specs.Keyed.{Keyed}
 use Rattle.cc_heaps.specs.Changes.{IsThere, held_name}
-use Rattle.cc_heaps.specs.Keeping.{KeepsAll}
 use Rattle.cc_heaps.specs.Places.{places_at}
 use Rattle.cc_heaps.specs.Walking.{NothingWaits, state_in, state_or_out, unwalked, with_state_in}
 use Rattle.cc_skip.specs.Walked.{Enters, IsInWalk, is_given, left_to_give}
 use Rattle.cc_skip.proofs.States.{IsOne, given-or_waits, given-stands, left-fewer, named-rest, rest-stated, stated-cases, there-named, there-rest}
-use Rattle.cc_skip.proofs.Entering.{Enters-then, in_walk-named, kept-walked}
+use Rattle.cc_skip.proofs.Entering.{Enters-then, in_walk-named}
 use Rattle.cc_skip.proofs.Edges.{held-to, to-held}
 
 pub record IsWalking (start now : Keyed) : Type 0 where
@@ -36,7 +35,6 @@ pub record IsWalking (start now : Keyed) : Type 0 where
   pub registers : (x : Name) → Among x (view start.heap).registers → IsInWalk now x
   -- what an object refers to that was given
   pub closed : (o : Held) (x y : Name) → is_given (state_in now o) ≡ true → held_name now (Some o) ≡ Some x → Among (x, y) (view start.heap).edges → IsInWalk now y
-  pub kept : KeepsAll start now
 
 -- THE BEGIN
 
@@ -58,29 +56,30 @@ out-of_it v e o = ap (λ u. state_in u o) e ∙ none o
     none (held.Native key) = natives v.walks key.0
     none (held.Script key) = scripts v.scripts key.0
 
--- what the registers hold is in it
-pub begun : (start mid now : Keyed) → start ≡ unwalked start → Enters start mid (contents start.heap.native_registers) → Enters mid now (contents mid.heap.script_registers) →
-    IsWalking start now
-begun start mid now e natives scripts = record {
+-- what the registers hold came into it
+pub entered-both : (start mid now : Keyed) → Enters start mid (contents start.heap.native_registers) → Enters mid now (contents mid.heap.script_registers) →
+    Enters start now (view start.heap).registers
+entered-both start mid now natives scripts =
+    Enters-then start mid now (contents start.heap.native_registers) (contents start.heap.script_registers) natives
+    (subst (λ (h : Heap). Enters mid now (contents h.script_registers)) (ap (λ (u : Keyed). u.heap) natives.rest) scripts)
+
+-- and none was given
+pub begun-none : (start now : Keyed) → start ≡ unwalked start → Enters start now (view start.heap).registers → (o : Held) → ¬ (is_given (state_in now o) ≡ true)
+begun-none start now e both o given = false≢true (sym (both.given o ∙ ap is_given (out-of_it start e o)) ∙ given)
+
+pub begun : (start now : Keyed) → start ≡ unwalked start → Enters start now (view start.heap).registers → IsWalking start now
+begun start now e both = record {
   rest = both.rest ∙ sym e;
   skippable = λ x i. ⊎_elim
       (λ old. absurd (false≢true (sym (ap is_walked (out-of_it start e old.0)) ∙ old.2)))
       (λ m. derive-root (view start.heap).registers (view start.heap).edges [] x m)
       (both.came x i);
   registers = both.in_it;
-  closed = λ o x y given named m. absurd (false≢true (sym (both.given o ∙ ap is_given (out-of_it start e o)) ∙ given));
-  kept = both.kept;
+  closed = λ o x y given named m. absurd (begun-none start now e both o given);
 }
-  where
-    same : mid.heap ≡ start.heap
-    same = ap (λ (u : Keyed). u.heap) natives.rest
-
-    both : Enters start now (view start.heap).registers
-    both = Enters-then start mid now (contents start.heap.native_registers) (contents start.heap.script_registers) natives
-        (subst (λ (h : Heap). Enters mid now (contents h.script_registers)) same scripts)
 
 -- ONE IS GIVEN, and what it refers to comes in
-module _ (start now : Keyed) (i : IsWalking start now) (owned : List ℕ) (order : IsInOrder owned start) (x : Held) (waits : state_in now x ≡ Waiting) (there : IsThere now (Some x)) where
+module _ (start now : Keyed) (i : IsWalking start now) (well : IsWellFormed start.heap) (x : Held) (waits : state_in now x ≡ Waiting) (there : IsThere now (Some x)) where
   abbrev given : Keyed
   given = with_state_in now x (λ s. Given)
 
@@ -93,7 +92,7 @@ module _ (start now : Keyed) (i : IsWalking start now) (owned : List ℕ) (order
   heap-given : given.heap ≡ start.heap
   heap-given = ap (λ (u : Keyed). u.heap) given-rest
 
-  in-given : (y : Name) → IsInWalk now y → IsInWalk given y
+  pub in-given : (y : Name) → IsInWalk now y → IsInWalk given y
   in-given y m = in_walk-named now given rest-given y m.0 m.1 (⊎_elim
       (λ s. ap is_walked s ∙ m.2)
       (λ one. ap is_walked (one.is ∙ given-stands now x waits there))
@@ -109,8 +108,12 @@ module _ (start now : Keyed) (i : IsWalking start now) (owned : List ℕ) (order
         (stated-cases now x m.0 (λ s. Given)),
   )
 
-  pub gone_on : (next : Keyed) → Enters given next (contents (places_at given x)) → KeepsAll now given → IsWalking start next
-  gone_on next e kept = record {
+  -- the one that is given is in it
+  pub in-it : (z : Name) → held_name now (Some x) ≡ Some z → IsInWalk now z
+  in-it z named = (x, named, ap is_walked waits)
+
+  pub gone_on : (next : Keyed) → Enters given next (contents (places_at given x)) → IsWalking start next
+  gone_on next e = record {
     rest = e.rest ∙ given-rest;
     skippable = λ y m. ⊎_elim
         (λ old. i.skippable y (given-in y old))
@@ -118,19 +121,15 @@ module _ (start now : Keyed) (i : IsWalking start now) (owned : List ℕ) (order
         (e.came y m);
     registers = λ y m. e.stays y (in-given y (i.registers y m));
     closed = λ o z y is named m. closed_at o z y (sym (e.given o) ∙ is) (sym (named-rest given next e.rest (Some o)) ∙ named) m (stated-cases now x o (λ s. Given));
-    kept = kept-walked start given next e.rest (kept-walked start now given rest-given i.kept kept) e.kept;
   }
     where
       sound : IsWellFormed given.heap
-      sound = subst IsWellFormed (sym heap-given) order.sound.well_formed
-
-      in_it : (z : Name) → held_name given (Some x) ≡ Some z → IsInWalk now z
-      in_it z named = (x, sym (named-rest now given rest-given (Some x)) ∙ named, ap is_walked waits)
+      sound = subst IsWellFormed (sym heap-given) well
 
       referred : (y : Name) → Among y (contents (places_at given x)) → ((z : Name) × (held_name given (Some x) ≡ Some z)) → IsSkippable start.heap y
       referred y m n =
           let edge : Among (n.0, y) (view start.heap).edges = subst (λ h. Among (n.0, y) (view h).edges) heap-given (held-to given sound x n.0 n.1 y m) in
-          derive-along (view start.heap).registers (view start.heap).edges [] n.0 y edge (i.skippable n.0 (in_it n.0 n.1))
+          derive-along (view start.heap).registers (view start.heap).edges [] n.0 y edge (i.skippable n.0 (in-it n.0 (sym (named-rest now given rest-given (Some x)) ∙ n.1)))
 
       closed_at : (o : Held) (z y : Name) → is_given (state_in given o) ≡ true → held_name given (Some o) ≡ Some z → Among (z, y) (view start.heap).edges →
           (state_in given o ≡ state_in now o) ⊎ IsOne now given x o → IsInWalk next y
@@ -150,19 +149,31 @@ IsGivenNext now mid x = (state_in now x ≡ Waiting) × (mid ≡ with_state_in n
 pub next-rest : (now mid : Keyed) (x : Held) → IsGivenNext now mid x → unwalked mid ≡ unwalked now
 next-rest now mid x g = ap unwalked g.1 ∙ rest-stated now x (λ s. Given)
 
-pub walking-next : (start now mid next : Keyed) (owned : List ℕ) → IsInOrder owned start → IsWalking start now → (x : Held) → IsGivenNext now mid x →
-    KeepsAll now mid → Enters mid next (contents (places_at mid x)) → IsWalking start next
-walking-next start now mid next owned order i x g kept e =
-    gone_on start now i owned order x g.0 g.2 next (subst (λ m. Enters m next (contents (places_at m x))) g.1 e) (subst (KeepsAll now) g.1 kept)
+module _ (start now mid next : Keyed) (well : IsWellFormed start.heap) (i : IsWalking start now) (x : Held) (g : IsGivenNext now mid x) (e : Enters mid next (contents (places_at mid x))) where
+  pub walking-next : IsWalking start next
+  walking-next = gone_on start now i well x g.0 g.2 next (subst (λ m. Enters m next (contents (places_at m x))) g.1 e)
 
-pub walking-fewer : (start now mid next : Keyed) (owned : List ℕ) → IsInOrder owned start → IsWalking start now → (x : Held) → IsGivenNext now mid x →
-    (names : List Name) → Enters mid next names → left_to_give next < left_to_give now
-walking-fewer start now mid next owned order i x g names e = fewer-left start now i owned order x g.0 g.2 next names (subst (λ m. Enters m next names) g.1 e)
+  pub walking-fewer : left_to_give next < left_to_give now
+  walking-fewer = fewer-left start now i well x g.0 g.2 next (contents (places_at mid x)) (subst (λ m. Enters m next (contents (places_at mid x))) g.1 e)
+
+  -- what was in the walk is in it still
+  pub walking-stays : (y : Name) → IsInWalk now y → IsInWalk next y
+  walking-stays y m = e.stays y (subst (λ u. IsInWalk u y) (sym g.1) (in-given start now i well x g.0 g.2 y m))
+
+  -- what is given by now was given, or is the one that is given next
+  pub walking-given : (o : Held) → is_given (state_in next o) ≡ true → (is_given (state_in now o) ≡ true) ⊎ (held_name now (Some o) ≡ held_name now (Some x))
+  walking-given o is = ⊎_elim
+      (λ s. inl (ap is_given (sym s) ∙ there))
+      (λ one. inr one.name)
+      (stated-cases now x o (λ s. Given))
+    where
+      there : is_given (state_in (with_state_in now x (λ s. Given)) o) ≡ true
+      there = ap (λ u. is_given (state_in u o)) (sym g.1) ∙ (sym (e.given o) ∙ is)
 
 -- THE END
 
 -- where none waits, each that is in the walk was given
-none-waits : (v : Keyed) → NothingWaits v → (o : Held) → state_in v o ≢ Waiting
+pub none-waits : (v : Keyed) → NothingWaits v → (o : Held) → state_in v o ≢ Waiting
 none-waits v n (held.Native key) e = n.0 key.0 e
 none-waits v n (held.Script key) e = go (object_at v.scripts key.0) refl e
   where
@@ -178,8 +189,3 @@ walked-exactly start now i none x = (
       (λ y z m j. i.closed j.0 y z (given-or_waits (state_in now j.0) j.2 (none-waits now none j.0)) j.1 m)
       (λ ps z m. absurd m) x,
 )
-
--- nothing changed as none was found to wait
-pub walking-end : (start now last : Keyed) → IsWalking start now → NothingWaits now × (last ≡ now) → (x : Name) → IsInWalk last x ↔ IsSkippable last.heap x
-walking-end start now last i n = subst (λ (u : Keyed). (x : Name) → IsInWalk u x ↔ IsSkippable u.heap x) (sym n.1)
-    (λ x. subst (λ h. IsInWalk now x ↔ IsSkippable h x) (sym (ap (λ (u : Keyed). u.heap) i.rest)) (walked-exactly start now i n.0 x))

@@ -1,11 +1,11 @@
--- WHICH SUSPECT IS FORGOTTEN: one that can be skipped.
-use Rattle.std.specs.Prelude.{ℕ, Bool, ◌&&◌}
-use Rattle.cc_lists.specs.Members.{has}
-use Rattle.cc_names.specs.Names.{native, same_name}
+-- THE HEAP ONCE A NATIVE HAS LOST ITS MARK.
 use Rattle.cc_model.specs.Heap.{Heap}
-use Rattle.cc_model.specs.Skipping.{skippable_names}
-use Rattle.cc_counted.specs.Suspects.{is_purple_in}
+use Rattle.cc_model.specs.Skipping.{unmarked}
+use Rattle.cc_counted.specs.declared.held.Held.{Held}
+use Rattle.cc_counted.specs.declared.held.Held.TheVariants as held
+use Rattle.cc_heaps.specs.Keyed.{Keyed, the_number}
 
--- whether native k has the mark and can be skipped
-abbrev pub is_forgotten : Heap → ℕ → Bool
-is_forgotten h k = is_purple_in h.buffer k && has same_name (skippable_names h) (native k)
+-- a script object has no mark
+abbrev pub unmarked_object : Keyed → Held → Heap
+unmarked_object v (held.Native key) = unmarked v.heap (the_number v key.0)
+unmarked_object v (held.Script key) = v.heap

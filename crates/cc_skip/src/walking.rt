@@ -1,33 +1,68 @@
 //! The walk from the registers over the places of objects.
-ghost use Rattle.std.specs.Prelude.{◌≡◌, ◌↔◌, ℕ, List, option_to_list, Some};
-ghost use Rattle.cc_names.specs.declared.name.Name.{Name};
+ghost use Rattle.std.specs.Prelude.{◌≡◌, ◌+◌, ℕ, List, length, option_to_list, Some, IsSome};
+ghost use Rattle.cc_names.specs.Names.{native};
 ghost use Rattle.cc_model.specs.Slots.{contents};
-ghost use Rattle.cc_model.specs.Skipping.{IsSkippable};
+ghost use Rattle.cc_model.specs.Skipping.{forgotten, unmarked};
+ghost use Rattle.cc_model.specs.View.{view};
 ghost use Rattle.cc_counted.specs.declared.held.Held.TheVariants as held;
 ghost use Rattle.cc_heaps.specs.Changes.{IsNativeThere, IsScriptThere, IsThere, held_name, native_name, script_name};
-ghost use Rattle.cc_heaps.specs.Keeping.{KeepsAll};
-ghost use Rattle.cc_heaps.specs.Keyed.{IsInOrder};
+ghost use Rattle.cc_heaps.specs.Keeping.{KeepsAll, KeepsAllIfReached};
+ghost use Rattle.cc_heaps.specs.Standing.{IsReached};
+ghost use Rattle.cc_heaps.specs.Keyed.{IsInOrder, changed_to, number_at, the_number};
 ghost use Rattle.cc_heaps.specs.Places.{places_at};
 ghost use Rattle.cc_heaps.specs.Walking.{unwalked};
-ghost use Rattle.cc_skip.specs.Walked.{Enters, IsInWalk};
+ghost use Rattle.cc_skip.specs.Forgetting.{unmarked_object};
+ghost use Rattle.cc_skip.specs.Walked.{Enters};
 
 use cc_counted::Held;
 use cc_heaps::Heaps;
 use cc_names::{NKey, SKey};
 
-/// The walk over all that the registers reach by places: afterwards exactly what can be skipped is in it.
-pub(crate) fn walk(heaps: &mut Heaps)
+/// The walk over all that the registers reach by places. Each native that it gives loses its mark. How many had one.
+pub(crate) fn walk(heaps: &mut Heaps) -> u32
     requires order { (owned : List ℕ) × IsInOrder owned heaps.old }
     requires empty { heaps.old ≡ unwalked heaps.old }
-    ensures exactly { (x : Name) → IsInWalk heaps.new x ↔ IsSkippable heaps.new.heap x }
-    ensures rest { unwalked heaps.new ≡ heaps.old }
+    ensures forgotten { unwalked heaps.new ≡ changed_to heaps.old (forgotten heaps.old.heap) }
+    ensures count { result + length (view heaps.new.heap).purple ≡ length (view heaps.old.heap).purple }
     ensures kept { KeepsAll heaps.old heaps.new }
 {
     enter_natives(heaps);
     enter_scripts(heaps);
+    let mut forgotten = 0;
     'walk: while let Some(object) = heaps.walk_next() {
         enter_places(heaps, object);
+        forgotten += unmark(heaps, object);
     }
+    forgotten
+}
+
+/// A native loses the purple mark, where it has it. How many marks that takes: 1 or none.
+fn unmark(heaps: &mut Heaps, object: Held) -> u32
+    requires order { (owned : List ℕ) × IsInOrder owned heaps.old }
+    requires there { IsThere heaps.old (Some object) }
+    ensures heap { heaps.new ≡ changed_to heaps.old (unmarked_object heaps.old object) }
+    ensures count { result + length (view heaps.new.heap).purple ≡ length (view heaps.old.heap).purple }
+    ensures kept { KeepsAllIfReached (IsReached heaps.old.heap (held_name heaps.old (Some object))) heaps.old heaps.new }
+{
+    match object {
+        Held::Native(key) => unmark_native(heaps, key),
+        Held::Script(_) => 0,
+    }
+}
+
+/// The same of the native at a key.
+fn unmark_native(heaps: &mut Heaps, key: NKey) -> u32
+    requires order { (owned : List ℕ) × IsInOrder owned heaps.old }
+    requires live { IsSome (number_at heaps.old key.0) }
+    ensures heap { heaps.new ≡ changed_to heaps.old (unmarked heaps.old.heap (the_number heaps.old key.0)) }
+    ensures count { result + length (view heaps.new.heap).purple ≡ length (view heaps.old.heap).purple }
+    ensures kept { KeepsAllIfReached (IsReached heaps.old.heap (Some (native (the_number heaps.old key.0)))) heaps.old heaps.new }
+{
+    if !heaps.counted().purple(key) {
+        return 0;
+    }
+    heaps.unmark(key);
+    1
 }
 
 /// What native registers hold comes into the walk.
