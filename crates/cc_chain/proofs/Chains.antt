@@ -18,7 +18,7 @@ use Rattle.cc_chain.proofs.Rows.{AllDiffer-push, AllDiffer-filter, without-first
 
 -- Who is live, and who is in the list
 
-linked-live : (links : Links) (key : ℕ) → is_linked links key ≡ true → IsTrue (is_live links key)
+pub linked-live : (links : Links) (key : ℕ) → is_linked links key ≡ true → IsTrue (is_live links key)
 linked-live links key = grind arith
 
 -- a walk from the first key of a part of the list gives that part

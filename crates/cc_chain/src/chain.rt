@@ -1,8 +1,8 @@
 //! The chain: its two ends, and what it does to the links of its keys.
-ghost use Rattle.std.specs.Prelude.{◌≡◌, ◌==◌, None, IsTrue, IfSome, List, ℕ, [], ◌∷◌, ◌++◌, drop};
+ghost use Rattle.std.specs.Prelude.{◌≡◌, ◌==◌, ◌<◌, ◌^◌, None, IsTrue, IfSome, List, ℕ, [], ◌∷◌, ◌++◌, drop, option_and_then};
 ghost use Rattle.cc_lists.specs.Members.{has, without};
 ghost use Rattle.cc_lists.specs.Walks.{first_of};
-ghost use Rattle.cc_chain.specs.Links.{HasNone, Links, is_live, is_linked, IsFree, SameLive, with_after, with_before, with_changed};
+ghost use Rattle.cc_chain.specs.Links.{HasNone, Links, is_live, is_linked, link_at, IsFree, SameLive, with_after, with_before, with_changed, with_link};
 ghost use Rattle.cc_chain.specs.Chains.{IsChain, IsSomeChain, behind, with_next, with_previous};
 
 use crate::link::Link;
@@ -65,6 +65,21 @@ impl<R> Chain<R> {
         let key = self.first?;
         self.unlink_at(store, key);
         Some(key)
+    }
+
+    /// Takes out all keys, in time by how many there are: each one's link is read once and written once, and nothing else is.
+    pub fn clear<T: LinkStore<R>>(&mut self, store: &mut T)
+        requires { IsSomeChain (T.links store.old) self.old }
+        ensures keys { IsChain (T.links store.new) self.new [] }
+        ensures live { SameLive (T.links store.old) (T.links store.new) }
+        ensures rest { T.rest store.new ≡ T.rest store.old }
+    {
+        let mut next = self.first;
+        'keys: while let Some(key) = next {
+            next = take_link(store, key);
+        }
+        self.first = None;
+        self.last = None;
     }
 
     /// Takes out a key, which must be in the list. It looks at the key's neighbours alone.
@@ -160,4 +175,18 @@ fn set_before<R, T: LinkStore<R>>(store: &mut T, key: u32, before: Option<u32>)
     if let Some(link) = store.get(key) {
         store.set(key, Some(Link { before, ..link }));
     }
+}
+
+/// Takes away the link of a live key, and answers the key that stood behind it. A key is below 2 ^ 32, so a loop that takes
+/// away links ends.
+fn take_link<R, T: LinkStore<R>>(store: &mut T, key: u32) -> Option<u32>
+    requires { IsTrue (is_live (T.links store.old) key) }
+    ensures after { result ≡ option_and_then (λ link. link.after) (link_at (T.links store.old) key) }
+    ensures links { T.links store.new ≡ with_link (T.links store.old) key None }
+    ensures rest { T.rest store.new ≡ T.rest store.old }
+    ensures below { key < 2 ^ 32 }
+{
+    let link = store.get(key);
+    store.set(key, None);
+    link?.after
 }
