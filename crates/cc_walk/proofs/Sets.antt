@@ -1,5 +1,5 @@
 -- How keys stand in a set for a walk once one comes in, is given or leaves.
-use Rattle.std.proofs.Common.{◌≡◌, ◌≢◌, ℕ, ◌<◌, length, Bool, true, false, not, ◌||◌, List, [], ◌∷◌, ◌++◌, Option, Some, None, refl, sym, ◌∙◌, ap, subst, inl, inr, ◌⊎◌, ⊎_elim, if◌then◌else◌, arith}
+use Rattle.std.proofs.Common.{◌≡◌, ◌≢◌, ℕ, Bool, true, false, not, ◌||◌, List, [], ◌∷◌, ◌++◌, Some, None, refl, sym, ◌∙◌, ap, subst, inl, inr, ◌⊎◌, ⊎_elim, if◌then◌else◌, arith}
 use Rattle.std.specs.Prelude.{◌==◌}
 use Rattle.std.proofs.Math.Path.{fun_ext}
 use Rattle.std.proofs.lemmas.Bool.{true≢false, eqb-true, eq-eqb, ne_eqb, false_from_ne_true}
@@ -9,11 +9,10 @@ use Rattle.cc_lists.specs.Members.{Among, has, without}
 use Rattle.cc_lists.specs.Walks.{first_of}
 use Rattle.cc_lists.proofs.Members.{has-there, has-among, Among-append, Among-filtered, Among-passes}
 use Rattle.cc_lists.proofs.Walks.{first-among}
-use Rattle.cc_lists.proofs.Filtering.{length-filter-less}
 use Rattle.cc_lists.proofs.Numbers.{number-exact}
 use Rattle.cc_names.specs.declared.kind.Walked.{Walked}
 use Rattle.cc_names.specs.declared.kind.Walked.TheVariants.{Out, Waiting, Given}
-use Rattle.cc_walk.specs.Walks.{Walk, walk_of, members, with_member, without_member, without_first, given_first, gone_on, Walks, state_if, states_of, with_state, entered, is_walked, NoneWaits}
+use Rattle.cc_walk.specs.Walks.{Walk, walk_of, members, with_member, without_member, given_first, gone_on, Walks, state_if, states_of, with_state, entered, is_walked, NoneWaits}
 
 -- Two truths
 
@@ -188,27 +187,3 @@ states-without key w = fun_ext (λ k. rw (has-without key w.given k, has-without
     go : (k : ℕ) (b : Bool) → state_if (if b then false else has ◌==◌ w.given k) (if b then false else has ◌==◌ w.waiting k) ≡ (if b then Out else states_of w k)
     go k true = refl
     go k false = refl
-
--- a set without members
-pub no_members : (w : Walk) → first_of (members w) ≡ None → w ≡ walk_of [] []
-no_members w e = go w.given w.waiting e
-  where
-    go : (given waiting : List ℕ) → first_of (given ++ waiting) ≡ None → walk_of given waiting ≡ walk_of [] []
-    go [] [] e = refl
-    go [] (x ∷ xs) e = absurd (cc)
-    go (x ∷ xs) waiting e = absurd (cc)
-
--- a set of which the first left is without that one
-pub first-left : (w : Walk) (key : ℕ) → first_of (members w) ≡ Some key → without_first w ≡ without_member key w
-first-left w key e = ap (λ (o : Option ℕ). elim o [ None ↦ w | Some k ↦ without_member k w ]) e
-
--- so it has a member fewer
-pub fewer-members : (w : Walk) (key : ℕ) → first_of (members w) ≡ Some key → length (members (without_first w)) < length (members w)
-fewer-members w key e =
-    subst (λ (v : Walk). length (members v) < length (members w)) (sym (first-left w key e))
-    (subst (λ xs. length xs < length (members w)) (sym (members-without key w))
-    (length-filter-less (λ k. not (k == key)) (members w) key (first-among (members w) key e) (ap not (eq-eqb key key refl))))
-
--- and where there is none, the set stays
-pub first-none : (w : Walk) → first_of (members w) ≡ None → without_first w ≡ w
-first-none w e = ap (λ (o : Option ℕ). elim o [ None ↦ w | Some k ↦ without_member k w ]) e

@@ -1,5 +1,5 @@
 -- A list for a walk after each call: what its store has then is the set that the call leaves.
-use Rattle.std.proofs.Common.{◌≡◌, ◌≢◌, ℕ, Bool, true, false, List, [], ◌∷◌, ◌++◌, Option, Some, None, refl, sym, ◌∙◌, ap, subst, inl, inr, ⊎_elim}
+use Rattle.std.proofs.Common.{◌≡◌, ◌≢◌, ℕ, true, false, List, [], ◌∷◌, ◌++◌, Option, Some, None, refl, sym, ◌∙◌, ap, subst, inl, ⊎_elim}
 use Rattle.std.specs.Prelude.{◌==◌, IsTrue}
 use Rattle.std.specs.Option.{option_eq}
 use Rattle.std.proofs.lemmas.Bool.{true≢false, eqb-true, eq-eqb, ne_eqb, false_from_ne_true}
@@ -12,12 +12,12 @@ use Rattle.cc_chain.specs.Links.{AreBelow, Links, is_key, is_live, is_linked, Is
 use Rattle.cc_chain.specs.Chains.{AllDiffer, IsChain, behind, walked}
 use Rattle.cc_chain.specs.declared.chain.Chain.{Chain}
 use Rattle.cc_chain.proofs.Rows.{without-absent, without-first, first_is-among}
-use Rattle.cc_chain.proofs.Chains.{chain-bounded, chain-live}
+use Rattle.cc_chain.proofs.Chains.{chain-bounded}
 use Rattle.cc_chain.proofs.Slots.{among-linked, absent-free}
 use Rattle.cc_walk.specs.declared.walk_list.WalkList.{WalkList}
-use Rattle.cc_walk.specs.Walks.{Walk, walk_of, members, with_member, without_member, without_first, gone_on, split_at}
+use Rattle.cc_walk.specs.Walks.{Walk, walk_of, members, with_member, without_member, gone_on, split_at}
 use Rattle.cc_walk.specs.WalkLists.{IsWalk}
-use Rattle.cc_walk.proofs.Sets.{members-push, members-given, members-without, first-left, first-none}
+use Rattle.cc_walk.proofs.Sets.{members-push, members-given, members-without}
 
 -- A key goes last: the first that waits is the one that was, or that key
 first-push : (waiting : List ℕ) (key : ℕ) → first_of (waiting ++ key ∷ []) ≡ (elim (first_of waiting) [ None ↦ Some key | Some k ↦ Some k ])
@@ -77,9 +77,6 @@ module _ {R : Type 0} (links : Links) (list : WalkList R) (w : Walk) (i : IsWalk
   member-linked key e = among-linked links list.chain (members w) i.chain key
       (Among-right key w.given w.waiting (first-among w.waiting key (sym i.next ∙ e)))
 
-  pub first-live : (key : ℕ) → first_of (members w) ≡ Some key → IsTrue (is_live links key)
-  first-live key e = chain-live links list.chain (members w) i.chain key (first-among (members w) key e)
-
   absent : (key : ℕ) → has ◌==◌ (members w) key ≡ false → ¬ (Among key (members w))
   absent key e m = true≢false (sym (has-there ◌==◌ number-exact (members w) key m) ∙ e)
 
@@ -135,13 +132,6 @@ module _ {R : Type 0} (links : Links) (list : WalkList R) (w : Walk) (i : IsWalk
   -- or another
   pub next-stays : (key : ℕ) → list.next ≢ Some key → list.next ≡ first_of (without ◌==◌ key w.waiting)
   next-stays key n = i.next ∙ sym (first-kept w.waiting key (λ e. n (i.next ∙ e)))
-
-  -- the first of all leaves
-  pub walk-first : (key : ℕ) → first_of (members w) ≡ Some key → (new : Links) (left : WalkList R) → IsWalk new left (without_member key w) → IsWalk new left (without_first w)
-  walk-first key e new left l = subst (IsWalk new left) (sym (first-left w key e)) l
-
-  pub walk-empty : first_of (members w) ≡ None → IsWalk links list (without_first w)
-  walk-empty e = subst (IsWalk links list) (sym (first-none w e)) i
 
 -- a key is compared with the first that waits
 pub is-next : (next : Option ℕ) (key : ℕ) → option_eq ◌==◌ next (Some key) ≡ true → next ≡ Some key

@@ -1,7 +1,6 @@
 -- A SET OF KEYS FOR A WALK: the members that were given, and those that wait, in the order in which they came.
-use Rattle.std.specs.Prelude.{◌≡◌, ◌≢◌, ℕ, ◌==◌, Bool, true, false, List, [], ◌∷◌, ◌++◌, Option, Some, None, if◌then◌else◌}
+use Rattle.std.specs.Prelude.{◌≢◌, ℕ, ◌==◌, Bool, true, false, List, [], ◌∷◌, ◌++◌, Option, if◌then◌else◌}
 use Rattle.cc_lists.specs.Members.{has, without}
-use Rattle.cc_lists.specs.Walks.{first_of}
 use Rattle.cc_chain.specs.Links.{is_key}
 use Rattle.cc_names.specs.declared.kind.Walked.{Walked}
 use Rattle.cc_names.specs.declared.kind.Walked.TheVariants.{Out, Waiting, Given}
@@ -26,10 +25,6 @@ with_member key w = if has ◌==◌ (members w) key then w else walk_of w.given 
 -- a key leaves
 abbrev pub without_member : ℕ → Walk → Walk
 without_member key w = walk_of (without ◌==◌ key w.given) (without ◌==◌ key w.waiting)
-
--- the first of all members leaves
-abbrev pub without_first : Walk → Walk
-without_first w = elim (first_of (members w)) [ None ↦ w | Some key ↦ without_member key w ]
 
 -- the first of those that wait is given
 abbrev pub given_first : List ℕ → List ℕ → Walk

@@ -6,7 +6,7 @@
 //!
 //! The members stand in one chain through a store (`LinkStore` of `cc_chain`), those that were given first; beside its ends
 //! the list has the first that waits. So no call takes memory, a key joins or leaves by a look at its neighbours, and
-//! whether it is in the set is told by its link.
+//! whether it is in the set is told by its link. A set is emptied by one write for each member.
 #![tactic(auto)]
 
 mod walk_list;

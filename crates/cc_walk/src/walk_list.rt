@@ -4,7 +4,7 @@ ghost use Rattle.cc_lists.specs.Members.{has};
 ghost use Rattle.cc_lists.specs.Walks.{first_of};
 ghost use Rattle.cc_chain.specs.Links.{HasNone, Links, is_live, is_linked, SameLive};
 ghost use Rattle.cc_chain.specs.Chains.{IsChain, behind};
-ghost use Rattle.cc_walk.specs.Walks.{Walk, no_walk, members, with_member, without_member, without_first, gone_on};
+ghost use Rattle.cc_walk.specs.Walks.{Walk, no_walk, members, with_member, without_member, gone_on};
 ghost use Rattle.cc_walk.specs.WalkLists.{IsWalk, IsSomeWalk};
 
 use cc_chain::{Chain, LinkStore};
@@ -76,18 +76,15 @@ impl<R> WalkList<R> {
         self.chain.unlink_at(store, key);
     }
 
-    /// Takes out a member, those that were given first; none exactly where the set is empty. A set is emptied by it, in time
-    /// by its members.
-    pub fn take_first<T: LinkStore<R>>(&mut self, store: &mut T) -> Option<u32>
+    /// No key is in the set then. It takes time by its members: each one's link is read once and written once.
+    pub fn clear<T: LinkStore<R>>(&mut self, store: &mut T)
         requires { IsSomeWalk (T.links store.old) self.old }
-        ensures first { (w : Walk) → IsWalk (T.links store.old) self.old w → result ≡ first_of (members w) }
-        ensures walk { (w : Walk) → IsWalk (T.links store.old) self.old w → IsWalk (T.links store.new) self.new (without_first w) }
+        ensures walk { IsWalk (T.links store.new) self.new no_walk }
         ensures live { SameLive (T.links store.old) (T.links store.new) }
         ensures rest { T.rest store.new ≡ T.rest store.old }
     {
-        let key = self.chain.first(store)?;
-        self.leave(store, key);
-        Some(key)
+        self.chain.clear(store);
+        self.next = None;
     }
 
     /// Whether a live key is in the set.

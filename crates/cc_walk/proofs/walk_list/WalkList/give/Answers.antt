@@ -1,4 +1,3 @@
-use Rattle.std.proofs.Common.{sym, ◌∙◌}
 use Rattle.cc_walk.specs.Walks.{members}
 use Rattle.cc_walk.proofs.WalkLists.{member-linked, walk-given}
 use Rattle.cc_walk.proofs.walk_list.WalkList.give.Goals as goal
