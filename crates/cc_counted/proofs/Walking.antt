@@ -1,5 +1,5 @@
 -- THE WALK of the natives: its keys are those of natives after each call, and what it is by the states of its keys.
-use Rattle.std.proofs.Common.{◌≡◌, ℕ, Option, Some, None, option_map, is_some, IfSome, MatchOption, true, false, length, ◌<◌, sym, ◌∙◌, ap, subst, ⊎_elim, ◌==◌, arith}
+use Rattle.std.proofs.Common.{◌≡◌, ℕ, Option, Some, None, option_map, is_some, IfSome, MatchOption, true, length, sym, ◌∙◌, ap, ⊎_elim, ◌==◌, arith}
 use Rattle.std.proofs.lemmas.List.{get_or-set_same}
 use Rattle.cc_lists.specs.Members.{Among, has}
 use Rattle.cc_lists.specs.Walks.{first_of}
@@ -8,11 +8,10 @@ use Rattle.cc_lists.proofs.Walks.{first-among}
 use Rattle.cc_names.specs.declared.number.NKey.{NKey}
 use Rattle.cc_names.specs.declared.kind.Walked.{Walked}
 use Rattle.cc_names.specs.declared.kind.Walked.TheVariants.{Out, Waiting, Given}
-use Rattle.cc_walk.specs.Walks.{Walk, no_walk, members, with_member, without_first, gone_on, with_state, states_of, entered, is_walked}
-use Rattle.cc_walk.proofs.Sets.{walked-member, member-came, member-given, states-with_member, states-gone_on, states-first, states-none, gone_on-none, fewer-members, first-none, no_members}
+use Rattle.cc_walk.specs.Walks.{Walk, no_walk, members, with_member, gone_on, with_state, states_of, entered, is_walked}
+use Rattle.cc_walk.proofs.Sets.{walked-member, member-came, member-given, states-with_member, states-gone_on, states-first, states-none, gone_on-none}
 use Rattle.cc_counted.specs.Counts.{number_at, state_of, with_state_of, unwalked, NoneWaits}
 use Rattle.cc_counted.specs.Lists.{Placed, Lists, cell_at, counts_of, states_below, IsPlaced}
-use Rattle.cc_counted.specs.Stored.{Stored, with_walk}
 use Rattle.cc_counted.proofs.Places.{number_at-cell}
 use Rattle.cc_counted.proofs.Changing.{cell-within}
 use Rattle.cc_counted.proofs.States.{states-length, states-set, states-shown}
@@ -86,21 +85,3 @@ module _ (l : Lists) (p : IsPlaced l) where
 -- No key is in it.
 pub counts-cleared : (l : Lists) → counts_of (record l { walk = no_walk }) ≡ unwalked (counts_of l)
 counts-cleared l = ap (λ walks. record (counts_of l) { walks = walks }) (States.states-none (length l.cells) (states_of l.walk))
-
--- THE WALK EMPTIED, one native after another: nothing but the walk changed
-pub dropped-more : (start s new : Stored) → s ≡ with_walk (λ w. s.lists.walk) start → new ≡ with_walk without_first s → new ≡ with_walk (λ w. new.lists.walk) start
-dropped-more start s new i e = e ∙ (ap (with_walk without_first) i ∙ ap (λ (v : Walk). with_walk (λ w. v) start) (sym (ap (λ (t : Stored). t.lists.walk) e)))
-
--- each time by one
-pub dropped-fewer : (s new : Stored) (o : Option NKey) → is_some o ≡ true → option_map (λ (k : NKey). k.0) o ≡ first_of (members s.lists.walk) → new ≡ with_walk without_first s →
-    length (members new.lists.walk) < length (members s.lists.walk)
-dropped-fewer s new None t f e = absurd (cc)
-dropped-fewer s new (Some key) t f e =
-    subst (λ (n : Stored). length (members n.lists.walk) < length (members s.lists.walk)) (sym e) (fewer-members s.lists.walk key.0 (sym f))
-
--- until none is left
-pub dropped-all : (start s new : Stored) (o : Option NKey) → is_some o ≡ false → option_map (λ (k : NKey). k.0) o ≡ first_of (members s.lists.walk) →
-    s ≡ with_walk (λ w. s.lists.walk) start → new ≡ with_walk without_first s → new ≡ with_walk (λ w. no_walk) start
-dropped-all start s new (Some key) t f i e = absurd (cc)
-dropped-all start s new None t f i e =
-    e ∙ (ap (with_walk without_first) i ∙ ap (λ (v : Walk). with_walk (λ w. v) start) (first-none s.lists.walk (sym f) ∙ no_members s.lists.walk (sym f)))

@@ -9,7 +9,7 @@ ghost use Rattle.cc_holders.specs.Known.{entry_at};
 ghost use Rattle.cc_purple.specs.Marks.{Marked, marked_as, first_key, holds_key, is_purple, key_after, with_mark, without_key};
 ghost use Rattle.cc_counted.specs.Lists.{Placed, new_placed, cell_at, count_placed, slots_placed, with_one_less, with_one_more, with_slot, with_flag, placed_unlinked, reflected_by};
 ghost use Rattle.cc_counted.specs.Stored.{Inserts, with_cell, with_queue, with_marks, without_cell, with_walk};
-ghost use Rattle.cc_walk.specs.Walks.{members, no_walk, with_member, without_member, without_first, gone_on};
+ghost use Rattle.cc_walk.specs.Walks.{members, no_walk, with_member, without_member, gone_on};
 ghost use Rattle.cc_counted.specs.Scripts.{IsNextPlaced, HasNonePlaced, is_script, recounted, refers_by_reflector};
 
 use crate::cell::Cell;
@@ -384,22 +384,11 @@ impl Natives {
         self.walk.leave(&mut self.nodes, key.0);
     }
 
-    /// Takes a native out of the walk, where one is in it.
-    fn walk_drop(&mut self) -> Option<NKey>
-        ensures first { option_map (λ k. k.0) result ≡ first_of (members self.old.lists.walk) }
-        ensures lists { self.new ≡ with_walk without_first self.old }
-    {
-        match self.walk.take_first(&mut self.nodes) {
-            Some(key) => Some(NKey(key)),
-            None => None,
-        }
-    }
-
     /// No native is in the walk.
     pub(crate) fn walk_clear(&mut self)
         ensures { self.new ≡ with_walk (λ w. no_walk) self.old }
     {
-        'members: while self.walk_drop().is_some() {}
+        self.walk.clear(&mut self.nodes);
     }
 
     /// Whether the native at a key is in the walk.

@@ -1,12 +1,9 @@
-use Rattle.std.proofs.Common.{sym}
-use Rattle.cc_counted.proofs.Walking.{dropped-more, dropped-fewer, dropped-all}
+use Rattle.cc_walk.specs.Walks.{no_walk}
+use Rattle.cc_counted.proofs.Threading.{stored-walk}
 use Rattle.cc_counted.proofs.natives.Natives.walk_clear.Goals as goal
 
-pub members-smaller : goal.members-smaller
-members-smaller c = dropped-fewer c.members.self c.walk_drop.new.self c.walk_drop.result (sym c.members-test.ensures) c.walk_drop.ensures.first c.walk_drop.ensures.lists
-
-pub members-preserved : goal.members-preserved
-members-preserved c = dropped-more c.args.self.now c.members.self c.walk_drop.new.self c.members.invariant c.walk_drop.ensures.lists
+pub invariant_of-self : goal.invariant_of-self
+invariant_of-self c = (stored-walk c.self.inside c.self.invariant _ c.self.view_is c.clear.new.store _ (λ w. no_walk) c.clear.ensures.rest c.clear.ensures.walk).1
 
 pub returns : goal.returns
-returns c = dropped-all c.args.self.now c.members.self c.walk_drop.new.self c.walk_drop.result (sym c.members-test.ensures) c.walk_drop.ensures.first c.members.invariant c.walk_drop.ensures.lists
+returns c = (stored-walk c.self.inside c.self.invariant _ c.self.view_is c.clear.new.store _ (λ w. no_walk) c.clear.ensures.rest c.clear.ensures.walk).0
