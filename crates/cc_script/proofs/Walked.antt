@@ -1,22 +1,18 @@
 -- A WALK OVER THE OBJECTS: what they show once a key stands otherwise in it, and what stays.
-use Rattle.std.proofs.Common.{◌≡◌, ℕ, true, List, map, Some, None, option_map, is_some, not, refl, sym, ◌∙◌, ap, subst, ⊎_elim, ◌==◌, ◌<◌, length}
+use Rattle.std.proofs.Common.{◌≡◌, ℕ, List, map, Some, None, option_map, refl, sym, ◌∙◌, ap, subst, ⊎_elim, ◌==◌}
 use Rattle.std.specs.Prelude.{slice_index_or}
 use Rattle.std.proofs.lemmas.Bool.{eq-eqb, ne_eqb}
 use Rattle.std.proofs.lemmas.Bool.Decides.{eqb_tells}
 use Rattle.std.proofs.lemmas.Simd.{map-map}
 use Rattle.cc_lists.specs.Members.{Among}
-use Rattle.cc_lists.specs.Walks.{first_of}
-use Rattle.cc_lists.proofs.Filtering.{length-filter-less}
 use Rattle.cc_lists.proofs.Held.{is_some-map, is_some-found}
 use Rattle.cc_lists.proofs.ListWrites.{changed_where-either, map-agree}
 use Rattle.cc_lists.proofs.Members.{Among-map_cases}
-use Rattle.cc_lists.proofs.Walks.{first-among}
 use Rattle.cc_names.specs.declared.kind.Walked.{Walked}
 use Rattle.cc_names.specs.declared.kind.Walked.TheVariants.{Out}
 use Rattle.cc_names.specs.declared.kind.Colour.TheVariants.{White}
 use Rattle.cc_chain.proofs.Chains.{chain-live}
-use Rattle.cc_walk.specs.Walks.{Walk, Walks, members, nowhere, without_first, without_member}
-use Rattle.cc_walk.proofs.Sets.{members-without}
+use Rattle.cc_walk.specs.Walks.{Walks, members, nowhere}
 use Rattle.cc_script.specs.declared.parts.ScriptParts.{ScriptParts}
 use Rattle.cc_script.specs.Objects.{Object, change_object, is_below, places_of, unwalked, with_walked}
 use Rattle.cc_script.specs.ColourOrder.{HasColourOrder}
@@ -83,14 +79,3 @@ member-cell p h key m =
     let live = chain-live (links_in of_walk p.cells.slots) p.walk.chain (members (walk_in p)) h.walk.chain key m in
     let z = is_some-found slot (sym (is_some-map (link_of of_walk) slot) ∙ live) in
     (z.0.placed, cell-read p.cells.slots key z.0 z.1)
-
--- there are fewer once the first has left
-pub fewer-left : (w : Walk) → is_some (first_of (members w)) ≡ true → length (members (without_first w)) < length (members w)
-fewer-left w some =
-    let f = is_some-found (first_of (members w)) some in
-    subst (λ (v : Walk). length (members v) < length (members w)) (sym (first f.0 f.1))
-    (subst (λ (ks : List ℕ). length ks < length (members w)) (sym (members-without f.0 w))
-    (length-filter-less (λ k. not (k == f.0)) (members w) f.0 (first-among (members w) f.0 f.1) (ap not (eq-eqb f.0 f.0 refl))))
-  where
-    first : (key : ℕ) → first_of (members w) ≡ Some key → without_first w ≡ without_member key w
-    first key e = rw (e, without_first) refl

@@ -245,7 +245,7 @@ impl ScriptParts {
         ensures shows { shows self.new ≡ unwalked (shows self.old) }
         ensures at_rest { IsAtRest self.new }
     {
-        while self.walk.take_first(&mut self.cells).is_some() {}
+        self.walk.clear(&mut self.cells);
     }
 
     /// The object at a key comes into the walk and waits, where it was not in it.
