@@ -100,6 +100,13 @@ impl Kept {
         }
     }
 
+    fn clear(&mut self)
+        requires { IsSomeChain (slice_get self.old.row.links.items) self.old.chain }
+        ensures { IsSomeChain (slice_get self.new.row.links.items) self.new.chain }
+    {
+        self.chain.clear(&mut self.row);
+    }
+
     fn next(&self, key: u32) -> Option<u32> {
         if self.has(key) {
             self.chain.next(&self.row, key)
@@ -124,19 +131,44 @@ fn fills(kept: &mut Kept) -> bool
 /// Whether one leaves from the middle, and one from the front.
 fn empties(kept: &mut Kept) -> bool
     requires { IsSomeChain (slice_get kept.old.row.links.items) kept.old.chain }
+    ensures { IsSomeChain (slice_get kept.new.row.links.items) kept.new.chain }
 {
     kept.unlink(1);
     let left = !kept.has(1) & (kept.next(4) == Some(5));
     left & (kept.pop() == Some(4)) & (kept.first() == Some(5))
 }
 
+/// Whether all leave at once.
+fn clears(kept: &mut Kept) -> bool
+    requires { IsSomeChain (slice_get kept.old.row.links.items) kept.old.chain }
+    ensures { IsSomeChain (slice_get kept.new.row.links.items) kept.new.chain }
+{
+    kept.push(2);
+    kept.clear();
+    let left = kept.has(5) | kept.has(2);
+    !left & kept.first().is_none()
+}
+
+/// Whether keys go into an emptied list as into a new one.
+fn refills(kept: &mut Kept) -> bool
+    requires { IsSomeChain (slice_get kept.old.row.links.items) kept.old.chain }
+{
+    kept.clear();
+    kept.push(2);
+    kept.push(4);
+    let first = (kept.first() == Some(2)) & (kept.next(2) == Some(4));
+    first & kept.next(4).is_none() & !kept.has(5)
+}
+
 #[test]
-fn keys_go_last_and_leave_from_any_place(rt: HostRuntime) {
+fn keys_go_last_and_leave_from_any_place_or_all_at_once(rt: HostRuntime) {
     let made = Kept::new(rt.alloc(), 6);
     assert!(rt; made.is_ok());
     if let Ok(mut kept) = made {
         let filled = fills(&mut kept);
         assert!(rt; filled & empties(&mut kept));
+        let cleared = clears(&mut kept);
+        assert!(rt; cleared & refills(&mut kept));
         assert_eq!(rt; kept.row.name, 7);
     }
 }

@@ -58,11 +58,11 @@ impl Kept {
         }
     }
 
-    fn take_first(&mut self) -> Option<u32>
+    fn clear(&mut self)
         requires { IsSomeWalk (slice_get self.old.row.links.items) self.old.walk }
         ensures { IsSomeWalk (slice_get self.new.row.links.items) self.new.walk }
     {
-        self.walk.take_first(&mut self.row)
+        self.walk.clear(&mut self.row);
     }
 
     fn holds(&self, key: u32) -> bool {
@@ -93,12 +93,26 @@ fn passes(kept: &mut Kept) -> bool
     left & (kept.give() == Some(5)) & kept.give().is_none()
 }
 
-/// Whether all that is left is taken out.
+/// Whether no member is left, given or waiting.
 fn empties(kept: &mut Kept) -> bool
     requires { IsSomeWalk (slice_get kept.old.row.links.items) kept.old.walk }
+    ensures { IsSomeWalk (slice_get kept.new.row.links.items) kept.new.walk }
 {
-    let both = (kept.take_first() == Some(4)) & (kept.take_first() == Some(5));
-    both & kept.take_first().is_none()
+    kept.add(3);
+    kept.clear();
+    let left = kept.holds(4) | kept.holds(5) | kept.holds(3);
+    !left & kept.give().is_none()
+}
+
+/// Whether keys come in again, and are given in their new order.
+fn refills(kept: &mut Kept) -> bool
+    requires { IsSomeWalk (slice_get kept.old.row.links.items) kept.old.walk }
+{
+    kept.clear();
+    kept.add(5);
+    kept.add(4);
+    let first = kept.give() == Some(5);
+    first & kept.holds(4) & !kept.holds(3) & (kept.give() == Some(4))
 }
 
 #[test]
@@ -109,5 +123,7 @@ fn each_member_is_given_once_unless_it_leaves(rt: HostRuntime) {
         let filled = fills(&mut kept);
         let passed = passes(&mut kept);
         assert!(rt; filled & passed & empties(&mut kept));
+        assert!(rt; refills(&mut kept));
+        assert_eq!(rt; kept.row.name, 7);
     }
 }
