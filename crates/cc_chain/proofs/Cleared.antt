@@ -32,7 +32,7 @@ left-link links next key n l = go l.keys (sym n ∙ l.first) l.linked
 pub left-linked : (links : Links) (next : Option ℕ) (key : ℕ) → next ≡ Some key → AreLeft links next → is_linked links key ≡ true
 left-linked links next key n l = ap is_some ((left-link links next key n l).2)
 
--- once the link of the first is taken away, the others are left
+-- once its link is taken away, the others are left
 pub one-taken : (links new : Links) (next after : Option ℕ) (key : ℕ) → next ≡ Some key → AreLeft links next →
     after ≡ option_and_then (λ (link : Link). link.after) (link_at links key) → new ≡ with_link links key None → AreLeft new after
 one-taken links new next after key n l f e =
@@ -59,7 +59,7 @@ passing-at : (n : ℕ) (p : ℕ → Bool) → passing (suc n) p ≡ cond (p n) 1
 unfolding passing
 passing-at n p = refl
 
--- where each that passes also passes another test, as many pass that at least
+-- there are no more where fewer pass
 passing-le : (n : ℕ) (p q : ℕ → Bool) → ((k : ℕ) → p k ≡ true → q k ≡ true) → passing n p ≤ passing n q
 unfolding passing
 passing-le zero p q h = omega arith
@@ -70,7 +70,7 @@ passing-le (suc n) p q h = go (passing-le n p q h) (p n) refl (q n) refl
     go ih true e false f = absurd (true≢false (sym (h n e) ∙ f))
     go ih false e b f = omega (arith, ih)
 
--- where one passes the other test alone, fewer pass the first
+-- and fewer where one that passed does not
 passing-less : (n key : ℕ) (p q : ℕ → Bool) → ((k : ℕ) → p k ≡ true → q k ≡ true) → key < n → p key ≡ false → q key ≡ true → passing n p < passing n q
 passing-less zero key p q h l off on = absurd (omega arith)
 passing-less (suc n) key p q h l off on = rw (passing-at n p, passing-at n q) (⊎_elim
@@ -83,7 +83,7 @@ passing-less (suc n) key p q h l off on = rw (passing-at n p, passing-at n q) (�
     go ih true e false f = absurd (true≢false (sym (h n e) ∙ f))
     go ih false e b f = omega (arith, ih)
 
--- fewer keys are in the list once the link of one is taken away
+-- so fewer keys are in the list once the link of one is taken away
 pub fewer-linked : (n key : ℕ) (links new : Links) → key < n → is_linked links key ≡ true → new ≡ with_link links key None →
     passing n (is_linked new) < passing n (is_linked links)
 fewer-linked n key links new l on e = passing-less n key (is_linked new) (is_linked links) (λ k. go k (key == k) refl) l (seen key ∙ rw (eq-eqb key key refl) refl) on
