@@ -60,3 +60,10 @@ pub mod Moving
 pub mod Lengthened
 pub mod Walking
 pub mod Unmarking
+pub mod Remarked
+pub mod Raised
+pub mod RaisedEach
+pub mod ScannedOne
+pub mod RemarkedHeaps
+pub mod BegunNew
+pub mod RootsInOrder

@@ -122,7 +122,7 @@ the_name-is objects key x e = rw (e, the_name_at) refl
 
 module _ (objects : List Object) (one_key : HasOneKey objects) (one_name : HasOneName objects) where
   -- a name has one key
-  same-key : (a b : ℕ) (x : Name) → name_at objects a ≡ Some x → name_at objects b ≡ Some x → a ≡ b
+  pub same-key : (a b : ℕ) (x : Name) → name_at objects a ≡ Some x → name_at objects b ≡ Some x → a ≡ b
   same-key a b x e d = let f = name_at-found objects a x e in sym f.2 ∙ key-named objects one_name b x d f.0 f.1 f.3
 
   module _ (es : List KeyedEntry) (there : AreEntriesThere objects es) (keys : List ℕ) (names : List Name) (roots : AreNamesOf objects keys names) where

@@ -1,4 +1,4 @@
--- SCRIPT OBJECTS WRITTEN: each keeps its key, its name, its kind, its native, its delegate and its new mark. An exposure and a slot written, by names.
+-- SCRIPT OBJECTS WRITTEN: each keeps its key, its name, its kind, its native and its delegate. An exposure and a slot written, by names.
 use Rattle.cc_lists.proofs.Held.{find-renamed}
 use Rattle.std.proofs.Common.{arith, ◌≡◌, ℕ, ◌≤◌, Bool, true, false, List, [], ◌∷◌, map, Option, Some, refl, sym, ◌∙◌, ap, subst, ⊎_elim, ◌==◌, if◌then◌else◌}
 use Rattle.std.specs.Prelude.{IsTrue}
@@ -31,11 +31,11 @@ pub record KeepsObjects (f : Object → Object) : Type 0 where
   pub kind : (o : Object) → (f o).kind ≡ o.kind
   pub native : (o : Object) → (f o).native ≡ o.native
   pub delegate : (o : Object) → (f o).delegate ≡ o.delegate
-  pub new_mark : (o : Object) → (f o).new_mark ≡ o.new_mark
 
--- a marking in slices is left as it is
-pub marks-written : (v w : Keyed) (f : Object → Object) → KeepsObjects f → w.marking ≡ v.marking → w.scripts ≡ map f v.scripts → KeepsMarks v w
-marks-written v w f keeps lists scripts = marks-mapped v w f lists scripts keeps.key keeps.new_mark
+-- where it keeps its new mark too, a marking in slices is left as it is
+pub marks-written : (v w : Keyed) (f : Object → Object) → KeepsObjects f → ((o : Object) → (f o).new_mark ≡ o.new_mark) →
+    w.marking ≡ v.marking → w.scripts ≡ map f v.scripts → KeepsMarks v w
+marks-written v w f keeps marks lists scripts = marks-mapped v w f lists scripts keeps.key marks
 
 module _ (f : Object → Object) (keeps : KeepsObjects f) (objects : List Object) where
   -- keys have the names that they had
@@ -98,6 +98,10 @@ KeepsObjects-where t g keeps = grind (arith, changed_where-either)
 pub KeepsObjects-raised : (keys : List ℕ) → KeepsObjects (raise_among keys)
 KeepsObjects-raised keys = grind (arith, KeepsObjects-where, raised-black)
 
+-- its new mark stays
+pub new_mark-raised : (keys : List ℕ) (o : Object) → (raise_among keys o).new_mark ≡ o.new_mark
+new_mark-raised keys o = raise-either (λ p. p.new_mark ≡ o.new_mark) keys o refl refl
+
 pub whole-raised : (keys : List ℕ) (objects : List Object) → AreWhole objects → AreWhole (map (raise_among keys) objects)
 whole-raised keys objects whole = whole-written (raise_among keys) (KeepsObjects-raised keys) objects
     (λ o q m. raise-either (λ p. Among (Some q) (places_of p) → IsTrue (is_there objects q)) keys o (whole o q m) (whole o q m))
@@ -143,7 +147,11 @@ write-either : (P : Object → Type 0) (key i : ℕ) (item : Option ℕ) (o : Ob
 write-either P key i item o written same = changed_where-either P (λ p. p.key == key) (with_slot i item) o (λ e. written) same
 
 pub KeepsObjects-slot : (key i : ℕ) (item : Option ℕ) → KeepsObjects (write_slot key i item)
-KeepsObjects-slot key i item = KeepsObjects-where (λ o. o.key == key) (with_slot i item) (record { key = λ o. refl; name = λ o. refl; kind = λ o. refl; native = λ o. refl; delegate = λ o. refl; new_mark = λ o. refl })
+KeepsObjects-slot key i item = KeepsObjects-where (λ o. o.key == key) (with_slot i item) (record { key = λ o. refl; name = λ o. refl; kind = λ o. refl; native = λ o. refl; delegate = λ o. refl })
+
+-- its new mark stays
+pub new_mark-slot : (key i : ℕ) (item : Option ℕ) (o : Object) → (write_slot key i item o).new_mark ≡ o.new_mark
+new_mark-slot key i item o = write-either (λ p. p.new_mark ≡ o.new_mark) key i item o refl refl
 
 -- what comes into a slot is there
 pub whole-slot : (objects : List Object) (key i : ℕ) (item : Option ℕ) → AreWhole objects → ((q : ℕ) → item ≡ Some q → IsTrue (is_there objects q)) →

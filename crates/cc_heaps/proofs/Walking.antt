@@ -92,7 +92,7 @@ abbrev pub stated : (Object → Walked) → Object → Object
 stated states o = with_walked (states o) o
 
 KeepsObjects-stated : (states : Object → Walked) → KeepsObjects (stated states)
-KeepsObjects-stated states = record { key = λ o. refl; name = λ o. refl; kind = λ o. refl; native = λ o. refl; delegate = λ o. refl; new_mark = λ o. refl }
+KeepsObjects-stated states = record { key = λ o. refl; name = λ o. refl; kind = λ o. refl; native = λ o. refl; delegate = λ o. refl }
 
 -- one that stands otherwise
 abbrev pub at_key : ℕ → (Walked → Walked) → Object → Walked
@@ -154,7 +154,7 @@ module _ (p : Inside) (l : IsLinked p) (states : Object → Walked) where
 
   pub kept-stated : KeepsAll (keyed_of p) (keyed_of restated_parts)
   kept-stated = KeepsAll-alike (keyed_of p) (keyed_of restated_parts) heap-stated keys-stated order-stated
-      (marks-written (keyed_of p) (keyed_of restated_parts) (stated states) keeps refl refl)
+      (marks-written (keyed_of p) (keyed_of restated_parts) (stated states) keeps (λ o. refl) refl refl)
 
 -- WHAT A CALL COMES TO
 

@@ -58,3 +58,7 @@ KeepsHeaps given gained = KeepsParts given gained always never never never
 -- the heaps stay in order, with their keys and a marking that goes on in slices, and get other colours
 abbrev pub KeepsObjects : Keyed → Keyed → Type 0
 KeepsObjects = KeepsParts [] [] never never never always
+
+-- every part but the marks: a marking that goes on in slices is begun, gone on with or dropped
+abbrev pub KeepsAllButMarks : Keyed → Keyed → Type 0
+KeepsAllButMarks = KeepsParts [] [] always always always never

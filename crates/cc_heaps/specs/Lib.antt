@@ -13,6 +13,7 @@ pub mod Roots
 pub mod Sweeping
 pub mod Standing
 pub mod Marks
+pub mod NewMarks
 pub mod Rooting
 pub mod Keeping
 pub mod Leaving

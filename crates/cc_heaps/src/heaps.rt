@@ -27,6 +27,7 @@ mod holders;
 mod holding;
 mod making;
 mod marking;
+mod new_marks;
 mod places;
 mod reflectors;
 mod rooting;

@@ -15,6 +15,10 @@
 //! A walk over both heaps has a set of objects, each of which it gives once (`walk_clear`, `walk_add`, `walk_next`, `walked`). It
 //! takes no memory, and says nothing of the heaps; an object that leaves its heap leaves the walk.
 //!
+//! A marking of script objects that goes on in slices has marks of its own, beside the colours, and two lists of objects to scan
+//! (`begin_new`, `scan_new`, `drop_new`). It takes no memory: each object that is made gets its places on these lists. Only
+//! these calls read and write the new marks so far; a change that keeps them keeps the lists right too (`marks_stay_listed`).
+//!
 //! What the laws make of these equations is said beside them, for callers who know no law. For which graph the heaps
 //! stand afterwards is one clause (`stands`). What a change keeps is another (`kept`), one promise of seven parts
 //! (`KeepsParts`): objects keep their keys, the heaps stay in order, no count is greater than all references there can
@@ -33,10 +37,12 @@
 #![tactic(auto)]
 
 mod heaps;
+mod laws;
 mod make_stop;
 mod rooted;
 mod to_scan;
 
 pub use heaps::Heaps;
+pub use laws::marks_stay_listed;
 pub use make_stop::MakeStop;
 pub use rooted::Rooted;

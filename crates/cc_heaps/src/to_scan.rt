@@ -1,9 +1,11 @@
 //! What a marking in slices has yet to scan.
-ghost use Rattle.std.specs.Prelude.{◌≡◌, ◌≤◌, vec_capacity, None, OnOk};
-ghost use Rattle.cc_heaps.specs.ToScan.{HasMoreRoom, HasRoom};
+ghost use Rattle.std.specs.Prelude.{◌≡◌, ◌≤◌, [], None, Some, IfSome, MatchOption, OnOk, option_map};
+ghost use Rattle.std.specs.VecDeque.{deque_capacity};
+ghost use Rattle.cc_heaps.specs.ToScan.{HasMoreRoom, HasRoom, HasRoomFor, HasSameRoom, listed_last, nothing_listed, with_black, with_gray};
 
-use cc_names::{NoMemory, SKey};
+use cc_names::{Colour, NoMemory, SKey};
 use std::alloc::Global;
+use std::collections::VecDeque;
 use std::marker::Model;
 
 /// The objects that a marking in slices has yet to scan, where one goes on: those whose neighbours are to be black, and those
@@ -12,24 +14,24 @@ use std::marker::Model;
 #[derive(Drop)]
 pub(crate) struct ToScan {
     goes_on: bool,
-    black: Vec<SKey>,
-    gray: Vec<SKey>,
+    black: VecDeque<SKey>,
+    gray: VecDeque<SKey>,
 }
 
 impl Model for ToScan {
-    ghost use Rattle.std.specs.Prelude.{vec_capacity};
+    ghost use Rattle.std.specs.VecDeque.{deque_capacity};
     ghost use Rattle.cc_heaps.specs.ToScan.{Lists, marking_of};
 
     ghost Value = { Lists };
 
-    ghost view = { λ t. record { marking = marking_of t.goes_on t.black.items t.gray.items; black_room = vec_capacity t.black; gray_room = vec_capacity t.gray } };
+    ghost view = { λ t. record { marking = marking_of t.goes_on t.black.items t.gray.items; black_room = deque_capacity t.black; gray_room = deque_capacity t.gray } };
 }
 
 // Room for so many in a list.
-fn reach(list: &mut Vec<SKey>, count: usize) -> Result<(), NoMemory>
+fn reach(list: &mut VecDeque<SKey>, count: usize) -> Result<(), NoMemory>
     ensures items { list.new.items ≡ list.old.items }
-    ensures room { OnOk result (count ≤ vec_capacity list.new) }
-    ensures more { vec_capacity list.old ≤ vec_capacity list.new }
+    ensures room { OnOk result (count ≤ deque_capacity list.new) }
+    ensures more { deque_capacity list.old ≤ deque_capacity list.new }
 {
     list.reserve(count.saturating_sub(list.len()))?;
     Ok(())
@@ -42,8 +44,8 @@ impl ToScan {
     {
         ToScan {
             goes_on: false,
-            black: Vec::new(alloc),
-            gray: Vec::new(alloc),
+            black: VecDeque::new(alloc),
+            gray: VecDeque::new(alloc),
         }
     }
 
@@ -55,5 +57,56 @@ impl ToScan {
     {
         reach(&mut self.black, count)?;
         reach(&mut self.gray, count)
+    }
+
+    /// A marking goes on from here, and nothing is to be scanned yet.
+    pub(crate) fn begin(&mut self)
+        ensures marking { self.new.marking ≡ Some nothing_listed }
+        ensures room { HasSameRoom self.old self.new }
+    {
+        self.black.clear();
+        self.gray.clear();
+        self.goes_on = true;
+    }
+
+    /// No marking goes on any more.
+    pub(crate) fn discard(&mut self)
+        ensures marking { self.new.marking ≡ None }
+        ensures room { HasSameRoom self.old self.new }
+    {
+        self.black.clear();
+        self.gray.clear();
+        self.goes_on = false;
+    }
+
+    /// An object goes last on the list of its new mark, for which there is room.
+    pub(crate) fn push(&mut self, key: SKey, mark: Colour)
+        requires room { HasRoomFor mark self.old }
+        ensures marking { self.new.marking ≡ option_map (listed_last mark key.0) self.old.marking }
+        ensures room { HasSameRoom self.old self.new }
+    {
+        match mark {
+            Colour::White => {}
+            Colour::Gray => self.gray.push_back_reserved(key),
+            Colour::Black => self.black.push_back_reserved(key),
+        }
+    }
+
+    /// Takes the first of those whose neighbours are to be black; none exactly where there is none.
+    pub(crate) fn pop_black(&mut self) -> Option<SKey>
+        ensures first { MatchOption result ((self.new.marking ≡ self.old.marking) × IfSome self.old.marking (λ t. t.black ≡ []))
+            (λ key. self.old.marking ≡ option_map (with_black key.0) self.new.marking) }
+        ensures room { HasSameRoom self.old self.new }
+    {
+        self.black.pop_front()
+    }
+
+    /// Takes the first of those whose neighbours are to be gray; none exactly where there is none.
+    pub(crate) fn pop_gray(&mut self) -> Option<SKey>
+        ensures first { MatchOption result ((self.new.marking ≡ self.old.marking) × IfSome self.old.marking (λ t. t.gray ≡ []))
+            (λ key. self.old.marking ≡ option_map (with_gray key.0) self.new.marking) }
+        ensures room { HasSameRoom self.old self.new }
+    {
+        self.gray.pop_front()
     }
 }

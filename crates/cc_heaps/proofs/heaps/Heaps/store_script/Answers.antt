@@ -7,7 +7,7 @@ use Rattle.cc_script.specs.Objects.{name_at}
 use Rattle.cc_heaps.specs.Changes.{script_name}
 use Rattle.cc_heaps.specs.Fields.{keyed_of}
 use Rattle.cc_heaps.proofs.ScriptsChanged.{with_objects}
-use Rattle.cc_heaps.proofs.ScriptWrites.{KeepsObjects-slot, marks-written, write_slot}
+use Rattle.cc_heaps.proofs.ScriptWrites.{KeepsObjects-slot, new_mark-slot, marks-written, write_slot}
 use Rattle.cc_heaps.proofs.FewCounts.{few-owned}
 use Rattle.cc_heaps.proofs.Following.{Keeps, object_slot-keeps}
 use Rattle.cc_heaps.proofs.StandingAfter.{script_slot-stands}
@@ -35,7 +35,7 @@ returns-clause-kept c = record {
   suspected = subst (KeepsSuspected c.args.self.now.heap) (sym (returns-clause-heap c)) ((keeps c).suspected);
   marks = (let item = option_map (λ (k : SKey). k.0) c.args.content in
       rw (← c.self.view_is) (marks-written (keyed_of c.self.inside) (keyed_of (with_objects c.self.inside c.set_slot.new.self c.self.inside.scripts_made))
-      (write_slot c.args.key.0 c.args.i item) (KeepsObjects-slot c.args.key.0 c.args.i item) refl c.set_slot.ensures));
+      (write_slot c.args.key.0 c.args.i item) (KeepsObjects-slot c.args.key.0 c.args.i item) (new_mark-slot c.args.key.0 c.args.i item) refl c.set_slot.ensures));
 }
 
 pub returns-clause-stands : goal.returns-clause-stands
