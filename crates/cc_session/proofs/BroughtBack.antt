@@ -18,7 +18,7 @@ use Rattle.cc_host.specs.Queues.{told_all}
 use Rattle.cc_host.proofs.Composing.{stands-then}
 use Rattle.cc_host.proofs.KeptDoomed.{doomed-then}
 use Rattle.cc_session.specs.declared.root.Root.{Root}
-use Rattle.cc_session.specs.Roots.{TellsInThree, TellsInTwo, brought_back, leaf_in, meanwhile, rooted_from, slot_for, some_tables, with_tables}
+use Rattle.cc_session.specs.Roots.{TellsInThree, brought_back, brought_for_nothing, leaf_in, meanwhile, rooted_from, slot_for, some_tables, with_tables}
 use Rattle.cc_session.specs.Sessions.{State}
 
 -- the slot of a root, in a table that is made for it
@@ -40,11 +40,26 @@ pub rooted-doomed : (a b c : Hosted) (r : ℕ) (x : Name) (result : Result Root 
 rooted-doomed a b c r x (Ok root) reached d tried e = doomed-then a.heaps.heap b.heaps.heap c.heaps.heap (d.doomed reached) (e.doomed tt)
 rooted-doomed a b c r x (Err s) reached d tried e = doomed-then a.heaps.heap b.heaps.heap c.heaps.heap (tried.2.doomed tt) (e.doomed tt)
 
+-- Where no root is made, some tables are, and the register is emptied.
+pub rooted-tried : (a b c : Hosted) (r : ℕ) → ((n : ℕ) × (index : ℕ) × Does Always (some_tables n index) a b) →
+    Does Always (λ g. graph.set_register g (N r) None) b c →
+    (n : ℕ) × (index : ℕ) × StandsAfter a.heaps.heap c.heaps.heap (λ g. graph.set_register (some_tables n index g) (N r) None)
+rooted-tried a b c r t e =
+    (t.0, t.1, stands-then a.heaps.heap b.heaps.heap c.heaps.heap (some_tables t.0 t.1) (λ g. graph.set_register g (N r) None) (t.2.stands tt) (e.stands tt))
+
 -- A REGISTER TAKES THE NATIVE that is brought back, and hands it to a root.
 pub brought-stands : (a b c : Hosted) (index : ℕ) (x : Name) → StandsAfter a.heaps.heap b.heaps.heap (λ g. graph.set_register g (N meanwhile) (Some x)) →
     StandsAfter b.heaps.heap c.heaps.heap (rooted_from meanwhile index x) → StandsAfter a.heaps.heap c.heaps.heap (brought_back index x)
 unfolding brought_back
 brought-stands a b c index x s t = stands-then a.heaps.heap b.heaps.heap c.heaps.heap (λ g. graph.set_register g (N meanwhile) (Some x)) (rooted_from meanwhile index x) s t
+
+-- A register takes it, and no root is made.
+pub brought-tried : (a b c : Hosted) (x : Option Name) → StandsAfter a.heaps.heap b.heaps.heap (λ g. graph.set_register g (N meanwhile) x) →
+    ((n : ℕ) × (index : ℕ) × StandsAfter b.heaps.heap c.heaps.heap (λ g. graph.set_register (some_tables n index g) (N meanwhile) None)) →
+    (n : ℕ) × (index : ℕ) × StandsAfter a.heaps.heap c.heaps.heap (brought_for_nothing n index x)
+unfolding brought_for_nothing
+brought-tried a b c x s t =
+    (t.0, t.1, stands-then a.heaps.heap b.heaps.heap c.heaps.heap (λ g. graph.set_register g (N meanwhile) x) (λ g. graph.set_register (some_tables t.0 t.1 g) (N meanwhile) None) s t.2)
 
 -- What is doomed and is not that native stays so.
 pub brought-doomed : (a b c : Hosted) (x : Option Name) → KeepsDoomedBut x a.heaps.heap b.heaps.heap → KeepsDoomed b.heaps.heap c.heaps.heap → KeepsDoomedBut x a.heaps.heap c.heaps.heap

@@ -103,6 +103,10 @@ rooted_from r index x g = graph.set_register (graph.set_slot (with_tables index 
 unfoldable pub brought_back : ℕ → Name → Graph → Graph
 brought_back index x g = rooted_from meanwhile index x (graph.set_register g (N meanwhile) (Some x))
 
+-- BROUGHT BACK FOR NOTHING: the register held it, some tables for a root were made, but no root; and the register is empty
+unfoldable pub brought_for_nothing : ℕ → ℕ → Option Name → Graph → Graph
+brought_for_nothing n index x g = graph.set_register (some_tables n index (graph.set_register g (N meanwhile) x)) (N meanwhile) None
+
 -- WHAT LEFT IS TOLD, by two steps, each what left by it
 abbrev pub TellsInTwo : State → State → Type 0
 TellsInTwo old new = (s : State) × TellsFreed old.host s.host (told_all old.told) (told_all s.told) × TellsFreed s.host new.host (told_all s.told) (told_all new.told)

@@ -1,5 +1,5 @@
 //! Weak references: made, followed, and asked whether their natives have ended.
-ghost use Rattle.std.specs.Prelude.{◌≡◌, ◌⊎◌, ◌+◌, ◌<◌, ◌↔◌, ℕ, false, Some, None, Err, IfOk, IfSome, OnErr, OnOk};
+ghost use Rattle.std.specs.Prelude.{◌≡◌, ◌⊎◌, ◌+◌, ◌<◌, ◌↔◌, ℕ, false, Some, None, Ok, Err, IfOk, IfSome, OnErr, OnOk};
 ghost use Rattle.cc_names.specs.declared.register.Reg.TheVariants.{N as n_register};
 ghost use Rattle.cc_model.specs.Graph as graph;
 ghost use Rattle.cc_model.specs.Heap.{register};
@@ -11,7 +11,7 @@ ghost use Rattle.cc_host.specs.Queues.{told_all};
 ghost use Rattle.cc_host.specs.Referring.{HasEnded, has_ended, referent, stop_upgrade, stop_weak, upgraded};
 ghost use Rattle.cc_host.specs.Stops.{IsStoppedBy, stop_native};
 ghost use Rattle.cc_session.specs.Sessions.{Aside, Enters, serial_at};
-ghost use Rattle.cc_session.specs.Roots.{TellsInThree, TellsInTwo, brought_back, rooted_from};
+ghost use Rattle.cc_session.specs.Roots.{TellsInThree, TellsInTwo, brought_back, brought_for_nothing, meanwhile, rooted_from, some_tables};
 ghost use Rattle.cc_session.specs.Refusals.{IsRootRefused, stop_upgraded};
 
 use crate::root::Root;
@@ -105,8 +105,13 @@ impl Session {
         ensures entered { IfOk result (λ root. Enters self.old.books self.new.books root.index (Some root.serial)) }
         ensures serial { IfOk result (λ root. (root.serial ≡ self.old.books.last + 1) × (self.new.books.last ≡ root.serial)) }
         ensures mark { IfOk result (λ root. root.mark ≡ self.old.host.mark) }
+        ensures tried { OnErr result ((n index : ℕ) ×
+            StandsAfter self.old.host.heaps.heap self.new.host.heaps.heap (λ g. graph.set_register (some_tables n index g) (n_register r) None)) }
         ensures none { OnErr result ((index : ℕ) → serial_at self.new.books index ≡ serial_at self.old.books index) }
         ensures given { self.new.books.given ≡ self.old.books.given }
+        ensures steps { self.new.steps ≡ self.old.steps }
+        ensures running { self.new.host.running ≡ self.old.host.running }
+        ensures own_mark { self.new.host.mark ≡ self.old.host.mark }
         ensures tells { TellsInTwo self.old self.new }
     {
         let root = self.root(x);
@@ -120,16 +125,27 @@ impl Session {
     /// A root without number holds the native of a weak reference until it is released, and the native comes back whole, with all
     /// that it holds; none exactly where it has ended.
     ///
-    /// `Full` and `NoMemory` as in `root`: then no root is in use that was not.
+    /// Where it has ended nothing is wanted, neither memory nor a place. `Full` and `NoMemory` as in `root`: then no root is in use that
+    /// was not, and the graph is as it was, but for such tables (`tried`) and for the register that is for what is brought back.
     pub fn upgrade(&mut self, w: Weak) -> Result<Option<Root>, Stop>
         ensures stops { IsRootRefused (stop_weak self.old.host w) result }
         ensures none { IfOk result (λ x. x ≡ None ↔ HasEnded self.old.host w) }
+        ensures ended { HasEnded self.old.host w → stop_weak self.old.host w ≡ None → result ≡ Ok None }
         ensures stands { IfOk result (λ x. IfSome x (λ root. StandsAfter self.old.host.heaps.heap self.new.host.heaps.heap (brought_back root.index (referent w).name))) }
         ensures doomed { KeepsDoomedBut (named (upgraded self.old.host w)) self.old.host.heaps.heap self.new.host.heaps.heap }
         ensures entered { IfOk result (λ x. IfSome x (λ root. Enters self.old.books self.new.books root.index (Some root.serial))) }
         ensures serial { IfOk result (λ x. IfSome x (λ root. (root.serial ≡ self.old.books.last + 1) × (self.new.books.last ≡ root.serial))) }
         ensures mark { IfOk result (λ x. IfSome x (λ root. root.mark ≡ self.old.host.mark)) }
+        ensures emptied { IfOk result (λ x. x ≡ None →
+            StandsAfter self.old.host.heaps.heap self.new.host.heaps.heap (λ g. graph.set_register g (n_register meanwhile) None)) }
+        ensures tried { OnErr result ((self.new ≡ self.old) ⊎ ((n index : ℕ) ×
+            StandsAfter self.old.host.heaps.heap self.new.host.heaps.heap (brought_for_nothing n index (named (upgraded self.old.host w))))) }
+        ensures aside { IfOk result (λ x. x ≡ None → Aside self.old self.new) }
+        ensures no_root { OnErr result ((index : ℕ) → serial_at self.new.books index ≡ serial_at self.old.books index) }
         ensures given { self.new.books.given ≡ self.old.books.given }
+        ensures steps { self.new.steps ≡ self.old.steps }
+        ensures running { self.new.host.running ≡ self.old.host.running }
+        ensures own_mark { self.new.host.mark ≡ self.old.host.mark }
         ensures tells { TellsInThree self.old self.new }
     {
         let Some(x) = self.bring(MEANWHILE, w)? else {

@@ -218,6 +218,7 @@ impl Session {
         ensures tried { OnErr result ((n index : ℕ) × Does Always (some_tables n index) self.old.host self.new.host) }
         ensures none { OnErr result ((index : ℕ) → serial_at self.new.books index ≡ serial_at self.old.books index) }
         ensures given { self.new.books.given ≡ self.old.books.given }
+        ensures steps { self.new.steps ≡ self.old.steps }
         ensures tells { TellsFreed self.old.host self.new.host (told_all self.old.told) (told_all self.new.told) }
     {
         self.host.slots(x)?;
@@ -241,6 +242,7 @@ impl Session {
         ensures does { OnOk result (Does Always (λ g. graph.set_slot g (leaf self.old.host root.index) (slot_for root.index) None) self.old.host self.new.host) }
         ensures left { OnOk result (Enters self.old.books self.new.books root.index None) }
         ensures last { self.new.books.last ≡ self.old.books.last }
+        ensures steps { self.new.steps ≡ self.old.steps }
         ensures same { OnErr result (self.new ≡ self.old) }
         ensures tells { TellsFreed self.old.host self.new.host (told_all self.old.told) (told_all self.new.told) }
     {

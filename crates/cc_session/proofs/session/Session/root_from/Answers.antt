@@ -1,7 +1,7 @@
-use Rattle.std.proofs.Common.{Some, sym, subst}
+use Rattle.std.proofs.Common.{Some, subst}
 use Rattle.cc_heaps.specs.Standing.{IsReached}
 use Rattle.cc_host.proofs.Rooted.{root-reached}
-use Rattle.cc_session.proofs.BroughtBack.{rooted-doomed, rooted-stands}
+use Rattle.cc_session.proofs.BroughtBack.{rooted-doomed, rooted-stands, rooted-tried}
 use Rattle.cc_session.proofs.session.Session.root_from.Goals as goal
 use Rattle.cc_session.proofs.session.Session.root_from.Goals.{After-empty}
 
@@ -23,3 +23,7 @@ pub returns-in-Err-clause-doomed : goal.returns-in-Err-clause-doomed
 returns-in-Err-clause-doomed c =
     rooted-doomed c.args.self.now.host c.root-root.new.self.host c.empty.new.self.host c.args.r c.args.x.name c.root-root.result
     (reached (goal.at.returns-in-Err-clause-doomed c).After-empty) c.root-root.ensures.does c.root-root.ensures.tried c.empty.ensures.does
+
+pub returns-in-Err-clause-tried : goal.returns-in-Err-clause-tried
+returns-in-Err-clause-tried c =
+    rooted-tried c.args.self.now.host c.root-root.new.self.host c.empty.new.self.host c.args.r c.in-Err.ensures.tried c.empty.ensures.does

@@ -1,9 +1,9 @@
-use Rattle.std.proofs.Common.{Some, ap, sym, ◌∙◌, subst}
-use Rattle.cc_heaps.specs.Standing.{StandsAfter}
+use Rattle.std.proofs.Common.{inr, ap, sym, ◌∙◌}
 use Rattle.cc_host.specs.Hosted.{named}
-use Rattle.cc_host.specs.Referring.{referent, upgraded}
+use Rattle.cc_host.specs.Referring.{upgraded}
 use Rattle.cc_session.specs.Sessions.{State}
-use Rattle.cc_session.proofs.BroughtBack.{brought-bring, brought-doomed, brought-none, told-once}
+use Rattle.cc_session.proofs.BroughtBack.{brought-bring, brought-doomed, brought-none, brought-tried, told-once}
+use Rattle.cc_session.proofs.Tables.{on_err_of}
 use Rattle.cc_session.proofs.session.Session.upgrade.Goals as goal
 
 pub returns-in_err-x-clause-doomed : goal.returns-in_err-x-clause-doomed
@@ -27,3 +27,9 @@ pub returns-clause-stands : goal.returns-clause-stands
 returns-clause-stands c =
     brought-bring c.args.self.now.host c.bring.new.self.host c.root_from.new.self.host c.args.w c.in-Some.x c.in_ok-root_from.field-0.index
     (sym c.in_ok-x.ensures.exactly ∙ c.in-Some.is) c.in_ok-x.ensures.does c.in_ok-root_from.ensures.stands
+
+pub returns-in_err-root_from-clause-tried : goal.returns-in_err-root_from-clause-tried
+returns-in_err-root_from-clause-tried c =
+    on_err_of c.from_residual-in_err-root_from.result
+    (inr (brought-tried c.args.self.now.host c.bring.new.self.host c.root_from.new.self.host (named (upgraded c.args.self.now.host c.args.w))
+    c.in_ok-x.ensures.does.stands c.in_err-root_from.ensures.tried))
