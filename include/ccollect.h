@@ -47,8 +47,9 @@
  * of the objects in the order in which they are handed in CC_FOREIGN, CC_GONE, CC_KIND of each; CC_INDEX of slots; CC_FULL. Where
  * memory is wanted CC_NO_MEMORY may come in place of any of these but CC_CLOSED and CC_INDEX of a numbered root. Unless it is
  * CC_OK nothing was changed and no out-parameter written; but of cc_slice, cc_collect and cc_settle CC_NO_MEMORY means that a
- * collection was given up, and nothing is lost; and cc_wrap, cc_set_entry, cc_new_proxy, cc_hold and cc_upgrade leave every object as it is
- * then, but may have made a suspect, shown an object to script, or made a table. */
+ * collection was given up, and nothing is lost; CC_NONE of cc_upgrade_into means that its root was emptied; and cc_wrap,
+ * cc_set_entry, cc_new_proxy, cc_hold and cc_upgrade leave every object as it is then, but may have made a suspect, shown an object
+ * to script, or made a table. */
 #ifndef CCOLLECT_H
 #define CCOLLECT_H
 #include <stdint.h>
@@ -111,8 +112,9 @@ uint32_t cc_release(cc_collector *, const cc_root *);
 uint32_t cc_held(cc_collector *, const cc_root *, cc_object *held);
 
 /* Weak references to natives. cc_upgrade makes a root, which *root is then, and *native is what it holds; cc_upgrade_into takes
- * numbered root r, and no memory. CC_NONE where the native was told as unlinked or freed: *native is not written then, no root is
- * made, and numbered root r is emptied. *ended is 1 exactly then. cc_upgrade is refused as cc_hold is. */
+ * numbered root r, and no memory. CC_NONE where the native was told as unlinked or freed, unless CC_CLOSED, CC_INDEX or CC_FOREIGN
+ * applies: *native is not written then, no root is made, and numbered root r is emptied; cc_upgrade wants no memory then. *ended is
+ * 1 exactly then. Else cc_upgrade is refused as cc_hold is. */
 uint32_t cc_weak_of(cc_collector *, const cc_object *native, cc_weak *);
 uint32_t cc_upgrade(cc_collector *, const cc_weak *, cc_root *root, cc_object *native);
 uint32_t cc_upgrade_into(cc_collector *, uint16_t r, const cc_weak *, cc_object *native);

@@ -76,3 +76,7 @@ both a x b y e f = ap (λ z. pair_of z b) e ∙ ap (pair_of x) f
 -- what a session was, of which an open collector's box was taken
 pub taken : (now v s : State) (o : Option State) → now ≡ v → Some v ≡ o → o ≡ Some s → now ≡ s
 taken now v s o e f g = cc
+
+-- what a session became, which an open collector got
+pub given_back : (now t : State) (o : Option State) → o ≡ Some now → o ≡ Some t → now ≡ t
+given_back now t o e f = cc

@@ -1,5 +1,5 @@
 //! Objects made. Each stands in a numbered root from then on.
-ghost use Rattle.std.specs.Prelude.{◌≡◌, ◌≢◌, ◌+◌, Some};
+ghost use Rattle.std.specs.Prelude.{◌≡◌, ◌≢◌, ◌+◌, Some, None};
 ghost use Rattle.cc_names.specs.Names.{native, object};
 ghost use Rattle.cc_names.specs.declared.register.Reg.TheVariants.{N as n_register, S as s_register};
 ghost use Rattle.cc_model.specs.declared.command.Command.TheVariants as command;
@@ -7,7 +7,7 @@ ghost use Rattle.cc_model.specs.Graph as graph;
 ghost use Rattle.cc_model.specs.Heap.{register};
 ghost use Rattle.cc_host.specs.Calls.{Always, Does, TellsFreed, Tries};
 ghost use Rattle.cc_host.specs.Hosted.{IsRooted, IsThere};
-ghost use Rattle.cc_host.specs.Stops.{are_natives_made, are_scripts_made};
+ghost use Rattle.cc_host.specs.Stops.{are_natives_made, are_scripts_made, stop_at};
 ghost use Rattle.cc_host.specs.Queues.{told_all};
 ghost use Rattle.cc_session.specs.Sessions.{Aside, Quiet};
 ghost use Rattle.cc_session.specs.Refusals.{stop_native_made, stop_proxy_made, stop_script_made};
@@ -34,6 +34,7 @@ pub extern "C" fn cc_new_native(
     ensures stops { Open c.old.handle.session c.new.handle.session (λ s t. IsStatusOrWants (stop_native_made r slots (are_natives_made s.host)) result) }
     ensures does { result ≡ 0 → Open c.old.handle.session c.new.handle.session (λ s t. Does Always (λ g. graph.step g (command.Native r slots)) s.host t.host) }
     ensures there { result ≡ 0 → Open c.old.handle.session c.new.handle.session (λ s t. IsThere t.host (to_object made.new)) }
+    ensures taken { result ≡ 0 → Open c.old.handle.session c.new.handle.session (λ s t. stop_at t.host (to_object made.new) ≡ None) }
     ensures name { result ≡ 0 → Open c.old.handle.session c.new.handle.session (λ s t. (to_object made.new).name ≡ native (s.host.heaps.heap.natives_made + 1)) }
     ensures held { result ≡ 0 → Open c.old.handle.session c.new.handle.session (λ s t. register t.host.heaps.heap (n_register r) ≡ Some (to_object made.new).name) }
     ensures left { result ≢ 0 → made.new ≡ made.old }

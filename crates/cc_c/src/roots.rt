@@ -133,6 +133,7 @@ pub extern "C" fn cc_hold(alloc: Global, c: &mut Collector, x: &CObject, root: &
     ensures tried { result ≢ 0 → Open c.old.handle.session c.new.handle.session (λ s t. (n index : ℕ) × Does Always (some_tables n index) s.host t.host) }
     ensures none { result ≢ 0 → Open c.old.handle.session c.new.handle.session (λ s t. (index : ℕ) → serial_at t.books index ≡ serial_at s.books index) }
     ensures given { Open c.old.handle.session c.new.handle.session (λ s t. t.books.given ≡ s.books.given) }
+    ensures steps { Open c.old.handle.session c.new.handle.session (λ s t. t.steps ≡ s.steps) }
     ensures left { result ≢ 0 → root.new ≡ root.old }
     ensures tells { Open c.old.handle.session c.new.handle.session (λ s t. TellsFreed s.host t.host (told_all s.told) (told_all t.told)) }
 {
@@ -159,6 +160,7 @@ pub extern "C" fn cc_release(alloc: Global, c: &mut Collector, root: &CRoot) -> 
     ensures does { result ≡ 0 → Open c.old.handle.session c.new.handle.session (λ s t. Does Always (λ g. graph.set_slot g (leaf s.host root.now.index) (slot_for root.now.index) None) s.host t.host) }
     ensures given_up { result ≡ 0 → Open c.old.handle.session c.new.handle.session (λ s t. Enters s.books t.books root.now.index None) }
     ensures last { Open c.old.handle.session c.new.handle.session (λ s t. t.books.last ≡ s.books.last) }
+    ensures steps { Open c.old.handle.session c.new.handle.session (λ s t. t.steps ≡ s.steps) }
     ensures same { result ≢ 0 → c.new.handle.session ≡ c.old.handle.session }
     ensures tells { Open c.old.handle.session c.new.handle.session (λ s t. TellsFreed s.host t.host (told_all s.told) (told_all t.told)) }
 {
