@@ -206,9 +206,13 @@ module _ (entries : List KeyedEntry) (old : List Object) (whole : AreWhole old) 
         ap (λ g. in_steps (has ◌==◌ black o.key) g o.colour) (same_marks o.key)
         ∙ steps-colour (has ◌==◌ black o.key) (has ◌==◌ marked o.key) o.colour (black-has o m) (gray-has o m)
 
-    pub marked_on-colours : marked_on entries old ≡ marked_from blacks grays entries old
+    marked_on-colours : marked_on entries old ≡ marked_from blacks grays entries old
     marked_on-colours =
         ap (raised_among gray Gray) (raised_among-painted black Black old)
         ∙ (raised_among-painted gray Gray (painted (raised_to black Black) old)
         ∙ (painted-twice (raised_to black Black) (raised_to gray Gray) old
         ∙ map-agree _ _ old (λ o m. ap (λ c. with_colour c o) (each o m))))
+
+    -- THE COLOURS of both steps
+    pub colours-by_steps : (next end : List Object) → next ≡ now → end ≡ carried_on Gray entries next → end ≡ marked_from blacks grays entries old
+    colours-by_steps next end blacked grayed = grayed ∙ (ap (carried_on Gray entries) blacked ∙ marked_on-colours)

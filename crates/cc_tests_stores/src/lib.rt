@@ -12,6 +12,8 @@ mod listed;
 #[cfg(test)]
 mod made;
 #[cfg(test)]
+mod marking;
+#[cfg(test)]
 mod names;
 #[cfg(test)]
 mod pages;

@@ -1,15 +1,13 @@
-use Rattle.std.proofs.Common.{◌≡◌, ◌∙◌, ap, subst, sym, arith}
+use Rattle.std.proofs.Common.{subst, sym, arith}
 use Rattle.cc_names.specs.declared.kind.Colour.TheVariants.{Gray, Black}
 use Rattle.cc_script.specs.ColourOrder.{HasColourOrder}
 use Rattle.cc_script.specs.Objects.{AreWhole}
-use Rattle.cc_marking.specs.Carrying.{carried_on, marked_on}
-use Rattle.cc_marking.specs.Levels.{has_at_least, keys_at_least}
+use Rattle.cc_marking.specs.Levels.{has_at_least}
 use Rattle.cc_marking.specs.Marking.{AreEntriesThere}
-use Rattle.cc_marking.proofs.CarriedOn.{blacked-entries, blacked-order, blacked-whole, marked_on-colours}
+use Rattle.cc_marking.proofs.CarriedOn.{blacked-entries, blacked-order, blacked-whole, colours-by_steps}
 use Rattle.cc_marking.proofs.LeastColours.{marked-least}
 use Rattle.cc_marking.proofs.Looked.{sides-all, sides-less}
 use Rattle.cc_marking.proofs.Steps.{black-gray}
-use Rattle.cc_marking.proofs.marking.mark_on.Given as given
 use Rattle.cc_marking.proofs.marking.mark_on.Goals as goal
 
 pub carry_on-requires-2-clause-entries : goal.carry_on-requires-2-clause-entries
@@ -21,16 +19,11 @@ carry_on-requires-2-clause-whole g c = subst AreWhole (sym c.carry_on.ensures.ca
 pub carry_on-requires-2-clause-ordered : goal.carry_on-requires-2-clause-ordered
 carry_on-requires-2-clause-ordered g c = subst HasColourOrder (sym c.carry_on.ensures.carried) (blacked-order c.args.weak.now c.args.scripts.now c.requires.whole c.requires.entries c.requires.ordered)
 
-colours : (g : given.Over) (c : goal.After-carry_on-2 g) → c.carry_on-2.new.scripts ≡ marked_on c.args.weak.now c.args.scripts.now
-colours g c = c.carry_on-2.ensures.carried ∙ ap (carried_on Gray c.args.weak.now) c.carry_on.ensures.carried
-
 pub returns-clause-colours : goal.returns-clause-colours
-returns-clause-colours g c =
-    colours g c ∙ marked_on-colours c.args.weak.now c.args.scripts.now c.requires.whole c.requires.entries c.carry_on.ensures.own
+returns-clause-colours g c = search (colours-by_steps)
 
 pub returns-clause-least : goal.returns-clause-least
-returns-clause-least g c = marked-least c.args.scripts.now c.args.weak.now (keys_at_least Black c.args.scripts.now) (keys_at_least Gray c.args.scripts.now) c.carry_on-2.new.scripts
-    (returns-clause-colours g c)
+returns-clause-least g c = search (marked-least, returns-clause-colours)
 
 -- each entry twice, and a step for each side at most
 pub returns-clause-steps : goal.returns-clause-steps
