@@ -93,6 +93,7 @@ impl Heaps {
     pub fn new(alloc: Global, limits: Limits) -> Result<Heaps, NoMemory>
         ensures empty { IfOk result (λ h. h.heap ≡ empty_heap limits) }
         ensures order { IfOk result (λ h. IsInOrder [] h) }
+        ensures idle { IfOk result (λ h. h.marking ≡ None) }
         ensures stands { IfOk result (λ h. StandsFor h.heap (graph.empty_graph limits)) }
         ensures colours { IfOk result (λ h. HasColourInvariant (view h.heap)) }
         ensures suspected { IfOk result (λ h. IsSuspected (view h.heap) []) }

@@ -151,6 +151,7 @@ impl Heaps {
         requires order { (owned : List ℕ) × IsInOrder owned self.old }
         requires idle { self.old.marking ≡ None }
         ensures marks { marks_of self.new ≡ Some (begun_marks self.old.heap) }
+        ensures runs { IsSome self.new.marking }
         ensures listed { AreListed self.new }
         ensures heap { self.new.heap ≡ self.old.heap }
         ensures rest { self.new ≡ record self.old { scripts = self.new.scripts; marking = self.new.marking } }
@@ -185,6 +186,7 @@ impl Heaps {
         requires runs { IsSome self.old.marking }
         ensures some { IfSome (marks_of self.old) (λ m. result ≡ not (is_scanned m)) }
         ensures marks { marks_of self.new ≡ option_map (scanned self.old.heap) (marks_of self.old) }
+        ensures runs { IsSome self.new.marking }
         ensures listed { AreListed self.new }
         ensures heap { self.new.heap ≡ self.old.heap }
         ensures rest { self.new ≡ record self.old { scripts = self.new.scripts; marking = self.new.marking } }
