@@ -1,9 +1,11 @@
-//! Tests of roots beyond the registers that commands can name, of a walk over both heaps, of suspects forgotten, and of weak
-//! registers beside them: no clause says that memory is there.
+//! Tests of roots beyond the registers that commands can name, of a walk over both heaps, of a marking in slices, of suspects
+//! forgotten, and of weak registers beside them: no clause says that memory is there.
 #![tactic(auto)]
 
 #[cfg(test)]
 mod forgetting;
+#[cfg(test)]
+mod new_marks;
 #[cfg(test)]
 mod roots;
 #[cfg(test)]
