@@ -67,3 +67,5 @@ pub mod ScannedOne
 pub mod RemarkedHeaps
 pub mod BegunNew
 pub mod RootsInOrder
+pub mod EndedMarks
+pub mod Ended

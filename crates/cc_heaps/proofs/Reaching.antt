@@ -99,7 +99,7 @@ named-found objects x y m =
     at o None z i e same = absurd (cc)
     at o (Some q) z i e same = (q, i, e ∙ ap (λ u. Some u) same)
 
-found-named : (objects : List Object) (o : Object) (q : ℕ) (y : Name) → Among o objects → Among (Some q) (places_of o) → name_at objects q ≡ Some y →
+pub found-named : (objects : List Object) (o : Object) (q : ℕ) (y : Name) → Among o objects → Among (Some q) (places_of o) → name_at objects q ≡ Some y →
     Among (o.name, y) (named_edges objects)
 found-named objects o q y m i e = Among-flat_map script_slot_edges (named_object objects o) (o.name, y) (named_objects objects)
     (Among-map (named_object objects) o objects m)

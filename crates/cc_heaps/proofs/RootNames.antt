@@ -5,6 +5,7 @@ use Rattle.std.specs.Prelude.{IsTrue}
 use Rattle.std.specs.List.{flat_map}
 use Rattle.std.specs.Option.{option_to_list}
 use Rattle.cc_lists.specs.Members.{Among, has}
+use Rattle.cc_lists.specs.Least.{closure, system}
 use Rattle.cc_lists.proofs.Members.{Among-map, Among-map_cases, Among-left, Among-right, Among-append, Among-filter, Among-filtered, Among-passes, Among-flat_map, Among-flat_map_cases, has-among, has-there}
 use Rattle.cc_lists.proofs.Closure.{closure-derived}
 use Rattle.cc_names.specs.declared.name.Name.{Name}
@@ -12,21 +13,21 @@ use Rattle.cc_names.specs.declared.number.SKey.{SKey}
 use Rattle.cc_names.specs.Names.{object, same_name, is_script}
 use Rattle.cc_names.proofs.NameTests.{same_name-exact}
 use Rattle.cc_model.specs.Slots.{contents, from_to}
-use Rattle.cc_model.specs.Entries.{Entry, Joint, joints}
+use Rattle.cc_model.specs.Entries.{Entry, Joint, joints, rules_of}
 use Rattle.cc_model.proofs.Joints.{Gives, its_value, its_key, derived-by_joints, joint-cases}
 use Rattle.cc_model.proofs.Places.{script_place-cases}
 use Rattle.cc_model.specs.Heap.{HeapNative}
 use Rattle.cc_model.specs.Places.{places_of_native, script_places_of}
 use Rattle.cc_model.specs.View.{script_slot_edges}
 use Rattle.cc_model.specs.Exposure.{slots_of_scripts}
-use Rattle.cc_model.specs.Colours.{black_rules, black_names, scripts_held_by, scripts_held, marked_names}
+use Rattle.cc_model.specs.Colours.{black_names, scripts_held_by, scripts_held, marked_names}
 use Rattle.cc_model.specs.WellFormed.{HasMembers, IsWellFormed, script_names}
 use Rattle.cc_lists.proofs.Numbers.{number-exact}
 use Rattle.cc_counted.specs.Counts.{Counts}
 use Rattle.cc_counted.specs.Owning.{HasKeys}
 use Rattle.cc_script.specs.Objects.{Object, is_there, name_at}
 use Rattle.cc_script.proofs.Reaching.{held-among, among-held}
-use Rattle.cc_marking.specs.Marking.{black_keys, marked_keys}
+use Rattle.cc_marking.specs.Marking.{black_keys, keys_marked, marked_keys}
 use Rattle.cc_heaps.specs.Keyed.{IsInOrder}
 use Rattle.cc_heaps.specs.Named.{named_native, script_named}
 use Rattle.cc_heaps.specs.Fields.{heap_of, keyed_of, IsLinked}
@@ -92,7 +93,7 @@ module _ (p : Inside) (l : IsLinked p) where
   script-named k x e = grind (arith, name_at-found)
 
 -- two lots of keys, and of names
-AreNamesOf-append : (objects : List Object) (ks js : List ℕ) (xs ys : List Name) → AreNamesOf objects ks xs → AreNamesOf objects js ys → AreNamesOf objects (ks ++ js) (xs ++ ys)
+pub AreNamesOf-append : (objects : List Object) (ks js : List ℕ) (xs ys : List Name) → AreNamesOf objects ks xs → AreNamesOf objects js ys → AreNamesOf objects (ks ++ js) (xs ++ ys)
 AreNamesOf-append objects ks js xs ys a b = record {
   named = λ k x m e. ⊎_elim (λ i. Among-left x xs ys (a.named k x i e)) (λ i. Among-right x xs ys (b.named k x i e)) (Among-append k ks js m);
   keyed = λ x m. ⊎_elim
@@ -107,6 +108,10 @@ black_roots p = keys_in_registers p.script_registers.items
 
 abbrev pub gray_roots : Inside → List ℕ
 gray_roots p = keys_held p.counted p.counted.natives
+
+-- what some names lead to, over slots and entries
+abbrev pub names_led : Inside → List Name → List Name
+names_led p names = closure same_name (system names (slots_of_scripts (heap_of p)) (rules_of (joints (heap_of p).entries)))
 
 module _ {owned : List ℕ} (p : Inside) (l : IsLinked p) (o : IsInOrder owned (keyed_of p)) where
   -- WHAT NATIVES HOLD
@@ -133,33 +138,44 @@ module _ {owned : List ℕ} (p : Inside) (l : IsLinked p) (o : IsInOrder owned (
       targets_of : HeapNative → List Name
       targets_of n = contents (places_of_native n)
 
-  -- what is black has a name of a script object that is there
-  black-there : (x : Name) → Among x (black_names (heap_of p)) → (q : Object) × Among q p.scripts × (q.name ≡ x)
-  black-there x m =
+  -- what names of script objects lead to is that of one that is there
+  led-there : (names : List Name) → ((x : Name) → Among x names → Among x (script_names (heap_of p))) → (x : Name) → Among x (names_led p names) →
+      (q : Object) × Among q p.scripts × (q.name ≡ x)
+  led-there names roots x m =
       let w : IsWellFormed (heap_of p) = o.sound.well_formed in
       let there : Among x (script_names (heap_of p)) =
-      derived-by_joints (contents (heap_of p).script_registers) (slots_of_scripts (heap_of p)) (joints (heap_of p).entries) (λ y. Among y (script_names (heap_of p)))
-      w.script_registers
+      derived-by_joints names (slots_of_scripts (heap_of p)) (joints (heap_of p).entries) (λ y. Among y (script_names (heap_of p)))
+      roots
       (λ y z i before.
       let f = Among-flat_map_cases script_slot_edges (heap_of p).scripts (y, z) i in
       let g = Among-map_cases (from_to f.0.name) (contents (script_places_of f.0)) (y, z) f.2 in
       ⊎_elim (w.script_contents f.0 z f.1) (w.delegate_there f.0 z f.1)
       (script_place-cases f.0 z (subst (λ u. Among u (contents (script_places_of f.0))) (ap (λ (e : Name × Name). e.1) g.2) g.1)))
       (λ j i a b. let f = joint-cases (heap_of p).entries j i in given (w.entries f.0 f.1) j f.2) x
-      (closure-derived same_name same_name-exact (black_rules (heap_of p)) x m) in
+      (closure-derived same_name same_name-exact (system names (slots_of_scripts (heap_of p)) (rules_of (joints (heap_of p).entries))) x m) in
       named-object (heap_of p) p.scripts refl x there
     where
       given : {e : Entry} → HasMembers (heap_of p) e → (j : Joint) → Gives e j → Among j.value (script_names (heap_of p))
       given m _ its_value = m.value
       given m _ (its_key d q) = m.key
 
+  -- WHAT A MARK COMES TO from keys that have these names
+  module _ (keys : List ℕ) (names : List Name) (are : AreNamesOf p.scripts keys names) where
+    -- is the same by keys and by names,
+    pub led-alike : (q : Object) → Among q p.scripts → has ◌==◌ (keys_marked p.scripts p.weak keys) q.key ≡ has same_name (names_led p names) q.name
+    led-alike = marked-alike_from p.scripts l.one_key l.one_name p.weak o.entries_there keys names are
+
+    -- so these are its names.
+    pub led-names : ((x : Name) → Among x names → Among x (script_names (heap_of p))) → AreNamesOf p.scripts (keys_marked p.scripts p.weak keys) (names_led p names)
+    led-names roots = grind (arith, name_at-found, has-there, number-exact, has-among, same_name-exact, led-alike, led-there, name_at-own)
+
   -- an object is black by its key where it is black by its name
   pub black-alike : (q : Object) → Among q p.scripts → has ◌==◌ (black_keys p.scripts p.weak (black_roots p)) q.key ≡ has same_name (black_names (heap_of p)) q.name
-  black-alike = marked-alike_from p.scripts l.one_key l.one_name p.weak o.entries_there (black_roots p) (contents (heap_of p).script_registers) (register-names p l)
+  black-alike = led-alike (black_roots p) (contents (heap_of p).script_registers) (register-names p l)
 
   -- WHAT IS BLACK
   black_names-names : AreNamesOf p.scripts (black_keys p.scripts p.weak (black_roots p)) (black_names (heap_of p))
-  black_names-names = grind (arith, name_at-found, has-there, number-exact, has-among, same_name-exact, black-alike, black-there, name_at-own)
+  black_names-names = led-names (black_roots p) (contents (heap_of p).script_registers) (register-names p l) o.sound.well_formed.script_registers
 
   -- and it is marked by its key where it is marked by its name
   pub marked-alike : (q : Object) → Among q p.scripts →

@@ -2,15 +2,14 @@
 -- graph is well made; the changed heaps follow it, and are well formed, so they stand for it.
 use Rattle.cc_heaps.proofs.ObjectsKept.{there-named}
 use Rattle.cc_heaps.proofs.Reflecting.{held-made, shape-made}
-use Rattle.std.proofs.Common.{arith, ◌≡◌, ℕ, ◌<◌, ◌≤◌, true, List, length, get_or, Option, Some, None, refl, sym, ap, subst, inl, ⊎_elim}
+use Rattle.std.proofs.Common.{arith, ◌≡◌, ℕ, ◌<◌, ◌≤◌, List, length, get_or, Option, Some, None, refl, sym, ap, subst, inl, ⊎_elim}
 use Rattle.std.specs.Prelude.{IsTrue}
-use Rattle.std.proofs.lemmas.Bool.{false≢true, lt-leb}
+use Rattle.std.proofs.lemmas.Bool.{lt-leb}
 use Rattle.cc_names.specs.declared.name.Name.{Name}
-use Rattle.cc_names.specs.declared.name.Name.TheVariants as name
 use Rattle.cc_names.specs.declared.number.NKey.{NKey}
 use Rattle.cc_names.specs.declared.number.SKey.{SKey}
 use Rattle.cc_names.specs.declared.register.Reg.TheVariants.{N, S}
-use Rattle.cc_names.specs.Names.{native, is_native}
+use Rattle.cc_names.specs.Names.{native}
 use Rattle.cc_names.specs.Sizes.{most_slots}
 use Rattle.cc_model.specs.declared.command.Command.{Command}
 use Rattle.cc_model.specs.declared.command.Command.TheVariants.{Native, Script, WeakMap}
@@ -29,7 +28,7 @@ use Rattle.cc_model.specs.Effects.{done_in, effects, hold_native, hold_script, m
 use Rattle.cc_model.specs.WellFormed.{IsWellFormed, native_names, script_names}
 use Rattle.cc_model.specs.StandsFor.{StandsFor}
 use Rattle.cc_laws_heap.specs.Sound.{IsSound}
-use Rattle.cc_laws_heap.proofs.Face.{Follows, Follows-hold, Follows-left, Follows-slot, HasBehind, IsGivenNative, IsIn, IsWellMade-change_native, IsWellMade-native_register, KeepsNative-slot, Leaves-let_go, Leaves-take_up, Made, MadeNative, MadeScript, MayBeDone, MayBeDoneTo, OfSome, OfSome-then, Reached-given, done-stands, follows-stands, hold-stands, hold-well, in-reached, make_proxy-sound, proxy-follows, proxy-well, script-behind, stands-follows, stands-reached, usable-given}
+use Rattle.cc_laws_heap.proofs.Face.{Follows, Follows-left, Follows-slot, HasBehind, IsGivenNative, IsIn, IsWellMade-change_native, KeepsNative-slot, Leaves-let_go, Leaves-take_up, Made, MadeScript, MayBeDone, MayBeDoneTo, OfSome, OfSome-then, Reached-given, done-stands, follows-stands, hold-stands, hold-well, in-reached, make_proxy-sound, proxy-follows, proxy-well, script-behind, stands-follows, stands-reached, usable-given}
 use Rattle.cc_laws_snapshot.proofs.Face.{native-name_of}
 use Rattle.cc_counted.specs.declared.held.Held.{Held}
 use Rattle.cc_script.specs.Objects.{is_there, name_at}

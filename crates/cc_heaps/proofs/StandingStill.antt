@@ -7,7 +7,7 @@ use Rattle.cc_names.specs.declared.number.NKey.{NKey}
 use Rattle.cc_names.specs.Names.{native}
 use Rattle.cc_model.specs.Given.{Given}
 use Rattle.cc_model.specs.Heap.{Heap, Buffered, buffered_as}
-use Rattle.cc_model.specs.View.{view, ReachedIn}
+use Rattle.cc_model.specs.View.{view}
 use Rattle.cc_model.specs.Cascade.{add_ref, cascade}
 use Rattle.cc_model.specs.End.{unlink}
 use Rattle.cc_model.specs.Exposure.{exposed}
@@ -17,7 +17,7 @@ use Rattle.cc_model.specs.StandsFor.{shape_at}
 use Rattle.cc_laws_heap.specs.Sound.{IsSound}
 use Rattle.cc_laws_heap.specs.Apart.{AreApart}
 use Rattle.cc_laws_heap.specs.Freeing.{SameBeside}
-use Rattle.cc_laws_heap.proofs.Face.{AreColoured-from_view, Follows-left, HasColourInvariant-from, HoldsTheSame-add_ref, Leaves, Leaves-exposed, add_ref-sound, add_ref-stands, cascade-frees, cascade-sound, cascade-stands, exposed-sound, follows-stands, reached-in, stands-follows, unlink-keeps, unlink-stands}
+use Rattle.cc_laws_heap.proofs.Face.{AreColoured-from_view, Follows-left, HasColourInvariant-from, HoldsTheSame-add_ref, Leaves, Leaves-exposed, add_ref-sound, add_ref-stands, cascade-frees, cascade-sound, cascade-stands, exposed-sound, follows-stands, stands-follows, unlink-keeps, unlink-stands}
 use Rattle.cc_heaps.specs.Keyed.{Keyed, IsInOrder, changed_to, number_at, the_number}
 use Rattle.cc_heaps.specs.Standing.{StillStands}
 use Rattle.cc_heaps.proofs.Calls.{number-there}

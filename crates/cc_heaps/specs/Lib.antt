@@ -14,6 +14,7 @@ pub mod Sweeping
 pub mod Standing
 pub mod Marks
 pub mod NewMarks
+pub mod Ending
 pub mod Rooting
 pub mod Keeping
 pub mod Leaving

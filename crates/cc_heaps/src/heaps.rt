@@ -22,6 +22,7 @@ ghost use Rattle.cc_heaps.specs.Keeping.{KeepsAll, KeepsAllIfReached, KeepsHeaps
 ghost use Rattle.cc_heaps.specs.Leaving.{TellsWhatIsFreed};
 
 mod census;
+mod ending;
 mod entries;
 mod holders;
 mod holding;
