@@ -4,7 +4,7 @@ ghost use Rattle.cc_heaps.specs.Keyed.{IsInOrder};
 
 use cc_heaps::Heaps;
 use cc_model::Notebook;
-use cc_names::{Limits, NKey, NativeNo};
+use cc_names::{Limits, NKey, NativeNo, NoMemory};
 use cc_weakrefs::WeakRegs;
 use std::alloc::Global;
 
@@ -36,9 +36,17 @@ fn natives_are_found(heaps: &mut Heaps, weak: &mut WeakRegs, out: &mut Notebook)
     }
 }
 
+// Weak registers. Where memory is refused there are none, and the next call makes them.
+fn registers_at_last(alloc: Global) -> Option<WeakRegs> {
+    match WeakRegs::new(alloc) {
+        Ok(weak) => Some(weak),
+        Err(NoMemory) => WeakRegs::new(alloc).ok(),
+    }
+}
+
 fn registers_find(alloc: Global) -> bool {
     let mut out = Notebook::new(alloc);
-    let Ok(mut weak) = WeakRegs::new(alloc) else {
+    let Some(mut weak) = registers_at_last(alloc) else {
         return false;
     };
     match Heaps::new(alloc, Limits::new(2, 1, 0)) {
