@@ -1,9 +1,9 @@
 /* Each allocation refused in turn.
  *
- * A program makes objects, wraps, holds, sets entries and collects. It is run again and again, with its first allocation
- * refused, then its second, and so on; then the same with two and with five in a row. Whatever is refused: what the roots reach
- * is as it was, and the program asks again and goes on. At the end it settles. Nothing may be left, each object was told as
- * freed once, and all memory was given back.
+ * A program makes objects, wraps, holds, refers weakly, sets entries and collects. It is run again and again, with its first
+ * allocation refused, then its second, and so on; then the same with two and with five in a row. Whatever is refused: what the
+ * roots reach is as it was, and the program asks again and goes on. At the end it settles. Nothing may be left, each object was
+ * told as freed once, and all memory was given back.
  *
  *   refused [WAYS]: with 1 in a row alone where WAYS is 1, with 1 and 2 where it is 2, else with all three.
  *
@@ -58,6 +58,7 @@ struct program {
     cc_collector c;
     cc_object native[ELEMENTS], reflector[ELEMENTS], listener[ELEMENTS], note[ELEMENTS], proxy[ELEMENTS], map;
     cc_root held[ELEMENTS];
+    cc_weak weak[ELEMENTS];
     bool is_held[ELEMENTS];
     unsigned freed_natives[MADE + ROUNDS + 8], freed_scripts[PLAIN_MADE + 1];
     unsigned natives_made, scripts_made, reflectors_freed;
@@ -189,6 +190,7 @@ static void make_element(struct program *m, uint16_t i) {
     ASK(m, cc_set_data(&m->c, &m->native[i], 1000u + m->native[i].number));
     ASK(m, cc_hold(&m->c, &m->native[i], &m->held[i]));
     m->is_held[i] = true;
+    TRY(cc_weak_of(&m->c, &m->native[i], &m->weak[i]));
     ASK(m, cc_wrap(&m->c, &m->native[i], &m->reflector[i]));
     ASK(m, cc_set_script_root(&m->c, 0, &m->reflector[i]));
     ASK(m, cc_new_plain(&m->c, 1, 2, &m->listener[i]));
@@ -227,6 +229,18 @@ static void go_through_slices(struct program *m) {
     HOLDS(over == 1);
 }
 
+/* The weak references of a round answer that their natives have ended, and no memory is asked for. */
+static void follow_none(struct program *m) {
+    const long before = asked;
+    cc_object found;
+    cc_root root;
+    for (uint16_t i = 0; i < ELEMENTS; i++) {
+        WANT(cc_upgrade(&m->c, &m->weak[i], &root, &found), CC_NONE);
+        WANT(cc_upgrade_into(&m->c, 1, &m->weak[i], &found), CC_NONE);
+    }
+    HOLDS(asked == before);
+}
+
 /* One round: six elements, of which each holds the one before; half of them are let go, then the rest. */
 static void go_round(struct program *m) {
     uint32_t over;
@@ -255,6 +269,7 @@ static void go_round(struct program *m) {
     }
     COLLECT(m, cc_gc(&m->c));
     COLLECT(m, cc_settle(&m->c));
+    follow_none(m);
 }
 
 static void check_end(struct program *m) {
@@ -294,9 +309,24 @@ static void close_collector(struct program *m) {
     exit(1);
 }
 
+/* A native is brought back into the first root without number, for which tables are made. */
+static void bring_back(struct program *m) {
+    cc_object kept, found;
+    cc_weak weak;
+    cc_root root;
+    ASK(m, cc_new_native(&m->c, 0, 2, &kept));
+    ASK(m, cc_store(&m->c, &kept, 0, &kept));
+    TRY(cc_weak_of(&m->c, &kept, &weak));
+    ASK(m, cc_set_native_root(&m->c, 0, &nothing));
+    ASK(m, cc_upgrade(&m->c, &weak, &root, &found));
+    TRY(cc_held(&m->c, &root, &found));
+    HOLDS(found.kind == CC_NATIVE && found.number == kept.number);
+}
+
 /* A collector is closed with all that it has, while a collection runs. */
 static void close_in_the_middle(struct program *m) {
     uint32_t over, running;
+    bring_back(m);
     ASK(m, cc_new_map(&m->c, 2, &m->map));
     for (uint16_t i = 0; i < ELEMENTS; i++) make_element(m, i);
     ASK(m, cc_release(&m->c, &m->held[0]));
