@@ -8,7 +8,9 @@ use Rattle.cc_names.specs.Names.{same_name}
 use Rattle.cc_model.specs.Colours as names
 use Rattle.cc_model.specs.Marking.{NewMarks, blacks_by_mark, marks_by_mark, without_all}
 use Rattle.cc_model.specs.WellFormed.{script_names}
-use Rattle.cc_laws_heap.proofs.Face.{IsSound-coloured, colour_of, option_map-found, without_all-cases}
+use Rattle.cc_laws_heap.proofs.Face.{colour_of, option_map-found}
+use Rattle.cc_laws_heap.proofs.MarkingKeeps.{IsSound-coloured}
+use Rattle.cc_laws_heap.proofs.Raising.{without_all-cases}
 use Rattle.cc_script.specs.ColourOrder.{HasColourOrder}
 use Rattle.cc_script.specs.NewMarks.{exchanged}
 use Rattle.cc_script.specs.Objects.{Object, AreWhole, colour_by, name_at, with_colour}

@@ -17,7 +17,8 @@ use Rattle.cc_model.specs.View.{script_slot_edges}
 use Rattle.cc_model.specs.Exposure.{slots_of_scripts}
 use Rattle.cc_model.specs.WellFormed.{script_names}
 use Rattle.cc_laws_heap.specs.UnderMarking.{IsScannedSoFar}
-use Rattle.cc_laws_heap.proofs.Face.{is_some-found, without_all-cases, without_all-in}
+use Rattle.cc_laws_heap.proofs.Face.{is_some-found}
+use Rattle.cc_laws_heap.proofs.Raising.{without_all-cases, without_all-in}
 use Rattle.cc_script.specs.ColourOrder.{HasColourOrder}
 use Rattle.cc_script.specs.NewMarks.{exchanged}
 use Rattle.cc_script.specs.Objects.{Object, AreWhole, colour_at, is_below, object_at, places_of}

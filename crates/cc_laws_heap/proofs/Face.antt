@@ -45,8 +45,7 @@ pub use Rattle.cc_laws_heap.proofs.MarkedKept.{AreMarksClosed-colours, IsBlackCl
 pub use Rattle.cc_laws_heap.proofs.MarksClosed.{stays-delegate, stays-native_slot, stays-place, stays-value}
 pub use Rattle.cc_laws_heap.proofs.MarkedWellFormed.{is_spared, is_spared_entry}
 pub use Rattle.cc_laws_heap.proofs.Marking.{HasColours-marked, as_marked, colour_of}
-pub use Rattle.cc_laws_heap.proofs.MarkingEnded.{AreMarksClosed-ended, IsBlackClosed-ended}
-pub use Rattle.cc_laws_heap.proofs.MarkingKeeps.{IsSound-coloured, IsSound-marked, round-frees, round-sound, script_names-marked}
+pub use Rattle.cc_laws_heap.proofs.MarkingKeeps.{IsSound-marked, round-frees, round-sound, script_names-marked}
 pub use Rattle.cc_laws_heap.proofs.MayBeDone.{MayBeDone, may_be_done}
 pub use Rattle.cc_laws_heap.proofs.MayBeDoneTo.{MayBeDoneTo}
 pub use Rattle.cc_laws_heap.proofs.Moving.{slot-there, taken_out-length, taken_out-names, taken_out-sound, taken_out-there, touched-natives, touched-registers}
@@ -56,14 +55,13 @@ pub use Rattle.cc_laws_heap.proofs.Natives.{HasDistinctNumbers-change, IsRising-
 pub use Rattle.cc_laws_heap.proofs.NativesKeepScripts.{SameScripts, SameScripts-coloured, SameScripts-take_up, let_go-scripts}
 pub use Rattle.cc_laws_heap.proofs.Numbered.{change_numbered, numbered-change, numbered-change_other, numbered-next, numbered-push, numbered-push_old}
 pub use Rattle.cc_laws_heap.proofs.Owning.{IsCounted-add_ref, IsIn, add_ref-sound, let_go-sound, take_up-sound, times-numbers_of}
-pub use Rattle.cc_laws_heap.proofs.Raising.{without_all-cases, without_all-in}
 pub use Rattle.cc_laws_heap.proofs.ReachedAlike.{given-in, given-there, in-given, in-reached, reached-in, reached-there}
 pub use Rattle.cc_laws_heap.proofs.ReachedReads.{HasBehind, native_of-reached, script-behind}
 pub use Rattle.cc_laws_heap.proofs.References.{native-there, refs_to-removed, refs_to-slot, refs_to-there, times-among, times-append, times-cons, times-cons_other, times-cons_same, times-natives_in, times-some}
 pub use Rattle.cc_laws_heap.proofs.RepliesAlike.{delegate-stands, objects-stand, refusal_of-alike, reply_if_taken-alike}
 pub use Rattle.cc_laws_heap.proofs.Rising.{IsRising-filter, IsRising-once}
 pub use Rattle.cc_laws_heap.proofs.RoundParts.{left-stays, round-entries, round-natives, round-scripts, value_in-filter}
-pub use Rattle.cc_laws_heap.proofs.RoundsStand.{coloured-stands, collect_scripts-stands, marked-stands, spared-from, sweep-stands}
+pub use Rattle.cc_laws_heap.proofs.RoundsStand.{collect_scripts-stands, marked-stands, spared-from, sweep-stands}
 pub use Rattle.cc_laws_heap.proofs.ScriptCommands.{IsDelegate, IsNewScript-object, make_proxy-sound, no_delegate, with_reflector-sound}
 pub use Rattle.cc_laws_heap.proofs.ScriptNames.{delegate_at-found, entry-named, script-named, script_names-named, scripts-once}
 pub use Rattle.cc_laws_heap.proofs.ScriptsKept.{exposed-sound, hold_script-sound, is_one_of, native-no_script, script_names-exposed, script_slot-sound}

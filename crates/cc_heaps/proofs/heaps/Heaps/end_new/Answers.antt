@@ -10,7 +10,8 @@ use Rattle.cc_model.specs.View.{view}
 use Rattle.cc_laws_heap.specs.Sound.{IsSound}
 use Rattle.cc_laws_heap.specs.UnderMarking.{IsUnderMarking}
 use Rattle.cc_laws_heap.specs.Marks.{AreMarksClosed, IsBlackClosed}
-use Rattle.cc_laws_heap.proofs.Face.{AreMarksClosed-ended, IsBlackClosed-ended, coloured-stands}
+use Rattle.cc_laws_heap.proofs.MarkingEnded.{AreMarksClosed-ended, IsBlackClosed-ended}
+use Rattle.cc_laws_heap.proofs.RoundsStand.{coloured-stands}
 use Rattle.cc_counted.specs.Counts.{key_left}
 use Rattle.cc_heaps.specs.Keyed.{Keyed, number_at}
 use Rattle.cc_heaps.specs.Changes.{KeepsKeys}
