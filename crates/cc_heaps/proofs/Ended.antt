@@ -40,7 +40,7 @@ blacks_at p = keys_at_least Black (by_marks p)
 abbrev pub grays_at : Inside → List ℕ
 grays_at p = keys_at_least Gray (by_marks p)
 
--- the objects once they are
+-- the objects after the marks were carried on
 abbrev pub ended_objects : Inside → List Object
 ended_objects p = marked_from (blacks_at p) (grays_at p) p.weak (by_marks p)
 
@@ -59,6 +59,7 @@ module _ (p : Inside) where
   KeepsObjects-ended : KeepsObjects ended
   KeepsObjects-ended = record { key = λ q. refl; name = λ q. refl; kind = λ q. refl; native = λ q. refl; delegate = λ q. refl }
 
+  -- the objects at the end, each from the one that it was
   ended-are : ended_objects p ≡ map ended p.scripts
   ended-are = map-map (λ q. with_colour (colour_by black_then marked_then q.key) q) exchanged p.scripts
 
@@ -67,10 +68,11 @@ module _ (p : Inside) where
   name_at-ended key = ap (λ os. name_at os key) ended-are ∙ name_at-written ended KeepsObjects-ended p.scripts key
 
 module _ {owned : List ℕ} (p : Inside) (l : IsLinked p) (o : IsInOrder owned (keyed_of p)) where
-  -- what the exchange leaves
+  -- after the exchange places hold what is there, as before,
   pub whole-exchanged : AreWhole (by_marks p)
   whole-exchanged = whole-written exchanged KeepsObjects-exchanged p.scripts (λ q k m. o.whole q k m)
 
+  -- and entries name what is there
   pub entries-exchanged : AreEntriesThere (by_marks p) p.weak
   entries-exchanged = entries_there-kept p.scripts (by_marks p) (KeepsNames-written exchanged KeepsObjects-exchanged p.scripts) p.weak o.entries_there
 
@@ -78,12 +80,14 @@ module _ {owned : List ℕ} (p : Inside) (l : IsLinked p) (o : IsInOrder owned (
     lists : (t : ToScan) × (p.to_scan.marking ≡ Some t) × (new_marks_in p.scripts t ≡ m)
     lists = option_map-found (new_marks_in p.scripts) p.to_scan.marking m is
 
+    -- what has no new mark, and what is not black by it, are those of the objects
     unmarked-is : m.unmarked ≡ names_below Gray p.scripts
     unmarked-is = ap (λ (n : NewMarks). n.unmarked) (sym lists.2)
 
     unblack-is : m.unblack ≡ names_below Black p.scripts
     unblack-is = ap (λ (n : NewMarks). n.unblack) (sym lists.2)
 
+    -- the colour order holds after the exchange
     pub colours-ordered : IsToEnd (heap_of p) m → HasColourOrder (by_marks p)
     colours-ordered e = order-exchanged p.scripts l.one_key l.one_name (heap_of p) refl m unmarked-is unblack-is e.so_far e.scanned o.whole
 
@@ -103,7 +107,8 @@ module _ {owned : List ℕ} (p : Inside) (l : IsLinked p) (o : IsInOrder owned (
     gray-names = subst (λ ns. AreNamesOf p.scripts (grays_at p) (without_all ns (script_names (heap_of p)))) (sym unmarked-is)
         (names-at_least p.scripts l.one_key l.one_name (heap_of p) refl Gray)
 
-    -- what these lead to, with the marks for colours or without
+    -- What these lead to is the same before the exchange and after it.
+
     black_keys-are : black_then p ≡ keys_marked p.scripts p.weak (blacks_at p)
     black_keys-are = keys_marked-exchanged p.scripts l.one_key l.one_name p.weak (blacks_at p)
 
@@ -111,11 +116,11 @@ module _ {owned : List ℕ} (p : Inside) (l : IsLinked p) (o : IsInOrder owned (
     marked_keys-are = keys_marked-exchanged p.scripts l.one_key l.one_name p.weak (black_then p ++ grays_at p)
         ∙ ap (λ ks. keys_marked p.scripts p.weak (ks ++ grays_at p)) black_keys-are
 
-    -- an object is black by its key where it is black by its name,
+    -- an object is black by its key where it is black by its name
     black-alike : (q : Object) → Among q p.scripts → has ◌==◌ (black_then p) q.key ≡ has same_name (blacks_by_mark (heap_of p) m) q.name
     black-alike q i = ap (λ ks. has ◌==◌ ks q.key) black_keys-are ∙ led-alike p l o (blacks_at p) blacks black-names q i
 
-    -- and marked alike
+    -- an object is marked by its key where it is marked by its name
     marked-alike : (q : Object) → Among q p.scripts →
         has ◌==◌ (marked_then p) q.key ≡ has same_name (marks_by_mark (heap_of p) m) q.name
     marked-alike q i = ap (λ ks. has ◌==◌ ks q.key) marked_keys-are
@@ -123,12 +128,13 @@ module _ {owned : List ℕ} (p : Inside) (l : IsLinked p) (o : IsInOrder owned (
         (AreNamesOf-append p.scripts (keys_marked p.scripts p.weak (blacks_at p)) (grays_at p) (blacks_by_mark (heap_of p) m) marks
         (led-names p l o (blacks_at p) blacks black-names (λ x j. (without_all-cases m.unblack (script_names (heap_of p)) x j).0)) gray-names) q i
 
+    -- an object gets the same colour by its key and by its name
     same-colour : (q : Object) → Among q p.scripts →
         colour_by (black_then p) (marked_then p) q.key ≡
         names.colour_by (blacks_by_mark (heap_of p) m) (marks_by_mark (heap_of p) m) q.name
     same-colour q i = λ j. colour_of (black-alike q i j) (marked-alike q i j)
 
-    -- has that colour by its name
+    -- the objects by names have the colours of the definitions
     named-ended : named_objects (map (ended p) p.scripts) ≡ (coloured_by_marks (heap_of p) m).scripts
     named-ended = named-written (ended p) (KeepsObjects-ended p) p.scripts
         (λ q. names.with_colour (names.colour_by (blacks_by_mark (heap_of p) m) (marks_by_mark (heap_of p) m) q.name) q)

@@ -42,7 +42,7 @@ unpassed : (b : Bool) → ¬ (b ≡ true) → b ≡ false
 unpassed true none = absurd (none refl)
 unpassed false none = refl
 
--- and the other way round
+-- its negation holds
 passed : (b : Bool) → ¬ (b ≡ true) → not b ≡ true
 passed true none = absurd (none refl)
 passed false none = refl
@@ -57,11 +57,11 @@ none-listed : (m : NewMarks) → is_scanned m ≡ true → (is_none_of m.black_l
 none-listed m e = grind arith
 
 module _ (objects : List Object) (one_key : HasOneKey objects) (one_name : HasOneName objects) where
-  -- what has a lower mark is among the names of such
+  -- an object with a lower new mark than this has its name among these,
   below-in : (to : Colour) (o : Object) → Among o objects → is_below o.new_mark to ≡ true → Among o.name (names_below to objects)
   below-in to o i e = Among-map (λ (q : Object). q.name) o (filter (λ q. is_below q.new_mark to) objects) (Among-filter (λ q. is_below q.new_mark to) o objects i e)
 
-  -- and these names are of what has one
+  -- and an object that has its name among these has a lower one
   below-named : (to : Colour) (o : Object) → Among o objects → Among o.name (names_below to objects) → is_below o.new_mark to ≡ true
   below-named to o i j =
       let f = Among-map_cases (λ (q : Object). q.name) (filter (λ q. is_below q.new_mark to) objects) o.name j in
@@ -69,7 +69,7 @@ module _ (objects : List Object) (one_key : HasOneKey objects) (one_name : HasOn
       (Among-filtered (λ q. is_below q.new_mark to) f.0 objects f.1) (subst (λ y. same_name y o.name ≡ true) (sym f.2) (same_name-refl o.name)) i (same_name-refl o.name) in
       subst (λ (q : Object). is_below q.new_mark to ≡ true) same (Among-passes (λ q. is_below q.new_mark to) f.0 objects f.1)
 
-  -- THE COLOUR ORDER, once the new marks are the colours: where all was scanned, no object holds one of a lower new mark
+  -- THE COLOUR ORDER holds once the new marks are the colours: where nothing is left to scan, no object holds one of a lower new mark
   module _ (h : Heap) (named : h.scripts ≡ named_objects objects) (m : NewMarks)
       (unmarked : m.unmarked ≡ names_below Gray objects) (unblack : m.unblack ≡ names_below Black objects)
       (so_far : IsScannedSoFar h m) (scanned : is_scanned m ≡ true) (whole : AreWhole objects) where
@@ -116,16 +116,18 @@ module _ (objects : List Object) (one_key : HasOneKey objects) (one_name : HasOn
             (found-named objects o q f.0.name i at (ap (option_map (λ (z : Object). z.name)) f.1)) in
             (exchanged f.0, object_at-map exchanged (λ z. refl) objects q ∙ ap (option_map exchanged) f.1, level o f.0 i j e o.new_mark refl above)
 
-  -- What has at least a mark
+  -- What has at least a new mark
 
+  -- the new mark of an object is its colour then,
   colour-exchanged : (o : Object) → Among o objects → colour_at (map exchanged objects) o.key ≡ Some o.new_mark
   colour-exchanged o i = ap (option_map (λ (z : Object). z.colour))
       (object_at-map exchanged (λ z. refl) objects o.key ∙ ap (option_map exchanged) (object_at-own objects one_key o i))
 
+  -- which is at least another where the new mark is not below that
   has_at_least-exchanged : (to : Colour) (o : Object) → Among o objects → has_at_least to (map exchanged objects) o.key ≡ not (is_below o.new_mark to)
   has_at_least-exchanged to o i = ap (is_at_least to) (colour-exchanged o i)
 
-  -- is by names what has none that is lower
+  -- THE NAMES OF WHAT HAS AT LEAST A NEW MARK are those of the objects but for what has a lower one
   pub names-at_least : (h : Heap) → h.scripts ≡ named_objects objects → (to : Colour) → AreNamesOf objects (keys_at_least to (map exchanged objects)) (without_all (names_below to objects) (script_names h))
   names-at_least h named to = record {
     named = λ k x i e.
@@ -149,6 +151,6 @@ module _ (objects : List Object) (one_key : HasOneKey objects) (one_name : HasOn
       key-in : (o : Object) → Among o objects → Among o.key keys
       key-in o i = Among-map (λ (z : Object). z.key) (exchanged o) (map exchanged objects) (Among-map exchanged o objects i)
 
-  -- what a mark comes to is the same
+  -- what a mark comes to from some keys is the same before the exchange and after it
   pub keys_marked-exchanged : (es : List KeyedEntry) (keys : List ℕ) → keys_marked (map exchanged objects) es keys ≡ keys_marked objects es keys
   keys_marked-exchanged es keys = ap (λ ways. closure ◌==◌ (system keys ways (rules_of (joints es)))) (flat_map-kept slot_edges exchanged objects (λ o. refl))

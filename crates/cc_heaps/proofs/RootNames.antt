@@ -138,7 +138,7 @@ module _ {owned : List ℕ} (p : Inside) (l : IsLinked p) (o : IsInOrder owned (
       targets_of : HeapNative → List Name
       targets_of n = contents (places_of_native n)
 
-  -- what names of script objects lead to is that of one that is there
+  -- what names of script objects lead to is the name of one that is there
   led-there : (names : List Name) → ((x : Name) → Among x names → Among x (script_names (heap_of p))) → (x : Name) → Among x (names_led p names) →
       (q : Object) × Among q p.scripts × (q.name ≡ x)
   led-there names roots x m =
@@ -159,13 +159,13 @@ module _ {owned : List ℕ} (p : Inside) (l : IsLinked p) (o : IsInOrder owned (
       given m _ its_value = m.value
       given m _ (its_key d q) = m.key
 
-  -- WHAT A MARK COMES TO from keys that have these names
+  -- What a mark comes to from keys that have these names
   module _ (keys : List ℕ) (names : List Name) (are : AreNamesOf p.scripts keys names) where
-    -- is the same by keys and by names,
+    -- A MARK COMES TO AN OBJECT BY ITS KEY where it comes to it by its name.
     pub led-alike : (q : Object) → Among q p.scripts → has ◌==◌ (keys_marked p.scripts p.weak keys) q.key ≡ has same_name (names_led p names) q.name
     led-alike = marked-alike_from p.scripts l.one_key l.one_name p.weak o.entries_there keys names are
 
-    -- so these are its names.
+    -- the names of the keys to which a mark comes are the names to which it comes
     pub led-names : ((x : Name) → Among x names → Among x (script_names (heap_of p))) → AreNamesOf p.scripts (keys_marked p.scripts p.weak keys) (names_led p names)
     led-names roots = grind (arith, name_at-found, has-there, number-exact, has-among, same_name-exact, led-alike, led-there, name_at-own)
 
