@@ -69,3 +69,4 @@ pub mod BegunNew
 pub mod RootsInOrder
 pub mod EndedMarks
 pub mod Ended
+pub mod KeptMarks

@@ -164,7 +164,7 @@ module _ (objects : List Object) (one_key : HasOneKey objects) (one_name : HasOn
       go o m false g = refl
 
   -- whether it is below, by its name
-  has-below : (low : Colour) → has same_name (names_below low objects) the_name ≡ is_below mark low
+  pub has-below : (low : Colour) → has same_name (names_below low objects) the_name ≡ is_below mark low
   has-below low = same-tests (has same_name (names_below low objects) the_name) (is_below mark low)
       (λ e.
       let f = Among-map_cases (λ (o : Object). o.name) (filter (λ (o : Object). is_below o.new_mark low) objects) the_name (has-among same_name same_name-exact (names_below low objects) the_name e) in
