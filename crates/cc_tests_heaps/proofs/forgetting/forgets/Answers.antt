@@ -1,5 +1,4 @@
 use Rattle.std.proofs.Common.{[], arith}
-use Rattle.cc_heaps.specs.Keyed.{IsInOrder}
 use Rattle.cc_tests_heaps.proofs.forgetting.forgets.Goals as goal
 
 pub forget-none-requires : goal.forget-none-requires
