@@ -33,7 +33,7 @@ use Rattle.cc_script.specs.Objects.{name_at}
 use Rattle.cc_heaps.specs.Keyed.{Keyed, IsInOrder, changed_to, counts_of, keyed_name, left_with, the_number}
 use Rattle.cc_heaps.specs.Changes.{KeepsKeys, held_name, moved_in, slot_held, taken_from, written_in}
 use Rattle.cc_heaps.specs.Leaving.{TellsWhatIsFreed}
-use Rattle.cc_heaps.specs.Marks.{KeepsMarks}
+use Rattle.cc_heaps.specs.Marks.{MarksGoOn}
 use Rattle.cc_heaps.specs.Standing.{IsReached, StandsAfter}
 use Rattle.cc_heaps.proofs.ContentNames.{IsHeldAs, content-named}
 use Rattle.cc_heaps.proofs.Following.{Follows, Follows-from, Remembers, Remembers-from, name_at-there, put-sound, put-gentle, put-scripts, slots-keyed, within-named}
@@ -203,7 +203,7 @@ module _ {v t put w : Keyed} {to from i j : ℕ} {content held : Option Held} (c
   }
 
   -- a marking in slices is left as what was taken out left it
-  pub moved-marks : KeepsMarks v t → KeepsMarks v w
+  pub moved-marks : MarksGoOn v t → MarksGoOn v w
   moved-marks k = marks-then k (marks-same t w (ap (λ (u : Keyed). u.marking) c.left ∙ ap (λ (u : Keyed). u.marking) c.put_is)
       (ap (λ (u : Keyed). u.scripts) c.left ∙ ap (λ (u : Keyed). u.scripts) c.put_is))
 

@@ -82,7 +82,7 @@ pub named-places : (objects : List Object) (o : Object) → script_places_of (na
 named-places objects o = sym (map-append (name_held objects) o.slots (o.delegate ∷ []))
 
 -- an edge by names is one from a place of an object to a key with a name
-named-found : (objects : List Object) (x y : Name) → Among (x, y) (named_edges objects) →
+pub named-found : (objects : List Object) (x y : Name) → Among (x, y) (named_edges objects) →
     (o : Object) × Among o objects × (o.name ≡ x) × ((q : ℕ) × Among (Some q) (places_of o) × (name_at objects q ≡ Some y))
 named-found objects x y m =
     let f = Among-flat_map_cases script_slot_edges (named_objects objects) (x, y) m in

@@ -8,7 +8,7 @@ use Rattle.cc_heaps.specs.Changes.{KeepsKeys}
 use Rattle.cc_heaps.specs.Fields.{keyed_of, IsLinked}
 use Rattle.cc_heaps.specs.declared.heaps.Heaps.TheInside.{Inside}
 use Rattle.cc_heaps.proofs.KeysKept.{KeepsKeys-same}
-use Rattle.cc_heaps.proofs.MarksKept.{marks-same}
+use Rattle.cc_heaps.proofs.MarksKept.{marks-stay}
 
 -- the parts with other lists of what is to be scanned
 abbrev pub with_lists : Inside → Lists → Inside
@@ -42,7 +42,7 @@ pub keys-unchanged : (v w : Keyed) → w ≡ v → KeepsKeys v w
 keys-unchanged v w same = subst (KeepsKeys v) (sym same) (KeepsKeys-same v)
 
 pub marks-unchanged : (v w : Keyed) → w ≡ v → KeepsMarks v w
-marks-unchanged v w same = subst (KeepsMarks v) (sym same) (marks-same v v refl refl)
+marks-unchanged v w same = subst (KeepsMarks v) (sym same) (marks-stay v v refl refl)
 
 pub order-unchanged : (v w : Keyed) → w ≡ v → (owned : List ℕ) → IsInOrder owned v → IsInOrder owned w
 order-unchanged v w same owned o = subst (IsInOrder owned) (sym same) o

@@ -33,7 +33,7 @@ use Rattle.cc_heaps.specs.declared.heaps.Heaps.TheInside.{Inside}
 use Rattle.cc_heaps.proofs.FewCounts.{few-owned}
 use Rattle.cc_heaps.proofs.Kept.{KeepsAll-same}
 use Rattle.cc_heaps.proofs.Linked.{with_counted}
-use Rattle.cc_heaps.proofs.MarksKept.{marks-same, marks-then}
+use Rattle.cc_heaps.proofs.MarksKept.{marks-go_on, marks-stay, marks-stay-then}
 use Rattle.cc_heaps.proofs.ObjectsKept.{entry-same}
 use Rattle.cc_heaps.proofs.ScriptCalls.{becomes-written}
 use Rattle.cc_heaps.proofs.ScriptsChanged.{HoldsSame, heap-held, registers-held, natives-held, with_objects}
@@ -48,7 +48,7 @@ KeepsAll-alike v w e keys order marks = record {
   colours = subst (KeepsColours v.heap) (sym e) (λ k. k);
   fresh = subst (KeepsFresh v.heap) (sym e) (λ s k. k);
   suspected = subst (KeepsSuspected v.heap) (sym e) (λ candidates k. k);
-  marks = marks;
+  marks = marks-go_on marks;
 }
 
 -- Natives
@@ -70,7 +70,7 @@ order-walks owned v walks o = record {
 pub kept-walks : (v w : Keyed) (walks : List Walked) → w ≡ record v { walks = walks } → KeepsAll v w
 kept-walks v w walks e = subst (KeepsAll v) (sym e)
     (KeepsAll-alike v (record v { walks = walks }) refl (record { natives = λ key k at there. at; scripts = λ key x at there. at }) (λ owned. order-walks owned v walks)
-    (marks-same v (record v { walks = walks }) refl refl))
+    (marks-stay v (record v { walks = walks }) refl refl))
 
 pub linked-walks : (p : Inside) (walks : List Walked) → IsLinked p → IsLinked (with_counted p (record p.counted { walks = walks }))
 linked-walks p walks l = record {
@@ -152,15 +152,18 @@ module _ (p : Inside) (l : IsLinked p) (states : Object → Walked) where
   pub keys-stated : KeepsKeys (keyed_of p) (keyed_of restated_parts)
   keys-stated = record { natives = λ key k at there. at; scripts = λ key x at there. KeepsNames-written (stated states) keeps p.scripts key x at }
 
+  pub marks-stated : KeepsMarks (keyed_of p) (keyed_of restated_parts)
+  marks-stated = marks-written (keyed_of p) (keyed_of restated_parts) (stated states) keeps (λ o. refl) refl refl
+
   pub kept-stated : KeepsAll (keyed_of p) (keyed_of restated_parts)
-  kept-stated = KeepsAll-alike (keyed_of p) (keyed_of restated_parts) heap-stated keys-stated order-stated
-      (marks-written (keyed_of p) (keyed_of restated_parts) (stated states) keeps (λ o. refl) refl refl)
+  kept-stated = KeepsAll-alike (keyed_of p) (keyed_of restated_parts) heap-stated keys-stated order-stated marks-stated
 
 -- WHAT A CALL COMES TO
 
 pub record IsWalked (p q : Inside) (now : Keyed) : Type 0 where
   pub keyed : keyed_of q ≡ now
   pub heap : heap_of q ≡ heap_of p
+  pub marks : KeepsMarks (keyed_of p) (keyed_of q)
   pub kept : KeepsAll (keyed_of p) (keyed_of q)
   pub linked : IsLinked q
 
@@ -169,6 +172,7 @@ module _ (p : Inside) (l : IsLinked p) where
   walks-changed next walks e = subst (λ c. IsWalked p (with_counted p c) (record (keyed_of p) { walks = walks })) (sym e) (record {
     keyed = refl;
     heap = refl;
+    marks = marks-stay (keyed_of p) (record (keyed_of p) { walks = walks }) refl refl;
     kept = kept-walks (keyed_of p) (record (keyed_of p) { walks = walks }) walks refl;
     linked = linked-walks p walks l;
   })
@@ -178,6 +182,7 @@ module _ (p : Inside) (l : IsLinked p) where
   objects-changed next states e = subst (λ os. IsWalked p (record p { scripts = os }) (record (keyed_of p) { scripts = os })) (sym e) (record {
     keyed = keyed-stated p l states;
     heap = heap-stated p l states;
+    marks = marks-stated p l states;
     kept = kept-stated p l states;
     linked = linked-stated p l states;
   })
@@ -191,13 +196,14 @@ pub walked-then : (p q r : Inside) (v w : Keyed) → IsWalked p q v → IsWalked
 walked-then p q r v w a b = record {
   keyed = b.keyed;
   heap = b.heap ∙ a.heap;
+  marks = marks-stay-then a.marks b.marks;
   kept = KeepsAll-alike (keyed_of p) (keyed_of r) (b.heap ∙ a.heap)
       (record {
         natives = λ key k at there. b.kept.keys.natives key k (a.kept.keys.natives key k at (subst (λ h. Among (native k) (native_names h)) b.heap there)) there;
         scripts = λ key x at there. b.kept.keys.scripts key x (a.kept.keys.scripts key x at (subst (λ h. Among x (script_names h)) b.heap there)) there;
       })
       (λ owned o. b.kept.order owned (a.kept.order owned o))
-      (marks-then a.kept.marks b.kept.marks);
+      (marks-stay-then a.marks b.marks);
   linked = b.linked;
 }
 
@@ -244,6 +250,7 @@ GivesNext v w o = MatchOption o (NothingWaits v × (w ≡ v))
 pub record IsGiven (p q : Inside) (o : Option Held) : Type 0 where
   pub next : GivesNext (keyed_of p) (keyed_of q) o
   pub heap : heap_of q ≡ heap_of p
+  pub marks : KeepsMarks (keyed_of p) (keyed_of q)
   pub kept : KeepsAll (keyed_of p) (keyed_of q)
   pub linked : IsLinked q
 
@@ -252,7 +259,7 @@ module _ (p : Inside) (l : IsLinked p) where
       IsGiven p (with_counted p next) (Some (held.Native key))
   native-next key next m =
       let w = native-stated p l (held.Native key) (λ state. Given) key refl next m.1 in
-      record { next = (m.0, w.keyed, m.2); heap = w.heap; kept = w.kept; linked = w.linked }
+      record { next = (m.0, w.keyed, m.2); heap = w.heap; marks = w.marks; kept = w.kept; linked = w.linked }
 
   -- where no native waits, a script object
   pub script-next : (counted : Counts) → counted ≡ p.counted → NoneWaits p.counted.walks → (next : List Object) (o : Option SKey) →
@@ -261,12 +268,13 @@ module _ (p : Inside) (l : IsLinked p) where
   script-next counted e none next None some nothing =
       subst (λ d. IsGiven p (record p { counted = d; scripts = next }) None) (sym e)
       (subst (λ os. IsGiven p (record p { scripts = os }) None) (sym nothing.1)
-      (record { next = ((none, nothing.0), refl); heap = refl; kept = KeepsAll-same (keyed_of p) (keyed_of p) refl; linked = l }))
+      (record { next = ((none, nothing.0), refl); heap = refl; marks = marks-stay (keyed_of p) (keyed_of p) refl refl; kept = KeepsAll-same (keyed_of p) (keyed_of p) refl; linked = l }))
   script-next counted e none next (Some key) some nothing =
       let w = script-stated p l (held.Script key) (λ state. Given) key refl next some.1 in
       subst (λ d. IsGiven p (record p { counted = d; scripts = next }) (Some (held.Script key))) (sym e) (record {
         next = (state-read (walked_at p.scripts key.0) Waiting some.0, w.keyed, there-walked p.scripts key.0 Waiting some.0);
         heap = w.heap;
+        marks = w.marks;
         kept = w.kept;
         linked = w.linked;
       })

@@ -4,7 +4,7 @@ use Rattle.cc_heaps.specs.Keyed.{Keyed, IsInOrder}
 use Rattle.cc_heaps.specs.Changes.{KeepsKeys}
 use Rattle.cc_heaps.specs.Few.{AreFewIfOwnedOnce}
 use Rattle.cc_heaps.specs.Standing.{KeepsColours, KeepsFresh, KeepsSuspected}
-use Rattle.cc_heaps.specs.Marks.{KeepsMarks}
+use Rattle.cc_heaps.specs.Marks.{MarksGoOn}
 
 -- A part is promised always, where something holds, or not at all.
 
@@ -32,8 +32,8 @@ pub record KeepsParts (given gained : List ℕ) (in_colour in_snapshots in_suspi
   pub fresh : in_snapshots (KeepsFresh old.heap new.heap)
   -- no native that nothing reaches is forgotten
   pub suspected : in_suspicion (KeepsSuspected old.heap new.heap)
-  -- a marking that goes on in slices is left as it is
-  pub marks : in_marks (KeepsMarks old new)
+  -- a marking that goes on in slices goes on, and what is exposed is black by its new mark
+  pub marks : in_marks (MarksGoOn old new)
 
 -- EVERY PART, whatever is handed in: the call may come while a collection runs
 abbrev pub KeepsAll : Keyed → Keyed → Type 0

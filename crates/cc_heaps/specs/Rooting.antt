@@ -35,3 +35,8 @@ IsRootedThere v (content.Script x) = IsScriptThere v x
 abbrev pub MayBeRooted : Keyed → Rooted → Type 0
 MayBeRooted v (content.Native x) = IsReached v.heap (native_name v x)
 MayBeRooted v (content.Script x) = IsReachedOrReflects v.heap (script_name v x)
+
+-- it is for the bank of natives, so that nothing is exposed
+abbrev pub IsOfNatives : Rooted → Type 0
+IsOfNatives (content.Native x) = Unit {0}
+IsOfNatives (content.Script x) = ⊥

@@ -18,6 +18,7 @@ ghost use Rattle.cc_heaps.specs.Keyed.{IsInOrder, counts_of, number_at, the_numb
 ghost use Rattle.cc_heaps.specs.Changes.{IsNativeThere, IsScriptThere, native_name, script_name};
 ghost use Rattle.cc_heaps.specs.Standing.{IsReached, StillStands};
 ghost use Rattle.cc_heaps.specs.Few.{IsNotOwned};
+ghost use Rattle.cc_heaps.specs.Marks.{KeepsMarks};
 ghost use Rattle.cc_heaps.specs.Keeping.{KeepsAll, KeepsAllIfReached, KeepsHeaps};
 ghost use Rattle.cc_heaps.specs.Leaving.{TellsWhatIsFreed};
 
@@ -209,6 +210,7 @@ impl Heaps {
         requires owned { (owned : List ℕ) × IsInOrder owned self.old }
         ensures heap { self.new ≡ changed_to self.old (suspect self.old.heap (the_number self.old key.0)) }
         ensures kept { KeepsAll self.old self.new }
+        ensures marks { KeepsMarks self.old self.new }
         ensures stands { StillStands self.old.heap self.new.heap }
     {
         self.counted.give_back(key);
@@ -222,6 +224,7 @@ impl Heaps {
         requires owned { (owned : List ℕ) × IsInOrder owned self.old }
         ensures heap { self.new ≡ changed_to self.old (unmarked self.old.heap (the_number self.old key.0)) }
         ensures kept { KeepsAllIfReached (IsReached self.old.heap (Some (native (the_number self.old key.0)))) self.old self.new }
+        ensures marks { KeepsMarks self.old self.new }
         ensures stands { StillStands self.old.heap self.new.heap }
     {
         if self.counted.in_buffer(key) {

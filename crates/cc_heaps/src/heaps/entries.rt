@@ -64,6 +64,7 @@ impl Heaps {
         ensures in_place { IsSome (value_at (objects_of self.old.heap) (name_at self.old.scripts the_map.0) (name_at self.old.scripts key.0)) → IsOk result }
         ensures natives { self.new.keys ≡ self.old.keys }
         ensures kept { KeepsAllIfBlack (IsBlackHeld self.old (Some (held.Script key)) × IsBlackHeld self.old (Some (held.Script value))) self.old self.new }
+        ensures marks { KeepsMarks self.old self.new }
         ensures same { OnErr result (self.new ≡ self.old) }
         ensures stands { OnOk result (IsReached self.old.heap (name_at self.old.scripts the_map.0) → IsReached self.old.heap (name_at self.old.scripts key.0) →
             IsReached self.old.heap (name_at self.old.scripts value.0) →
@@ -82,6 +83,7 @@ impl Heaps {
         ensures heap { self.new.heap ≡ set_entry self.old.heap (name_at self.old.scripts the_map.0) (name_at self.old.scripts key.0) None }
         ensures natives { self.new.keys ≡ self.old.keys }
         ensures kept { KeepsAll self.old self.new }
+        ensures marks { KeepsMarks self.old self.new }
         ensures stands { IsReached self.old.heap (name_at self.old.scripts the_map.0) → IsReached self.old.heap (name_at self.old.scripts key.0) →
             StandsAfter self.old.heap self.new.heap (λ g. graph.set_entry g (name_at self.old.scripts the_map.0) (name_at self.old.scripts key.0) None) }
     {

@@ -15,7 +15,7 @@ ghost use Rattle.cc_heaps.specs.Keyed.{IsInOrder, counts_of, number_at, the_numb
 ghost use Rattle.cc_heaps.specs.Changes.{IsNativeThere, IsThere, KeepsKeys, held_name, moved_in, native_name, slot_held, stored_in, taken_from, IsBlackHeld};
 ghost use Rattle.cc_heaps.specs.Standing.{IsReached, MayBeHeld, StandsAfter};
 ghost use Rattle.cc_heaps.specs.Few.{AreOwnedOnce};
-ghost use Rattle.cc_heaps.specs.Marks.{KeepsMarks};
+ghost use Rattle.cc_heaps.specs.Marks.{KeepsMarks, MarksGoOn};
 ghost use Rattle.cc_heaps.specs.Keeping.{KeepsAll, KeepsAllIf, KeepsAllIfReached};
 ghost use Rattle.cc_heaps.specs.Leaving.{TellsWhatIsFreed};
 
@@ -123,6 +123,7 @@ impl Heaps {
             (hold_native self.old.heap r (native_name self.old content)).events }
         ensures tells { TellsWhatIsFreed self.old.heap self.new.heap (N.telling out.old) (N.telling out.new) }
         ensures kept { KeepsAll self.old self.new }
+        ensures marks { KeepsMarks self.old self.new }
         ensures stands { MayBeHeld self.old.heap (native_name self.old content) →
             StandsAfter self.old.heap self.new.heap (λ g. graph.set_register g (n_register r) (native_name self.old content)) }
     {
@@ -152,6 +153,7 @@ impl Heaps {
             (stored_in self.old.heap (the_number self.old key.0) i (held_name self.old content)).events }
         ensures tells { TellsWhatIsFreed self.old.heap self.new.heap (N.telling out.old) (N.telling out.new) }
         ensures kept { KeepsAllIf (IsBlackHeld self.old content) (IsReached self.old.heap (Some (native (the_number self.old key.0)))) self.old self.new }
+        ensures marks { KeepsMarks self.old self.new }
         ensures stands { IsReached self.old.heap (Some (native (the_number self.old key.0))) → IsReached self.old.heap (held_name self.old content) →
             StandsAfter self.old.heap self.new.heap (λ g. graph.set_slot g (Some (native (the_number self.old key.0))) i (held_name self.old content)) }
     {
@@ -177,7 +179,7 @@ impl Heaps {
         ensures heap { self.new.heap ≡ touched self.old.heap (held_name self.old content) }
         ensures natives { self.new.keys ≡ self.old.keys }
         ensures keys { KeepsKeys self.old self.new }
-        ensures marks { KeepsMarks self.old self.new }
+        ensures marks { MarksGoOn self.old self.new }
         ensures order { (owned : List ℕ) → IsInOrder owned self.old → IsInOrder owned self.new }
     {
         match content {
@@ -195,7 +197,7 @@ impl Heaps {
         ensures heap { self.new.heap ≡ taken_from self.old.heap (the_number self.old key.0) j }
         ensures natives { self.new.keys ≡ self.old.keys }
         ensures keys { KeepsKeys self.old self.new }
-        ensures marks { KeepsMarks self.old self.new }
+        ensures marks { MarksGoOn self.old self.new }
         ensures name { held_name self.new result ≡ slot_held self.old.heap (the_number self.old key.0) j }
         ensures there { IsThere self.new result }
         ensures order { (owned : List ℕ) → IsInOrder owned self.old → IsInOrder (numbers_of (held_name self.new result) ++ owned) self.new }

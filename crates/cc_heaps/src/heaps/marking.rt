@@ -6,6 +6,7 @@ ghost use Rattle.cc_script.specs.Objects.{AreWhole, is_there};
 ghost use Rattle.cc_marking.specs.Marking.{AreDelegatesOfKeys, AreEntriesThere, marked_from};
 ghost use Rattle.cc_heaps.specs.Keyed.{IsInOrder};
 ghost use Rattle.cc_heaps.specs.Standing.{StillStands};
+ghost use Rattle.cc_heaps.specs.Marks.{KeepsMarks};
 ghost use Rattle.cc_heaps.specs.Keeping.{KeepsObjects};
 
 use crate::heaps::Heaps;
@@ -49,6 +50,7 @@ impl Heaps {
         ensures heap { self.new.heap ≡ marked self.old.heap }
         ensures natives { self.new.keys ≡ self.old.keys }
         ensures kept { KeepsObjects self.old self.new }
+        ensures marks { KeepsMarks self.old self.new }
         ensures stands { StillStands self.old.heap self.new.heap }
         ensures colours { HasColours self.new.heap }
     {

@@ -9,6 +9,7 @@ ghost use Rattle.cc_heaps.specs.Keyed.{IsInOrder, number_at, the_number, changed
 ghost use Rattle.cc_heaps.specs.Changes.{IsScriptThere};
 ghost use Rattle.cc_heaps.specs.Standing.{IsReached, StandsAfter};
 ghost use Rattle.cc_heaps.specs.Few.{AreOwnedOnce};
+ghost use Rattle.cc_heaps.specs.Marks.{KeepsMarks};
 ghost use Rattle.cc_heaps.specs.Keeping.{KeepsAllIfBlack, KeepsAllIfReached};
 
 use crate::heaps::Heaps;
@@ -28,6 +29,7 @@ impl Heaps {
         ensures there { IfOk result (λ made. IsScriptThere self.new (Some made)) }
         ensures natives { self.new.keys ≡ self.old.keys }
         ensures kept { KeepsAllIfReached (IsReached self.old.heap (Some (native (the_number self.old key.0)))) self.old self.new }
+        ensures marks { KeepsMarks self.old self.new }
         ensures same { OnErr result (self.new ≡ self.old) }
         ensures stands { OnOk result (IsReached self.old.heap (Some (native (the_number self.old key.0))) →
             StandsAfter self.old.heap self.new.heap (λ g. graph.wrapped g (Some (native (the_number self.old key.0))))) }
@@ -51,6 +53,7 @@ impl Heaps {
         requires has { has_reflector self.old.heap (the_number self.old key.0) ≡ true }
         ensures heap { self.new ≡ changed_to self.old (set_preserved self.old.heap (the_number self.old key.0) true) }
         ensures kept { KeepsAllIfBlack (is_gray_in self.old.heap (reflector (the_number self.old key.0)) ≡ false) self.old self.new }
+        ensures marks { KeepsMarks self.old self.new }
         ensures stands { IsReached self.old.heap (Some (native (the_number self.old key.0))) →
             StandsAfter self.old.heap self.new.heap (λ g. graph.preserve g (Some (reflector (the_number self.old key.0)))) }
     {

@@ -9,9 +9,10 @@ ghost use Rattle.cc_model.specs.Telling.{TellsEvents};
 ghost use Rattle.cc_model.specs.Graph as graph;
 ghost use Rattle.cc_heaps.specs.Keyed.{IsInOrder, changed_to};
 ghost use Rattle.cc_heaps.specs.Changes.{IsNativeThere, IsScriptThere, native_name, script_name};
-ghost use Rattle.cc_heaps.specs.Rooting.{IsRootedThere, MayBeRooted, bank_rooted, register_at, rooted_name};
+ghost use Rattle.cc_heaps.specs.Rooting.{IsOfNatives, IsRootedThere, MayBeRooted, bank_rooted, register_at, rooted_name};
 ghost use Rattle.cc_heaps.specs.Standing.{IsReached, IsReachedOrReflects, StandsAfter};
 ghost use Rattle.cc_heaps.specs.Few.{AreOwnedOnce};
+ghost use Rattle.cc_heaps.specs.Marks.{KeepsMarks};
 ghost use Rattle.cc_heaps.specs.Keeping.{KeepsAll};
 ghost use Rattle.cc_heaps.specs.Leaving.{NothingLeft, TellsWhatIsFreed};
 
@@ -91,6 +92,7 @@ impl Heaps {
         ensures told { OnOk result (TellsEvents (N.telling out.old) (N.telling out.new) (root_at self.old.heap (n_register place) (native_name self.old content)).events) }
         ensures tells { TellsWhatIsFreed self.old.heap self.new.heap (N.telling out.old) (N.telling out.new) }
         ensures kept { KeepsAll self.old self.new }
+        ensures marks { KeepsMarks self.old self.new }
         ensures same { OnErr result (self.new ≡ self.old) }
         ensures silent { OnErr result (N.telling out.new ≡ N.telling out.old) }
         ensures beyond { OnErr result (length self.old.heap.native_registers ≤ place) }
@@ -138,6 +140,7 @@ impl Heaps {
         ensures told { OnOk result (TellsEvents (N.telling out.old) (N.telling out.new) (root_at self.old.heap (register_at place content) (rooted_name self.old content)).events) }
         ensures tells { TellsWhatIsFreed self.old.heap self.new.heap (N.telling out.old) (N.telling out.new) }
         ensures kept { KeepsAll self.old self.new }
+        ensures marks { IsOfNatives content → KeepsMarks self.old self.new }
         ensures same { OnErr result (self.new ≡ self.old) }
         ensures silent { OnErr result (N.telling out.new ≡ N.telling out.old) }
         ensures beyond { OnErr result (length (bank_rooted self.old.heap content) ≤ place) }

@@ -15,7 +15,7 @@ ghost use Rattle.cc_heaps.specs.Keyed.{IsInOrder, changed_to};
 ghost use Rattle.cc_heaps.specs.Making.{IsDelegateThere, MayBeMade, delegate_name, kind_to_make, made_in, object_to_make, slots_to_make};
 ghost use Rattle.cc_heaps.specs.Changes.{IsScriptThere, KeepsKeys, script_name};
 ghost use Rattle.cc_heaps.specs.Standing.{IsReached, IsReachedOrReflects, MayHold, StandsAfter, StillStands};
-ghost use Rattle.cc_heaps.specs.Marks.{KeepsMarks};
+ghost use Rattle.cc_heaps.specs.Marks.{KeepsMarks, MarksGoOn};
 ghost use Rattle.cc_heaps.specs.Keeping.{KeepsAll};
 
 use crate::heaps::Heaps;
@@ -60,7 +60,7 @@ impl Heaps {
         ensures heap { self.new.heap ≡ exposed self.old.heap (script_name self.old content) }
         ensures natives { self.new.keys ≡ self.old.keys }
         ensures keys { KeepsKeys self.old self.new }
-        ensures marks { KeepsMarks self.old self.new }
+        ensures marks { MarksGoOn self.old self.new }
         ensures name { script_name self.new content ≡ script_name self.old content }
         ensures there { IsScriptThere self.new content }
         ensures order { (owned : List ℕ) → IsInOrder owned self.old → IsInOrder owned self.new }
@@ -116,6 +116,7 @@ impl Heaps {
         ensures heap { OnOk result (self.new.heap ≡ make_object (preserve self.old.heap (delegate_name self.old what)) r (kind_to_make what) (slots_to_make what) (delegate_name self.old what)) }
         ensures natives { self.new.keys ≡ self.old.keys }
         ensures kept { KeepsAll self.old self.new }
+        ensures marks { KeepsMarks self.old self.new }
         ensures same { OnErr result (self.new ≡ self.old) }
         ensures stands { OnOk result (IsReached self.old.heap (delegate_name self.old what) →
             StandsAfter self.old.heap self.new.heap (λ g. made_in g r what (delegate_name self.old what))) }
@@ -155,6 +156,7 @@ impl Heaps {
         ensures heap { OnOk result (self.new.heap ≡ make_object self.old.heap r Plain slots None) }
         ensures natives { self.new.keys ≡ self.old.keys }
         ensures kept { KeepsAll self.old self.new }
+        ensures marks { KeepsMarks self.old self.new }
         ensures same { OnErr result (self.new ≡ self.old) }
         ensures stands { OnOk result (StandsAfter self.old.heap self.new.heap (λ g. graph.step g (command.Script r slots))) }
     {
@@ -174,6 +176,7 @@ impl Heaps {
         ensures heap { OnOk result (self.new.heap ≡ make_object self.old.heap r Map 0 None) }
         ensures natives { self.new.keys ≡ self.old.keys }
         ensures kept { KeepsAll self.old self.new }
+        ensures marks { KeepsMarks self.old self.new }
         ensures same { OnErr result (self.new ≡ self.old) }
         ensures stands { OnOk result (StandsAfter self.old.heap self.new.heap (λ g. graph.step g (command.WeakMap r))) }
     {
@@ -195,6 +198,7 @@ impl Heaps {
         ensures heap { OnOk result (self.new.heap ≡ make_proxy self.old.heap r (name_at self.old.scripts delegate.0)) }
         ensures natives { self.new.keys ≡ self.old.keys }
         ensures kept { KeepsAll self.old self.new }
+        ensures marks { KeepsMarks self.old self.new }
         ensures same { OnErr result (self.new ≡ self.old) }
         ensures stands { OnOk result (IsReached self.old.heap (name_at self.old.scripts delegate.0) →
             StandsAfter self.old.heap self.new.heap (λ g. graph.with_proxy g r (name_at self.old.scripts delegate.0))) }
@@ -231,6 +235,7 @@ impl Heaps {
         ensures heap { self.new.heap ≡ set_slot self.old.heap (name_at self.old.scripts key.0) i (script_name self.old content) }
         ensures natives { self.new.keys ≡ self.old.keys }
         ensures kept { KeepsAll self.old self.new }
+        ensures marks { KeepsMarks self.old self.new }
         ensures stands { IsReached self.old.heap (name_at self.old.scripts key.0) → IsReached self.old.heap (script_name self.old content) →
             MayHold self.old.heap (name_at self.old.scripts key.0) →
             StandsAfter self.old.heap self.new.heap (λ g. graph.set_slot g (name_at self.old.scripts key.0) i (script_name self.old content)) }

@@ -4,6 +4,7 @@ ghost use Rattle.cc_names.specs.declared.kind.Walked.TheVariants.{Waiting, Given
 ghost use Rattle.cc_walk.specs.Walks.{entered, is_walked};
 ghost use Rattle.cc_heaps.specs.Keyed.{IsInOrder};
 ghost use Rattle.cc_heaps.specs.Changes.{IsThere};
+ghost use Rattle.cc_heaps.specs.Marks.{KeepsMarks};
 ghost use Rattle.cc_heaps.specs.Keeping.{KeepsAll};
 ghost use Rattle.cc_heaps.specs.Walking.{NothingWaits, state_in, unwalked, with_state_in};
 
@@ -16,6 +17,7 @@ impl Heaps {
         ensures walk { self.new ≡ unwalked self.old }
         ensures heap { self.new.heap ≡ self.old.heap }
         ensures kept { KeepsAll self.old self.new }
+        ensures marks { KeepsMarks self.old self.new }
     {
         self.counted.walk_clear();
         self.scripts.walk_clear();
@@ -30,6 +32,7 @@ impl Heaps {
         ensures came { state_in self.new object ≡ entered (state_in self.old object) }
         ensures heap { self.new.heap ≡ self.old.heap }
         ensures kept { KeepsAll self.old self.new }
+        ensures marks { KeepsMarks self.old self.new }
     {
         match object {
             Held::Native(key) => self.counted.walk_add(key),
@@ -44,6 +47,7 @@ impl Heaps {
             (λ object. (state_in self.old object ≡ Waiting) × (self.new ≡ with_state_in self.old object (λ state. Given)) × IsThere self.old (Some object)) }
         ensures heap { self.new.heap ≡ self.old.heap }
         ensures kept { KeepsAll self.old self.new }
+        ensures marks { KeepsMarks self.old self.new }
     {
         if let Some(key) = self.counted.walk_next() {
             return Some(Held::Native(key));

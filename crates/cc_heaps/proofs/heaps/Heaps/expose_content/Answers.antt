@@ -3,7 +3,7 @@ use Rattle.cc_heaps.proofs.ScriptsChanged.{with_objects}
 use Rattle.cc_heaps.proofs.ScriptCalls.{content-exposed, content-kept, nothing-exposed}
 use Rattle.cc_script.specs.Walking.{keys_reached}
 use Rattle.cc_heaps.specs.Fields.{keyed_of}
-use Rattle.cc_heaps.proofs.MarksKept.{marks-same}
+use Rattle.cc_heaps.proofs.MarksKept.{marks-go_on, marks-same}
 use Rattle.cc_heaps.proofs.ScriptWrites.{KeepsObjects-raised, new_mark-raised, marks-written, raise_among}
 use Rattle.cc_heaps.proofs.heaps.Heaps.expose_content.Goals as goal
 
@@ -49,4 +49,4 @@ pub returns-in-Some-clause-marks : goal.returns-in-Some-clause-marks
 returns-in-Some-clause-marks c =
     let p = c.self.inside in
     let keys = keys_reached p.scripts (c.in-Some.key.0 ∷ []) in
-    rw (← c.self.view_is) (marks-written (keyed_of p) (keyed_of (with_objects p c.expose.new.self p.scripts_made)) (raise_among keys) (KeepsObjects-raised keys) (new_mark-raised keys) refl c.expose.ensures)
+    rw (← c.self.view_is) (marks-go_on (marks-written (keyed_of p) (keyed_of (with_objects p c.expose.new.self p.scripts_made)) (raise_among keys) (KeepsObjects-raised keys) (new_mark-raised keys) refl c.expose.ensures))

@@ -10,7 +10,7 @@ use Rattle.cc_heaps.proofs.KeysKept.{KeepsKeys-changed}
 use Rattle.cc_heaps.proofs.Ordered.{IsInOrder-marked}
 use Rattle.cc_heaps.proofs.Owned.{callers-own}
 use Rattle.cc_heaps.proofs.StandingStill.{buffer-goes_on}
-use Rattle.cc_heaps.proofs.MarksKept.{marks-changed}
+use Rattle.cc_heaps.proofs.MarksKept.{marks-changed, marks-stay-changed}
 use Rattle.cc_heaps.proofs.heaps.Heaps.give_back.Goals as goal
 
 pub give_back-requires-clause-owned : goal.give_back-requires-clause-owned
@@ -52,3 +52,6 @@ returns-clause-kept c = record {
 pub returns-clause-stands : goal.returns-clause-stands
 returns-clause-stands c =
     subst (λ (w : Keyed). StillStands c.args.self.now.heap w.heap) (sym (returns-clause-heap c)) ((buffer-goes_on c.args.self.now.heap (suspect c.args.self.now.heap (the_number c.args.self.now c.args.key.0)).buffer).stands)
+
+pub returns-clause-marks : goal.returns-clause-marks
+returns-clause-marks c = marks-stay-changed c.args.self.now _ _ (returns-clause-heap c)

@@ -14,6 +14,7 @@ use Rattle.cc_heaps.proofs.RootNames.{register-there, native-there}
 use Rattle.cc_heaps.proofs.MarkedObjects.{marked_objects, heap-marked, keys-marked, marks-marked, order-marked, linked-marked}
 use Rattle.cc_laws_heap.proofs.Face.{HasColours-marked, marked-stands}
 use Rattle.cc_heaps.proofs.FewCounts.{few-owned}
+use Rattle.cc_heaps.proofs.MarksKept.{marks-go_on}
 use Rattle.cc_heaps.proofs.heaps.Heaps.mark_scripts.Goals as goal
 
 pub new-held-requires : goal.new-held-requires
@@ -62,6 +63,11 @@ invariant_of-self c =
 pub returns-clause-stands : goal.returns-clause-stands
 returns-clause-stands c = rw (returns-clause-heap c) (λ g m t. marked-stands c.args.self.now.heap g c.requires.order.1.sound m t)
 
+pub returns-clause-marks : goal.returns-clause-marks
+returns-clause-marks c =
+    let p = c.self.inside in
+    rw (← c.self.view_is) (subst (λ os. KeepsMarks (keyed_of p) (keyed_of (with_objects p os))) (objects c) (marks-marked p c.self.invariant (rw (← c.self.view_is) at c.requires.order).1))
+
 pub returns-clause-kept : goal.returns-clause-kept
 returns-clause-kept c = record {
   keys = (let p = c.self.inside in
@@ -72,8 +78,7 @@ returns-clause-kept c = record {
   colours = tt;
   fresh = tt;
   suspected = tt;
-  marks = (let p = c.self.inside in
-      rw (← c.self.view_is) (subst (λ os. KeepsMarks (keyed_of p) (keyed_of (with_objects p os))) (objects c) (marks-marked p c.self.invariant (rw (← c.self.view_is) at c.requires.order).1)));
+  marks = marks-go_on (returns-clause-marks c);
 }
 
 pub returns-clause-colours : goal.returns-clause-colours

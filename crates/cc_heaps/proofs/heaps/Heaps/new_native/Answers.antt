@@ -15,7 +15,7 @@ use Rattle.cc_heaps.proofs.FewCounts.{few-owned}
 use Rattle.cc_heaps.proofs.Following.{make_native-keeps}
 use Rattle.cc_heaps.proofs.StandingAfter.{make_native-stands}
 use Rattle.cc_heaps.proofs.Made.{made-is, made-keeps}
-use Rattle.cc_heaps.proofs.MarksKept.{marks-left, marks-then}
+use Rattle.cc_heaps.proofs.MarksKept.{marks-go_on, marks-stay, marks-stay-left, marks-stay-then}
 use Rattle.cc_heaps.proofs.heaps.Heaps.new_native.Goals as goal
 use Rattle.cc_lists.specs.Members.{Among}
 
@@ -49,6 +49,9 @@ returns-in-Ok-clause-name g c = rw (← c.self.view_is)
 pub returns-then-self-natives-clause-kept : goal.returns-then-self-natives-clause-kept
 returns-then-self-natives-clause-kept g c = KeepsAll-same c.args.self.now _ refl
 
+pub returns-in-Ok-clause-marks : goal.returns-in-Ok-clause-marks
+returns-in-Ok-clause-marks g c = marks-stay-then c.put.ensures.marks (marks-stay-left c.put.new.self c.put_in_register.new.self _ c.put_in_register.ensures.heap)
+
 pub returns-in-Ok-clause-kept : goal.returns-in-Ok-clause-kept
 returns-in-Ok-clause-kept g c = record {
   keys = (let mid = c.put.new.self in
@@ -66,7 +69,7 @@ returns-in-Ok-clause-kept g c = record {
   suspected = (let v = c.args.self.now in
       let allowed : v.heap.natives_made < v.heap.limits.natives = rw (← c.self.view_is) (omega (arith, c.if-self-natives.false, c.natives.ensures.same)) in
       subst (KeepsSuspected v.heap) (sym (returns-in-Ok-clause-heap g c)) (make_native-keeps v.heap c.args.r c.args.slots c.requires.within c.requires.slots allowed c.requires.order.1.sound).suspected);
-  marks = marks-then c.put.ensures.marks (marks-left c.put.new.self c.put_in_register.new.self _ c.put_in_register.ensures.heap);
+  marks = marks-go_on (returns-in-Ok-clause-marks g c);
 }
 
 pub returns-in-Ok-clause-stands : goal.returns-in-Ok-clause-stands
@@ -95,3 +98,9 @@ pub returns-in-Err-clause-tells : goal.returns-in-Err-clause-tells
 returns-in-Err-clause-tells g c =
     nothing-told c.args.self.now.heap c.put.new.self.heap (g.N.Notices.telling c.args.out.now)
     (λ x i. subst (λ (w : Keyed). Among x (names_there w.heap)) (sym c.in-Err.ensures.same) i)
+
+pub returns-then-self-natives-clause-marks : goal.returns-then-self-natives-clause-marks
+returns-then-self-natives-clause-marks g c = marks-stay c.args.self.now c.args.self.now refl refl
+
+pub returns-in-Err-clause-marks : goal.returns-in-Err-clause-marks
+returns-in-Err-clause-marks g c = c.put.ensures.marks

@@ -11,7 +11,9 @@ use Rattle.cc_heaps.proofs.FewCounts.{few-owned}
 use Rattle.cc_heaps.proofs.Following.{Keeps, made_by, made_first, make_object-keeps}
 use Rattle.cc_heaps.proofs.KeysKept.{KeepsKeys-preserved}
 use Rattle.cc_heaps.proofs.StandingAfter.{make_object-stands}
-use Rattle.cc_heaps.proofs.MarksKept.{marks-changed, marks-then}
+use Rattle.cc_heaps.proofs.MarksKept.{marks-go_on, marks-stay, marks-stay-changed, marks-stay-then}
+use Rattle.cc_heaps.proofs.Reserved.{marks-unchanged}
+use Rattle.cc_heaps.specs.Marks.{KeepsMarks}
 use Rattle.cc_heaps.proofs.heaps.Heaps.new_object.Goals as goal
 
 pub preserve_delegate-requires-clause-order : goal.preserve_delegate-requires-clause-order
@@ -54,6 +56,13 @@ keeps c =
 pub returns-in-Ok-clause-natives : goal.returns-in-Ok-clause-natives
 returns-in-Ok-clause-natives c = c.write_script_reg.ensures.natives ∙ (ap (λ (w : Keyed). w.keys) c.preserve_delegate.ensures.heap ∙ c.add_object.ensures.natives)
 
+left : (c : goal.After-write_script_reg) → KeepsMarks c.args.self.now c.write_script_reg.new.self
+left c = marks-stay-then c.add_object.ensures.marks
+    (marks-stay-then (marks-stay-changed c.add_object.new.self c.preserve_delegate.new.self _ c.preserve_delegate.ensures.heap) c.write_script_reg.ensures.marks)
+
+pub returns-in-Ok-clause-marks : goal.returns-in-Ok-clause-marks
+returns-in-Ok-clause-marks c = left c
+
 pub returns-in-Ok-clause-kept : goal.returns-in-Ok-clause-kept
 returns-in-Ok-clause-kept c = record {
   keys = (let e = c.write_script_reg.ensures.heap in
@@ -66,8 +75,7 @@ returns-in-Ok-clause-kept c = record {
   colours = (keeps c).follows.colours;
   fresh = (keeps c).follows.fresh;
   suspected = (keeps c).suspected;
-  marks = marks-then c.add_object.ensures.marks
-      (marks-then (marks-changed c.add_object.new.self c.preserve_delegate.new.self _ c.preserve_delegate.ensures.heap) c.write_script_reg.ensures.marks);
+  marks = marks-go_on (left c);
 }
 
 pub returns-in-Ok-clause-stands : goal.returns-in-Ok-clause-stands
@@ -78,3 +86,9 @@ returns-in-Ok-clause-stands c reached =
 
 pub returns-in-Err-clause-kept : goal.returns-in-Err-clause-kept
 returns-in-Err-clause-kept c = KeepsAll-same c.args.self.now _ c.in-Err.ensures.same
+
+pub returns-then-self-scripts-clause-marks : goal.returns-then-self-scripts-clause-marks
+returns-then-self-scripts-clause-marks c = marks-stay c.args.self.now c.args.self.now refl refl
+
+pub returns-in-Err-clause-marks : goal.returns-in-Err-clause-marks
+returns-in-Err-clause-marks c = marks-unchanged c.args.self.now _ c.in-Err.ensures.same

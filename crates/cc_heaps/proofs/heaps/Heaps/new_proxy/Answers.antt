@@ -8,3 +8,6 @@ returns-clause-heap c = on_ok_weaker c.new_object.result (λ e. e ∙ sym (proxy
 
 pub returns-clause-kept : goal.returns-clause-kept
 returns-clause-kept c = c.new_object.ensures.kept
+
+pub returns-clause-marks : goal.returns-clause-marks
+returns-clause-marks c = c.new_object.ensures.marks

@@ -14,8 +14,9 @@ use Rattle.cc_heaps.proofs.Listing.{scripts-limited_to}
 use Rattle.cc_heaps.proofs.Owned.{callers-own}
 use Rattle.cc_heaps.proofs.ReflectingMade.{reflector_made-colours, reflector_made-keeps_fresh, reflector_made-keeps_suspected, reflector_made-stands}
 use Rattle.cc_heaps.proofs.ReflectorMade.{IsReflectorMade, reflector-made}
-use Rattle.cc_heaps.proofs.Reserved.{on-error, reserved-keyed, reserved-linked, with_lists}
+use Rattle.cc_heaps.proofs.Reserved.{on-error, reserved-keyed, reserved-linked, with_lists, marks-unchanged}
 use Rattle.cc_heaps.proofs.ScriptsChanged.{with_objects}
+use Rattle.cc_heaps.proofs.MarksKept.{marks-go_on}
 use Rattle.cc_heaps.proofs.heaps.Heaps.new_reflector.Goals as goal
 
 pub overflow_add-len : goal.overflow_add-len
@@ -119,6 +120,9 @@ returns-clause-stands c reached =
     subst (λ h. StandsAfter v.heap h (λ g. graph.wrapped g (Some (native k)))) (sym (returns-clause-heap c))
     (reflector_made-stands v.heap k c.requires.order.1.sound (number-there c.requires.order.0 v c.args.key.0 c.requires.order.1 c.requires.live) c.requires.lacks reached)
 
+pub returns-clause-marks : goal.returns-clause-marks
+returns-clause-marks c = rw (← is c) ((made c).marks)
+
 pub returns-clause-kept : goal.returns-clause-kept
 returns-clause-kept c = record {
   keys = rw (← is c) ((made c).keys);
@@ -133,5 +137,11 @@ returns-clause-kept c = record {
   suspected = λ reached. (let v = c.args.self.now in
       subst (KeepsSuspected v.heap) (sym (returns-clause-heap c))
       (reflector_made-keeps_suspected v.heap (the_number v c.args.key.0) c.requires.order.1.sound (number-there c.requires.order.0 v c.args.key.0 c.requires.order.1 c.requires.live) c.requires.lacks reached));
-  marks = rw (← is c) ((made c).marks);
+  marks = marks-go_on (returns-clause-marks c);
 }
+
+pub returns-in_err-reserve-clause-marks : goal.returns-in_err-reserve-clause-marks
+returns-in_err-reserve-clause-marks c = marks-unchanged c.args.self.now _ (unchanged c)
+
+pub returns-in_err-made-clause-marks : goal.returns-in_err-made-clause-marks
+returns-in_err-made-clause-marks c = marks-unchanged c.args.self.now _ (still c)

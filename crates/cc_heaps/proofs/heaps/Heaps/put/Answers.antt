@@ -6,7 +6,7 @@ use Rattle.cc_heaps.specs.Fields.{IsLinked}
 use Rattle.cc_heaps.proofs.Linked.{with_counted}
 use Rattle.cc_heaps.proofs.Owned.{callers-own}
 use Rattle.cc_heaps.proofs.Made.{made-keyed, made-fit, made-kept}
-use Rattle.cc_heaps.proofs.MarksKept.{marks-same}
+use Rattle.cc_heaps.proofs.MarksKept.{marks-stay}
 use Rattle.cc_heaps.proofs.heaps.Heaps.put.Goals as goal
 
 pub create-requires-clause-above : goal.create-requires-clause-above
@@ -50,7 +50,7 @@ returns-clause-order c owned =
     e.key e.reflector e.other_reflectors e.as_many c.requires.slots (rw (← c.self.view_is) at c.requires.allowed) e.keyed).order)
 
 pub returns-clause-marks : goal.returns-clause-marks
-returns-clause-marks c = rw (← c.self.view_is) (marks-same _ _ refl refl)
+returns-clause-marks c = rw (← c.self.view_is) (marks-stay _ _ refl refl)
 
 pub returns-in_err-key-clause-marks : goal.returns-in_err-key-clause-marks
-returns-in_err-key-clause-marks c = rw (← c.self.view_is) (marks-same _ _ refl refl)
+returns-in_err-key-clause-marks c = rw (← c.self.view_is) (marks-stay _ _ refl refl)

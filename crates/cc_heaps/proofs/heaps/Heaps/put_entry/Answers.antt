@@ -5,7 +5,7 @@ use Rattle.cc_weakmaps.specs.Entries.{has_value_in}
 use Rattle.cc_heaps.specs.Keyed.{Keyed}
 use Rattle.cc_heaps.proofs.EntriesSet.{becomes-set, map-there, order-set}
 use Rattle.cc_heaps.proofs.EntryNames.{has_value-named}
-use Rattle.cc_heaps.proofs.MarksKept.{marks-same}
+use Rattle.cc_heaps.proofs.MarksKept.{marks-stay}
 use Rattle.cc_heaps.proofs.heaps.Heaps.put_entry.Goals as goal
 
 pub returns-clause-heap : goal.returns-clause-heap
@@ -28,4 +28,4 @@ returns-clause-order c owned =
     (rw (← c.self.view_is) at c.requires.key) c.args.value.0 (rw (← c.self.view_is) at c.requires.value) (option_map (λ k. k.0) c.delegate.result) c.delegate.ensures.delegate c.set.new.self c.set.result c.set.ensures.entries c.set.ensures.err)
 
 pub returns-clause-marks : goal.returns-clause-marks
-returns-clause-marks c = rw (← c.self.view_is) (marks-same _ _ refl refl)
+returns-clause-marks c = rw (← c.self.view_is) (marks-stay _ _ refl refl)

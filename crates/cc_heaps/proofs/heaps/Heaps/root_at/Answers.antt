@@ -11,3 +11,9 @@ returns-in-Script-clause-told g c = rw c.in-Script.is (silent-told c.root_script
 pub returns-in-Script-clause-tells : goal.returns-in-Script-clause-tells
 returns-in-Script-clause-tells g c =
     nothing-told c.args.self.now.heap c.root_script_at.new.self.heap (g.N.Notices.telling c.args.out.now) c.root_script_at.ensures.left
+
+pub returns-in-Native-clause-marks : goal.returns-in-Native-clause-marks
+returns-in-Native-clause-marks g c = λ natives. c.root_native_at.ensures.marks
+
+pub returns-in-Script-clause-marks : goal.returns-in-Script-clause-marks
+returns-in-Script-clause-marks g c = rw c.in-Script.is (λ natives. absurd natives)

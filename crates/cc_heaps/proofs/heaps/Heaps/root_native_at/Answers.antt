@@ -14,6 +14,8 @@ use Rattle.cc_heaps.proofs.Kept.{KeepsAll-same}
 use Rattle.cc_heaps.proofs.Leaving.{nothing-told}
 use Rattle.cc_heaps.proofs.Lengthened.{has-place, kept-longer, order-longer, reached-longer, stands-longer, tells-longer}
 use Rattle.cc_heaps.proofs.StandingAfter.{reached-may_be_held}
+use Rattle.cc_heaps.proofs.MarksKept.{marks-stay-then, marks-stay-changed}
+use Rattle.cc_heaps.proofs.Reserved.{marks-unchanged}
 use Rattle.cc_heaps.proofs.heaps.Heaps.root_native_at.Goals as goal
 
 -- a bank may be as long
@@ -76,3 +78,9 @@ pub returns-in_err-reach_native_reg-clause-tells : goal.returns-in_err-reach_nat
 returns-in_err-reach_native_reg-clause-tells g c =
     nothing-told c.args.self.now.heap c.reach_native_reg.new.self.heap (g.N.Notices.telling c.args.out.now)
     (λ x i. subst (λ (u : Keyed). Among x (names_there u.heap)) (sym c.in_err-reach_native_reg.ensures.same) i)
+
+pub returns-clause-marks : goal.returns-clause-marks
+returns-clause-marks g c = marks-stay-then (marks-stay-changed c.args.self.now c.reach_native_reg.new.self _ c.in_ok-reach_native_reg.ensures.heap) c.set_native_reg.ensures.marks
+
+pub returns-in_err-reach_native_reg-clause-marks : goal.returns-in_err-reach_native_reg-clause-marks
+returns-in_err-reach_native_reg-clause-marks g c = marks-unchanged c.args.self.now _ c.in_err-reach_native_reg.ensures.same

@@ -9,7 +9,7 @@ use Rattle.cc_heaps.proofs.EntriesFollow.{SetKeeps, entry-keeps, set-preserved}
 use Rattle.cc_heaps.proofs.EntriesSet.{map-there}
 use Rattle.cc_heaps.proofs.FewCounts.{few-owned}
 use Rattle.cc_heaps.proofs.Following.{held_name-black}
-use Rattle.cc_heaps.proofs.MarksKept.{marks-changed, marks-then}
+use Rattle.cc_heaps.proofs.MarksKept.{marks-go_on, marks-stay-changed, marks-stay-then}
 use Rattle.cc_heaps.proofs.heaps.Heaps.set_entry.Goals as goal
 
 -- Memory was wanting
@@ -45,6 +45,9 @@ returns-clause-heap c = heap-is c
 pub returns-clause-stands : goal.returns-clause-stands
 returns-clause-stands c = (keeps c).stands
 
+pub returns-clause-marks : goal.returns-clause-marks
+returns-clause-marks c = marks-stay-then c.put_entry.ensures.marks (marks-stay-changed c.put_entry.new.self c.preserve.new.self _ c.preserve.ensures.heap)
+
 pub returns-clause-kept : goal.returns-clause-kept
 returns-clause-kept c = record {
   keys = KeepsKeys-held c.args.self.now c.preserve.new.self
@@ -57,5 +60,8 @@ returns-clause-kept c = record {
       let f = c.requires.order in
       (keeps c).fresh (held_name-black f.0 v f.1 (Some (held.Script c.args.key)) b.0) (held_name-black f.0 v f.1 (Some (held.Script c.args.value)) b.1));
   suspected = (keeps c).suspected;
-  marks = marks-then c.put_entry.ensures.marks (marks-changed c.put_entry.new.self c.preserve.new.self _ c.preserve.ensures.heap);
+  marks = marks-go_on (returns-clause-marks c);
 }
+
+pub returns-in_err-put_entry-clause-marks : goal.returns-in_err-put_entry-clause-marks
+returns-in_err-put_entry-clause-marks c = c.put_entry.ensures.marks

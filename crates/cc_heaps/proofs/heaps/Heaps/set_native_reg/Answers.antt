@@ -17,7 +17,7 @@ use Rattle.cc_heaps.proofs.Following.{Keeps, hold_native-keeps}
 use Rattle.cc_heaps.proofs.KeysKept.{KeepsKeys-left}
 use Rattle.cc_heaps.proofs.StandingAfter.{native_register-stands}
 use Rattle.cc_heaps.proofs.Content.{held_of_native-name, native-in}
-use Rattle.cc_heaps.proofs.MarksKept.{marks-left}
+use Rattle.cc_heaps.proofs.MarksKept.{marks-left, marks-stay-left}
 use Rattle.cc_heaps.proofs.heaps.Heaps.set_native_reg.Given as given
 use Rattle.cc_heaps.proofs.heaps.Heaps.set_native_reg.Goals as goal
 
@@ -94,3 +94,6 @@ returns-clause-tells g c =
     hold_native-tells f.0 v w c.args.r (native_name v c.args.content) c.requires.within (native-in f.0 v c.args.content f.1) f.1
     (g.N.Notices.telling c.args.out.now) (g.N.Notices.telling c.put_in_register.new.out)
     (returns-clause-heap g c) ((returns-clause-kept g c).order f.0 f.1) (returns-clause-told g c)
+
+pub returns-clause-marks : goal.returns-clause-marks
+returns-clause-marks g c = marks-stay-left c.args.self.now c.put_in_register.new.self _ (returns-clause-heap g c)

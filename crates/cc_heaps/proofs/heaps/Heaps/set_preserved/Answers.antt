@@ -10,7 +10,7 @@ use Rattle.cc_heaps.proofs.Calls.{changed-keyed, changed-linked, preserve-change
 use Rattle.cc_heaps.proofs.FewCounts.{few-owned}
 use Rattle.cc_heaps.proofs.Ordered.{IsInOrder-preserved}
 use Rattle.cc_heaps.proofs.ReflectingPreserved.{preserved-colours, preserved-fresh, preserved-stands, preserved-suspected}
-use Rattle.cc_heaps.proofs.MarksKept.{marks-changed}
+use Rattle.cc_heaps.proofs.MarksKept.{marks-changed, marks-stay-changed}
 use Rattle.cc_heaps.proofs.heaps.Heaps.set_preserved.Goals as goal
 
 pub invariant_of-self : goal.invariant_of-self
@@ -50,3 +50,6 @@ returns-clause-kept c = record {
       (preserved-suspected v.heap k c.requires.order.1.sound (has_reflector-there v.heap k c.requires.has)));
   marks = marks-changed c.args.self.now _ _ (returns-clause-heap c);
 }
+
+pub returns-clause-marks : goal.returns-clause-marks
+returns-clause-marks c = marks-stay-changed c.args.self.now _ _ (returns-clause-heap c)

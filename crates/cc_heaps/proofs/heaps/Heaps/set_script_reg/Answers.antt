@@ -9,7 +9,7 @@ use Rattle.cc_heaps.proofs.Kept.{KeepsKeys-on}
 use Rattle.cc_heaps.proofs.FewCounts.{few-owned}
 use Rattle.cc_heaps.proofs.Following.{Keeps, hold_script-keeps, script_name-there}
 use Rattle.cc_heaps.proofs.StandingAfter.{script_register-stands}
-use Rattle.cc_heaps.proofs.MarksKept.{marks-then}
+use Rattle.cc_heaps.proofs.MarksKept.{marks-go_on, marks-then}
 use Rattle.cc_heaps.proofs.heaps.Heaps.set_script_reg.Goals as goal
 
 pub write_script_reg-requires-clause-within : goal.write_script_reg-requires-clause-within
@@ -45,7 +45,7 @@ returns-clause-kept c = record {
   colours = (keeps c).follows.colours;
   fresh = (keeps c).follows.fresh;
   suspected = (keeps c).suspected;
-  marks = marks-then c.expose_content.ensures.marks c.write_script_reg.ensures.marks;
+  marks = marks-then c.expose_content.ensures.marks (marks-go_on c.write_script_reg.ensures.marks);
 }
 
 pub returns-clause-stands : goal.returns-clause-stands

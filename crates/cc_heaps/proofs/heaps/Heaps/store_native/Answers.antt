@@ -18,7 +18,7 @@ use Rattle.cc_heaps.proofs.FewCounts.{few-owned}
 use Rattle.cc_heaps.proofs.Following.{Follows, held-follows, held-remembers, within-named, held-colours}
 use Rattle.cc_heaps.proofs.KeysKept.{KeepsKeys-left}
 use Rattle.cc_heaps.proofs.StandingAfter.{native_slot-stands}
-use Rattle.cc_heaps.proofs.MarksKept.{marks-left}
+use Rattle.cc_heaps.proofs.MarksKept.{marks-left, marks-stay-left}
 use Rattle.cc_heaps.proofs.heaps.Heaps.store_native.Given as given
 use Rattle.cc_heaps.proofs.heaps.Heaps.store_native.Goals as goal
 
@@ -127,3 +127,6 @@ returns-clause-tells g c =
     stored-tells f.0 v w k c.args.i (held_name v c.args.content) (within-named v c.args.key.0 c.args.i c.requires.within) (held-in f.0 v c.args.content f.1) f.1
     (returns-clause-heap g c) (g.N.Notices.telling c.args.out.now) (g.N.Notices.telling c.let_go.new.out)
     (in_order g c f.0 f.1) (returns-clause-told g c)
+
+pub returns-clause-marks : goal.returns-clause-marks
+returns-clause-marks g c = marks-stay-left c.args.self.now c.let_go.new.self _ (returns-clause-heap g c)

@@ -1,4 +1,4 @@
-use Rattle.std.proofs.Common.{◌≡◌, true, false, sym, ◌∙◌, ap, subst}
+use Rattle.std.proofs.Common.{◌≡◌, true, false, sym, ◌∙◌, ap, subst, refl}
 use Rattle.cc_model.specs.Skipping.{unmarked}
 use Rattle.cc_counted.specs.Suspects.{is_in_buffer}
 use Rattle.cc_heaps.specs.Keyed.{Keyed, IsInOrder, changed_to, the_number}
@@ -7,6 +7,7 @@ use Rattle.cc_heaps.specs.Standing.{StillStands}
 use Rattle.cc_heaps.proofs.Calls.{changed-keyed, changed-linked, mark-changes}
 use Rattle.cc_heaps.proofs.StandingStill.{buffer-goes_on}
 use Rattle.cc_heaps.proofs.Unmarking.{absent-unmarked, touched-unmarked, unmarked-keeps}
+use Rattle.cc_heaps.proofs.MarksKept.{marks-stay-changed, marks-stay}
 use Rattle.cc_heaps.proofs.heaps.Heaps.unmark.Goals as goal
 
 pub invariant_of-self : goal.invariant_of-self
@@ -41,3 +42,9 @@ returns-else-in_buffer-clause-heap c =
 
 pub returns-else-in_buffer-clause-kept : goal.returns-else-in_buffer-clause-kept
 returns-else-in_buffer-clause-kept c = unmarked-keeps c.args.self.now c.args.self.now c.args.key.0 c.requires.live c.requires.owned (returns-else-in_buffer-clause-heap c)
+
+pub returns-then-in_buffer-clause-marks : goal.returns-then-in_buffer-clause-marks
+returns-then-in_buffer-clause-marks c = marks-stay-changed c.args.self.now _ _ (returns-then-in_buffer-clause-heap c)
+
+pub returns-else-in_buffer-clause-marks : goal.returns-else-in_buffer-clause-marks
+returns-else-in_buffer-clause-marks c = marks-stay c.args.self.now c.args.self.now refl refl

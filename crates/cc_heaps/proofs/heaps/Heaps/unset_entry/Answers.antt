@@ -6,7 +6,7 @@ use Rattle.cc_heaps.proofs.Kept.{KeepsKeys-held}
 use Rattle.cc_heaps.proofs.EntriesFollow.{SetKeeps, entry-keeps}
 use Rattle.cc_heaps.proofs.EntriesSet.{becomes-unset, with_weak}
 use Rattle.cc_heaps.proofs.FewCounts.{few-owned}
-use Rattle.cc_heaps.proofs.MarksKept.{marks-same}
+use Rattle.cc_heaps.proofs.MarksKept.{marks-go_on, marks-stay}
 use Rattle.cc_heaps.proofs.heaps.Heaps.unset_entry.Goals as goal
 
 pub returns-clause-heap : goal.returns-clause-heap
@@ -26,6 +26,9 @@ keeps c =
 pub returns-clause-stands : goal.returns-clause-stands
 returns-clause-stands c the_map key = (keeps c).stands the_map key tt
 
+pub returns-clause-marks : goal.returns-clause-marks
+returns-clause-marks c = rw (← c.self.view_is) (marks-stay (keyed_of c.self.inside) (keyed_of (with_weak c.self.inside c.unset.new.self)) refl refl)
+
 pub returns-clause-kept : goal.returns-clause-kept
 returns-clause-kept c = record {
   keys = rw (← c.self.view_is) (KeepsKeys-held (keyed_of c.self.inside) (keyed_of (with_weak c.self.inside c.unset.new.self)) refl refl);
@@ -34,5 +37,5 @@ returns-clause-kept c = record {
   colours = (keeps c).colours;
   fresh = (keeps c).fresh_without refl;
   suspected = (keeps c).suspected;
-  marks = rw (← c.self.view_is) (marks-same (keyed_of c.self.inside) (keyed_of (with_weak c.self.inside c.unset.new.self)) refl refl);
+  marks = marks-go_on (returns-clause-marks c);
 }

@@ -46,3 +46,9 @@ returns-in-Script-clause-heap c = rw (← c.self.view_is) (of-script c).heap
 
 pub returns-in-Script-clause-kept : goal.returns-in-Script-clause-kept
 returns-in-Script-clause-kept c = rw (← c.self.view_is) (of-script c).kept
+
+pub returns-in-Native-clause-marks : goal.returns-in-Native-clause-marks
+returns-in-Native-clause-marks c = rw (← c.self.view_is) (of-native c).marks
+
+pub returns-in-Script-clause-marks : goal.returns-in-Script-clause-marks
+returns-in-Script-clause-marks c = rw (← c.self.view_is) (of-script c).marks

@@ -17,3 +17,6 @@ returns-clause-heap c = rw (← c.self.view_is) (done c).heap
 
 pub returns-clause-kept : goal.returns-clause-kept
 returns-clause-kept c = rw (← c.self.view_is) (done c).kept
+
+pub returns-clause-marks : goal.returns-clause-marks
+returns-clause-marks c = rw (← c.self.view_is) (done c).marks

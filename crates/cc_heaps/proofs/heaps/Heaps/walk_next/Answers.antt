@@ -38,3 +38,11 @@ pub returns-clause-kept : goal.returns-clause-kept
 returns-clause-kept c =
     rw (← c.self.view_is) (script-next c.self.inside c.self.invariant c.walk_next.new.self c.in_default.ensures.next.1 c.in_default.ensures.next.0 c.walk_next-2.new.self c.walk_next-2.result
     c.walk_next-2.ensures.some c.walk_next-2.ensures.none).kept
+
+pub returns-in-Some-clause-marks : goal.returns-in-Some-clause-marks
+returns-in-Some-clause-marks c = rw (← c.self.view_is) (native-next c.self.inside c.self.invariant c.in-Some.key c.walk_next.new.self c.in-Some.ensures.next).marks
+
+pub returns-clause-marks : goal.returns-clause-marks
+returns-clause-marks c =
+    rw (← c.self.view_is) (script-next c.self.inside c.self.invariant c.walk_next.new.self c.in_default.ensures.next.1 c.in_default.ensures.next.0 c.walk_next-2.new.self c.walk_next-2.result
+    c.walk_next-2.ensures.some c.walk_next-2.ensures.none).marks

@@ -1,6 +1,6 @@
 use Rattle.std.proofs.Common.{refl}
 use Rattle.cc_heaps.proofs.ScriptCalls.{becomes-register}
-use Rattle.cc_heaps.proofs.MarksKept.{marks-same}
+use Rattle.cc_heaps.proofs.MarksKept.{marks-stay}
 use Rattle.cc_heaps.proofs.heaps.Heaps.write_script_reg.Goals as goal
 
 pub returns-clause-heap : goal.returns-clause-heap
@@ -15,4 +15,4 @@ pub invariant_of-self : goal.invariant_of-self
 invariant_of-self c = (becomes-register c.self.inside c.self.invariant (rw (← c.self.view_is) at c.requires.order).1 c.args.r c.args.content (rw (← c.self.view_is) at c.requires.there)).linked
 
 pub returns-clause-marks : goal.returns-clause-marks
-returns-clause-marks c = rw (← c.self.view_is) (marks-same _ _ refl refl)
+returns-clause-marks c = rw (← c.self.view_is) (marks-stay _ _ refl refl)
