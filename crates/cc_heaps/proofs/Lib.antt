@@ -65,6 +65,7 @@ pub mod Raised
 pub mod RaisedEach
 pub mod ScannedOne
 pub mod RemarkedHeaps
+pub mod ExposedMarks
 pub mod BegunNew
 pub mod RootsInOrder
 pub mod EndedMarks

@@ -1,5 +1,5 @@
 //! What a marking in slices has yet to scan.
-ghost use Rattle.std.specs.Prelude.{◌≡◌, ◌≤◌, [], None, Some, IfSome, MatchOption, OnOk, option_map};
+ghost use Rattle.std.specs.Prelude.{◌≡◌, ◌≤◌, [], None, Some, IfSome, MatchOption, OnOk, is_some, option_map};
 ghost use Rattle.std.specs.VecDeque.{deque_capacity};
 ghost use Rattle.cc_heaps.specs.ToScan.{HasMoreRoom, HasRoom, HasRoomFor, HasSameRoom, listed_last, nothing_listed, with_black, with_gray};
 
@@ -47,6 +47,13 @@ impl ToScan {
             black: VecDeque::new(alloc),
             gray: VecDeque::new(alloc),
         }
+    }
+
+    /// Whether a marking goes on.
+    pub(crate) fn goes_on(&self) -> bool
+        ensures { result ≡ is_some self.now.marking }
+    {
+        self.goes_on
     }
 
     /// Room for so many objects in each list. What they hold stays, whatever comes of it.

@@ -1,5 +1,5 @@
 //! Native registers and slots of natives written.
-ghost use Rattle.std.specs.Prelude.{◌≡◌, ◌<◌, ◌≤◌, ℕ, List, ◌∷◌, ◌++◌, length, map, slice_index_or, Some, None, IsSome, ◌+◌};
+ghost use Rattle.std.specs.Prelude.{◌≡◌, ◌<◌, ◌≤◌, ℕ, List, ◌∷◌, ◌++◌, length, map, slice_index_or, Some, None, IsSome, ◌+◌, option_map};
 ghost use Rattle.cc_names.specs.Names.{native};
 ghost use Rattle.cc_names.specs.declared.register.Reg.TheVariants.{N as n_register};
 ghost use Rattle.cc_model.specs.Heap.{native_at, register, set_register, set_slot, touch};
@@ -16,6 +16,8 @@ ghost use Rattle.cc_heaps.specs.Changes.{IsNativeThere, IsThere, KeepsKeys, held
 ghost use Rattle.cc_heaps.specs.Standing.{IsReached, MayBeHeld, StandsAfter};
 ghost use Rattle.cc_heaps.specs.Few.{AreOwnedOnce};
 ghost use Rattle.cc_heaps.specs.Marks.{KeepsMarks, MarksGoOn};
+ghost use Rattle.cc_heaps.specs.NewMarks.{marks_of};
+ghost use Rattle.cc_model.specs.Marking.{exposed_marks};
 ghost use Rattle.cc_heaps.specs.Keeping.{KeepsAll, KeepsAllIf, KeepsAllIfReached};
 ghost use Rattle.cc_heaps.specs.Leaving.{TellsWhatIsFreed};
 
@@ -180,6 +182,7 @@ impl Heaps {
         ensures natives { self.new.keys ≡ self.old.keys }
         ensures keys { KeepsKeys self.old self.new }
         ensures marks { MarksGoOn self.old self.new }
+        ensures marking { marks_of self.new ≡ option_map (exposed_marks self.old.heap (held_name self.old content)) (marks_of self.old) }
         ensures order { (owned : List ℕ) → IsInOrder owned self.old → IsInOrder owned self.new }
     {
         match content {
@@ -198,6 +201,7 @@ impl Heaps {
         ensures natives { self.new.keys ≡ self.old.keys }
         ensures keys { KeepsKeys self.old self.new }
         ensures marks { MarksGoOn self.old self.new }
+        ensures marking { marks_of self.new ≡ option_map (exposed_marks self.old.heap (slot_held self.old.heap (the_number self.old key.0) j)) (marks_of self.old) }
         ensures name { held_name self.new result ≡ slot_held self.old.heap (the_number self.old key.0) j }
         ensures there { IsThere self.new result }
         ensures order { (owned : List ℕ) → IsInOrder owned self.old → IsInOrder (numbers_of (held_name self.new result) ++ owned) self.new }
@@ -211,7 +215,7 @@ impl Heaps {
     /// one place nothing moves, but what is there is touched or exposed.
     ///
     /// What moves is seen by a collection that runs: a native stands in the buffer without the purple mark, a script object
-    /// is black, with all that an exposure makes black. Then it leaves slot `j`, and its reference goes into slot `i`, so no
+    /// is black, with all that an exposure makes black, by the new mark too where a marking goes on in slices. Then it leaves slot `j`, and its reference goes into slot `i`, so no
     /// count changes; then what slot `i` held is given up with all that it deletes. Takes no memory.
     ///
     /// A move can leave natives unreached that only hold each other, and to be touched is no suspicion: none is forgotten
@@ -230,6 +234,7 @@ impl Heaps {
         ensures tells { TellsWhatIsFreed self.old.heap self.new.heap (N.telling out.old) (N.telling out.new) }
         ensures kept { KeepsAllIfReached
             (IsReached (taken_from self.old.heap (the_number self.old from.0) j) (Some (native (the_number self.old to.0)))) self.old self.new }
+        ensures marking { marks_of self.new ≡ option_map (exposed_marks self.old.heap (slot_held self.old.heap (the_number self.old from.0) j)) (marks_of self.old) }
         ensures stands { IsReached self.old.heap (Some (native (the_number self.old to.0))) → IsReached self.old.heap (Some (native (the_number self.old from.0))) →
             StandsAfter self.old.heap self.new.heap (λ g. graph.move_slot g (Some (native (the_number self.old to.0))) i
             (Some (native (the_number self.old from.0))) j (slot_held self.old.heap (the_number self.old from.0) j)) }

@@ -1,5 +1,5 @@
 //! Roots at places of their bank. The place may lie beyond the registers that commands can name: then the bank is lengthened.
-ghost use Rattle.std.specs.Prelude.{◌≡◌, ◌+◌, ◌-◌, ◌<◌, ◌≤◌, ◌++◌, ℕ, List, None, replicate, length, is_ok, OnOk, OnErr, if◌then◌else◌};
+ghost use Rattle.std.specs.Prelude.{◌≡◌, ◌+◌, ◌-◌, ◌<◌, ◌≤◌, ◌++◌, ℕ, List, None, replicate, length, is_ok, OnOk, OnErr, if◌then◌else◌, option_map};
 ghost use Rattle.cc_names.specs.Sizes.{most_roots};
 ghost use Rattle.cc_names.specs.declared.register.Reg.TheVariants.{N as n_register, S as s_register};
 ghost use Rattle.cc_model.specs.Banks.{of_natives, of_scripts};
@@ -13,6 +13,8 @@ ghost use Rattle.cc_heaps.specs.Rooting.{IsOfNatives, IsRootedThere, MayBeRooted
 ghost use Rattle.cc_heaps.specs.Standing.{IsReached, IsReachedOrReflects, StandsAfter};
 ghost use Rattle.cc_heaps.specs.Few.{AreOwnedOnce};
 ghost use Rattle.cc_heaps.specs.Marks.{KeepsMarks};
+ghost use Rattle.cc_heaps.specs.NewMarks.{marks_of};
+ghost use Rattle.cc_model.specs.Marking.{exposed_marks};
 ghost use Rattle.cc_heaps.specs.Keeping.{KeepsAll};
 ghost use Rattle.cc_heaps.specs.Leaving.{NothingLeft, TellsWhatIsFreed};
 
@@ -93,6 +95,7 @@ impl Heaps {
         ensures tells { TellsWhatIsFreed self.old.heap self.new.heap (N.telling out.old) (N.telling out.new) }
         ensures kept { KeepsAll self.old self.new }
         ensures marks { KeepsMarks self.old self.new }
+        ensures marking { marks_of self.new ≡ marks_of self.old }
         ensures same { OnErr result (self.new ≡ self.old) }
         ensures silent { OnErr result (N.telling out.new ≡ N.telling out.old) }
         ensures beyond { OnErr result (length self.old.heap.native_registers ≤ place) }
@@ -112,6 +115,7 @@ impl Heaps {
         ensures heap { OnOk result (self.new.heap ≡ (root_at self.old.heap (s_register place) (script_name self.old content)).heap) }
         ensures left { NothingLeft self.old.heap self.new.heap }
         ensures kept { KeepsAll self.old self.new }
+        ensures marking { OnOk result (marks_of self.new ≡ option_map (exposed_marks self.old.heap (script_name self.old content)) (marks_of self.old)) }
         ensures same { OnErr result (self.new ≡ self.old) }
         ensures beyond { OnErr result (length self.old.heap.script_registers ≤ place) }
         ensures stands { OnOk result (IsReachedOrReflects self.old.heap (script_name self.old content) →
@@ -126,7 +130,7 @@ impl Heaps {
     /// the bank's end the bank is lengthened up to it: a register takes 8 bytes.
     ///
     /// What the place held is given up as by `set_native_reg`, and what comes into a script register is exposed as by
-    /// `set_script_reg`. `NoMemory` changes nothing.
+    /// `set_script_reg`, by the new mark too where a marking goes on in slices. `NoMemory` changes nothing.
     pub fn root_at<N: Notices>(
         &mut self,
         place: RegNo,
@@ -141,6 +145,7 @@ impl Heaps {
         ensures tells { TellsWhatIsFreed self.old.heap self.new.heap (N.telling out.old) (N.telling out.new) }
         ensures kept { KeepsAll self.old self.new }
         ensures marks { IsOfNatives content → KeepsMarks self.old self.new }
+        ensures marking { OnOk result (marks_of self.new ≡ option_map (exposed_marks self.old.heap (rooted_name self.old content)) (marks_of self.old)) }
         ensures same { OnErr result (self.new ≡ self.old) }
         ensures silent { OnErr result (N.telling out.new ≡ N.telling out.old) }
         ensures beyond { OnErr result (length (bank_rooted self.old.heap content) ≤ place) }

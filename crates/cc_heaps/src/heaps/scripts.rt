@@ -1,5 +1,5 @@
 //! Script objects made, held, written and exposed.
-ghost use Rattle.std.specs.Prelude.{◌≡◌, ◌+◌, ◌<◌, ◌≤◌, ◌++◌, ◌∷◌, ℕ, List, [], false, length, Some, Err, IsTrue, IfOk, IfSome, OnOk, OnErr, nat_le};
+ghost use Rattle.std.specs.Prelude.{◌≡◌, ◌+◌, ◌<◌, ◌≤◌, ◌++◌, ◌∷◌, ℕ, List, [], false, length, Some, Err, IsTrue, IfOk, IfSome, OnOk, OnErr, nat_le, option_map};
 ghost use Rattle.cc_names.specs.declared.kind.Colour.TheVariants.{Black};
 ghost use Rattle.cc_names.specs.declared.kind.Kind.TheVariants.{Map, Plain};
 ghost use Rattle.cc_names.specs.declared.register.Reg.TheVariants.{S as s_register};
@@ -8,6 +8,7 @@ ghost use Rattle.cc_names.specs.Sizes.{most_slots};
 ghost use Rattle.cc_model.specs.Heap.{preserve, set_register, set_slot};
 ghost use Rattle.cc_model.specs.Effects.{hold_script, make_object, make_proxy, with_object};
 ghost use Rattle.cc_model.specs.Exposure.{exposed};
+ghost use Rattle.cc_model.specs.Marking.{exposed_marks};
 ghost use Rattle.cc_model.specs.declared.command.Command.TheVariants as command;
 ghost use Rattle.cc_model.specs.Graph as graph;
 ghost use Rattle.cc_script.specs.Objects.{colour_at, is_there, name_at, slots_at};
@@ -17,6 +18,7 @@ ghost use Rattle.cc_heaps.specs.Changes.{IsScriptThere, KeepsKeys, script_name};
 ghost use Rattle.cc_heaps.specs.Standing.{IsReached, IsReachedOrReflects, MayHold, StandsAfter, StillStands};
 ghost use Rattle.cc_heaps.specs.Marks.{KeepsMarks, MarksGoOn};
 ghost use Rattle.cc_heaps.specs.Keeping.{KeepsAll};
+ghost use Rattle.cc_heaps.specs.NewMarks.{IsRemarked, marks_of};
 
 use crate::heaps::Heaps;
 use crate::heaps::to_make::ToMake;
@@ -53,6 +55,37 @@ impl Heaps {
         self.script_registers[r as usize] = content;
     }
 
+    // A script object that is exposed is black by the new mark, where a marking goes on, with all that it reaches past objects that
+    // are not black so.
+    fn expose_new(&mut self, key: SKey)
+        requires order { (owned : List ℕ) × IsInOrder owned self.old }
+        requires live { IsTrue (is_there self.old.scripts key.0) }
+        ensures marking { marks_of self.new ≡ option_map (exposed_marks self.old.heap (name_at self.old.scripts key.0)) (marks_of self.old) }
+        ensures heap { self.new.heap ≡ self.old.heap }
+        ensures natives { self.new.keys ≡ self.old.keys }
+        ensures same { IsRemarked self.old.scripts self.new.scripts }
+        ensures marks { MarksGoOn self.old self.new }
+        ensures order { (owned : List ℕ) → IsInOrder owned self.old → IsInOrder owned self.new }
+    {
+        if self.to_scan.goes_on() {
+            self.scripts.expose_new(key);
+        }
+    }
+
+    // A script object that is exposed is black, with all that it reaches.
+    fn expose_colours(&mut self, key: SKey)
+        requires order { (owned : List ℕ) × IsInOrder owned self.old }
+        requires live { IsTrue (is_there self.old.scripts key.0) }
+        ensures heap { self.new.heap ≡ exposed self.old.heap (name_at self.old.scripts key.0) }
+        ensures natives { self.new.keys ≡ self.old.keys }
+        ensures names { (k : ℕ) → name_at self.new.scripts k ≡ name_at self.old.scripts k }
+        ensures marks { KeepsMarks self.old self.new }
+        ensures marking { marks_of self.new ≡ marks_of self.old }
+        ensures order { (owned : List ℕ) → IsInOrder owned self.old → IsInOrder owned self.new }
+    {
+        self.scripts.expose(key);
+    }
+
     // What comes into a script register exposed.
     fn expose_content(&mut self, content: Option<SKey>)
         requires order { (owned : List ℕ) × IsInOrder owned self.old }
@@ -61,12 +94,14 @@ impl Heaps {
         ensures natives { self.new.keys ≡ self.old.keys }
         ensures keys { KeepsKeys self.old self.new }
         ensures marks { MarksGoOn self.old self.new }
+        ensures marking { marks_of self.new ≡ option_map (exposed_marks self.old.heap (script_name self.old content)) (marks_of self.old) }
         ensures name { script_name self.new content ≡ script_name self.old content }
         ensures there { IsScriptThere self.new content }
         ensures order { (owned : List ℕ) → IsInOrder owned self.old → IsInOrder owned self.new }
     {
         if let Some(key) = content {
-            self.scripts.expose(key);
+            self.expose_new(key);
+            self.expose_colours(key);
         }
     }
 
@@ -207,7 +242,8 @@ impl Heaps {
     }
 
     /// Register `r` holds a script object from then on, or nothing. What comes into it is exposed: it is black, with all
-    /// that it reaches over slots and from proxies to their delegates. Takes no memory.
+    /// that it reaches over slots and from proxies to their delegates. Where a marking goes on in slices it is black by the new mark
+    /// too, with all that it reaches so past objects that are not black by it. Takes no memory.
     pub fn set_script_reg(&mut self, r: RegNo, content: Option<SKey>)
         requires within { r < length self.old.heap.script_registers }
         requires order { (owned : List ℕ) × IsInOrder owned self.old }
@@ -215,6 +251,7 @@ impl Heaps {
         ensures heap { self.new.heap ≡ hold_script self.old.heap r (script_name self.old content) }
         ensures natives { self.new.keys ≡ self.old.keys }
         ensures kept { KeepsAll self.old self.new }
+        ensures marking { marks_of self.new ≡ option_map (exposed_marks self.old.heap (script_name self.old content)) (marks_of self.old) }
         ensures stands { IsReachedOrReflects self.old.heap (script_name self.old content) →
             StandsAfter self.old.heap self.new.heap (λ g. graph.set_register g (s_register r) (script_name self.old content)) }
     {
@@ -244,13 +281,15 @@ impl Heaps {
     }
 
     /// A script object that script touches is black from then on, with all that it reaches over slots and from proxies to
-    /// their delegates: neither through natives nor over anything else. Takes no memory.
+    /// their delegates: neither through natives nor over anything else. Where a marking goes on in slices it is black by the new mark
+    /// too, with all that it reaches so past objects that are not black by it, whatever their colours are. Takes no memory.
     pub fn expose(&mut self, key: SKey)
         requires order { (owned : List ℕ) × IsInOrder owned self.old }
         requires live { IsTrue (is_there self.old.scripts key.0) }
         ensures heap { self.new.heap ≡ exposed self.old.heap (name_at self.old.scripts key.0) }
         ensures natives { self.new.keys ≡ self.old.keys }
         ensures kept { KeepsAll self.old self.new }
+        ensures marking { marks_of self.new ≡ option_map (exposed_marks self.old.heap (name_at self.old.scripts key.0)) (marks_of self.old) }
         ensures stands { StillStands self.old.heap self.new.heap }
     {
         self.expose_content(Some(key));

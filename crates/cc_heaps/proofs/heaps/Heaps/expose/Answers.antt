@@ -26,3 +26,6 @@ pub returns-clause-stands : goal.returns-clause-stands
 returns-clause-stands c =
     let v = c.args.self.now in
     subst (StillStands v.heap) (sym c.expose_content.ensures.heap) (exposed-still v.heap (name_at v.scripts c.args.key.0) c.requires.order.1.sound)
+
+pub returns-clause-marking : goal.returns-clause-marking
+returns-clause-marking c = c.expose_content.ensures.marking

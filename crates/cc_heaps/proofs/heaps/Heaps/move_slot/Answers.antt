@@ -1,4 +1,4 @@
-use Rattle.std.proofs.Common.{ℕ, List, get_or, Some, None, IsSome, sym, subst}
+use Rattle.std.proofs.Common.{ℕ, List, get_or, Some, None, IsSome, sym, subst, ap, ◌∙◌}
 use Rattle.cc_names.specs.Names.{native}
 use Rattle.cc_model.specs.Graph as graph
 use Rattle.cc_model.specs.Heap.{Heap, Outcome}
@@ -10,6 +10,7 @@ use Rattle.cc_heaps.specs.Standing.{StandsAfter}
 use Rattle.cc_heaps.proofs.FewCounts.{few-owned}
 use Rattle.cc_heaps.proofs.Following.{Follows, Remembers, within-named}
 use Rattle.cc_heaps.proofs.Moving.{Moves, moved-heap, moved-is, moved-kept, moved-keys, moved-marks, moved-tells, moved_in-follows, moved_in-remembers, moved_in-stands, within-taken}
+use Rattle.cc_heaps.specs.NewMarks.{marks_of}
 use Rattle.cc_heaps.proofs.heaps.Heaps.move_slot.Given as given
 use Rattle.cc_heaps.proofs.heaps.Heaps.move_slot.Goals as goal
 
@@ -94,3 +95,6 @@ returns-clause-stands g c to_reached from_reached =
     (moved_in-stands v.heap (the_number v c.args.to.0) c.args.i (the_number v c.args.from.0) c.args.j (within-named v c.args.to.0 c.args.i c.requires.to_within)
     (within-named v c.args.from.0 c.args.j c.requires.from_within) f.1.sound
     (subst IsWellFormed (returns-clause-heap g c) (in_order g c f.0 f.1).sound.well_formed) to_reached from_reached)
+
+pub returns-clause-marking : goal.returns-clause-marking
+returns-clause-marking g c = ap marks_of (moves g c).left ∙ (ap marks_of (moves g c).put_is ∙ c.take_out-content.ensures.marking)

@@ -16,6 +16,7 @@ use Rattle.cc_heaps.proofs.Lengthened.{has-place, kept-longer, order-longer, rea
 use Rattle.cc_heaps.proofs.StandingAfter.{reached-may_be_held}
 use Rattle.cc_heaps.proofs.MarksKept.{marks-stay-then, marks-stay-changed}
 use Rattle.cc_heaps.proofs.Reserved.{marks-unchanged}
+use Rattle.cc_heaps.specs.NewMarks.{marks_of}
 use Rattle.cc_heaps.proofs.heaps.Heaps.root_native_at.Goals as goal
 
 -- a bank may be as long
@@ -84,3 +85,9 @@ returns-clause-marks g c = marks-stay-then (marks-stay-changed c.args.self.now c
 
 pub returns-in_err-reach_native_reg-clause-marks : goal.returns-in_err-reach_native_reg-clause-marks
 returns-in_err-reach_native_reg-clause-marks g c = marks-unchanged c.args.self.now _ c.in_err-reach_native_reg.ensures.same
+
+pub returns-clause-marking : goal.returns-clause-marking
+returns-clause-marking g c = ap marks_of c.set_native_reg.ensures.heap ∙ ap marks_of c.in_ok-reach_native_reg.ensures.heap
+
+pub returns-in_err-reach_native_reg-clause-marking : goal.returns-in_err-reach_native_reg-clause-marking
+returns-in_err-reach_native_reg-clause-marking g c = ap marks_of c.in_err-reach_native_reg.ensures.same

@@ -1,4 +1,4 @@
-use Rattle.std.proofs.Common.{◌≡◌, ℕ, ◌+◌, ◌<◌, ◌≤◌, length, sym, ◌∙◌, ap, subst, arith}
+use Rattle.std.proofs.Common.{◌≡◌, ℕ, ◌+◌, ◌<◌, ◌≤◌, length, sym, ◌∙◌, ap, subst, arith, option_map}
 use Rattle.cc_lists.specs.Members.{Among}
 use Rattle.cc_names.specs.declared.register.Reg.TheVariants.{S}
 use Rattle.cc_names.specs.Sizes.{most_roots}
@@ -12,6 +12,9 @@ use Rattle.cc_heaps.specs.Leaving.{NothingLeft}
 use Rattle.cc_heaps.specs.Standing.{IsReachedOrReflects, StandsAfter}
 use Rattle.cc_heaps.proofs.Kept.{KeepsAll-same}
 use Rattle.cc_heaps.proofs.Lengthened.{has-place, held-left, kept-longer, left-longer, order-longer, reflects-longer, stands-longer}
+use Rattle.cc_heaps.specs.NewMarks.{marks_of}
+use Rattle.cc_model.specs.Marking.{exposed_marks}
+use Rattle.cc_heaps.proofs.ExposedMarks.{exposed-longer}
 use Rattle.cc_heaps.proofs.heaps.Heaps.root_script_at.Goals as goal
 
 -- a bank may be as long
@@ -74,3 +77,10 @@ returns-in_err-reach_script_reg-clause-left c = λ x i. subst (λ (u : Keyed). A
 
 pub returns-in_err-reach_script_reg-clause-kept : goal.returns-in_err-reach_script_reg-clause-kept
 returns-in_err-reach_script_reg-clause-kept c = KeepsAll-same c.args.self.now _ c.in_err-reach_script_reg.ensures.same
+
+pub returns-clause-marking : goal.returns-clause-marking
+returns-clause-marking c =
+    let v = c.args.self.now in
+    c.set_script_reg.ensures.marking
+    ∙ (ap (λ (u : Keyed). option_map (exposed_marks u.heap (script_name u c.args.content)) (marks_of u)) c.in_ok-reach_script_reg.ensures.heap
+    ∙ ap (λ f. option_map f (marks_of v)) (exposed-longer v.heap (c.args.place + 1) (script_name v c.args.content)))

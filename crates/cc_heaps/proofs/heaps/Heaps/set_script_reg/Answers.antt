@@ -1,4 +1,4 @@
-use Rattle.std.proofs.Common.{◌≡◌, ◌<◌, length, sym, ◌∙◌, subst, ap}
+use Rattle.std.proofs.Common.{◌≡◌, ◌<◌, length, sym, ◌∙◌, subst, ap, option_map}
 use Rattle.cc_model.specs.Slots.{Slots}
 use Rattle.cc_model.specs.Heap.{Heap}
 use Rattle.cc_model.specs.Effects.{hold_script}
@@ -10,6 +10,7 @@ use Rattle.cc_heaps.proofs.FewCounts.{few-owned}
 use Rattle.cc_heaps.proofs.Following.{Keeps, hold_script-keeps, script_name-there}
 use Rattle.cc_heaps.proofs.StandingAfter.{script_register-stands}
 use Rattle.cc_heaps.proofs.MarksKept.{marks-go_on, marks-then}
+use Rattle.cc_heaps.specs.NewMarks.{new_marks_in}
 use Rattle.cc_heaps.proofs.heaps.Heaps.set_script_reg.Goals as goal
 
 pub write_script_reg-requires-clause-within : goal.write_script_reg-requires-clause-within
@@ -52,3 +53,8 @@ pub returns-clause-stands : goal.returns-clause-stands
 returns-clause-stands c =
     let f = c.requires.order in
     script_register-stands c.args.self.now c.write_script_reg.new.self f.1 ((returns-clause-kept c).order f.0 f.1) c.args.r c.args.content (held c)
+
+pub returns-clause-marking : goal.returns-clause-marking
+returns-clause-marking c =
+    (λ i. option_map (new_marks_in (c.write_script_reg.ensures.scripts i)) (c.write_script_reg.ensures.marks.lists i))
+    ∙ c.expose_content.ensures.marking

@@ -1,4 +1,4 @@
-use Rattle.std.proofs.Common.{◌<◌, length, get_or, Some, None, IsSome, refl, sym, ◌∙◌, ap, subst}
+use Rattle.std.proofs.Common.{◌<◌, length, get_or, Option, option_map, Some, None, IsSome, refl, sym, ◌∙◌, ap, subst}
 use Rattle.cc_names.specs.Names.{native}
 use Rattle.cc_model.specs.Effects.{touched}
 use Rattle.cc_model.specs.Heap.{set_slot, with_native_slot}
@@ -10,6 +10,9 @@ use Rattle.cc_heaps.proofs.Following.{within-named}
 use Rattle.cc_heaps.proofs.Kept.{KeepsKeys-on}
 use Rattle.cc_heaps.proofs.Moving.{number-same, slot-named, slots-touched}
 use Rattle.cc_heaps.proofs.MarksKept.{marks-changed, marks-then}
+use Rattle.cc_heaps.specs.NewMarks.{marks_of}
+use Rattle.cc_names.specs.declared.name.Name.{Name}
+use Rattle.cc_model.specs.Marking.{exposed_marks}
 use Rattle.cc_heaps.proofs.heaps.Heaps.take_out.Goals as goal
 
 pub touch_content-requires-clause-there : goal.touch_content-requires-clause-there
@@ -60,3 +63,11 @@ returns-clause-order c owned o = c.replace_slot.ensures.order owned (c.touch_con
 
 pub returns-clause-marks : goal.returns-clause-marks
 returns-clause-marks c = marks-then c.touch_content.ensures.marks (marks-changed c.touch_content.new.self c.replace_slot.new.self _ c.replace_slot.ensures.heap)
+
+pub returns-clause-marking : goal.returns-clause-marking
+returns-clause-marking c =
+    let v = c.args.self.now in
+    let content = slot-named c.requires.order.0 v c.requires.order.1 _ c.counted.ensures c.args.key.0 c.args.j c.slot-content.result c.requires.within c.slot-content.ensures.name c.slot-content.ensures.live in
+    ap marks_of c.replace_slot.ensures.heap
+    ∙ (c.touch_content.ensures.marking
+    ∙ ap (λ (x : Option Name). option_map (exposed_marks v.heap x) (marks_of v)) content.name)
