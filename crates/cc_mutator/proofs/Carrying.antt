@@ -19,7 +19,7 @@ use Rattle.cc_model.proofs.Tellings.{Tells-nil}
 use Rattle.cc_laws_heap.proofs.Face.{IsTaken, IsTaken-from}
 use Rattle.cc_heaps.specs.Keyed.{Keyed, IsInOrder, left_with}
 use Rattle.cc_heaps.specs.Changes.{KeepsKeys}
-use Rattle.cc_heaps.specs.Marks.{KeepsMarks}
+use Rattle.cc_heaps.specs.Marks.{MarksGoOn}
 use Rattle.cc_weakrefs.specs.declared.noted.Noted.{Noted}
 use Rattle.cc_weakrefs.specs.Noting.{HoldKeys, names_noted}
 use Rattle.cc_mutator.specs.Applied.{deed_by, deed_in, reply_in}
@@ -45,13 +45,13 @@ pub name-not_refused : (x : Name) (r : Refusal) → Named x ≢ Refused r
 name-not_refused x r e = grind arith
 
 -- where nothing changed, a marking is left as it is
-marks-still : (v w : Keyed) → w ≡ v → KeepsMarks v w
+marks-still : (v w : Keyed) → w ≡ v → MarksGoOn v w
 marks-still v w e = marks-same v w (ap (λ (u : Keyed). u.marking) e) (ap (λ (u : Keyed). u.scripts) e)
 
 module _ (d : Deed) (answer : Reply) (old new : Keyed) (reply : Reply) (before after : Telling) where
   -- A DEED THAT IS DONE
   pub answered-done : (may_lack : Bool) → reply ≡ answer → answer ≢ Refused NoMemory → new.heap ≡ (done_in old.heap d).heap → TellsEvents before after (done_in old.heap d).events →
-      KeepsKeys old new → ((owned : List ℕ) → IsInOrder owned old → IsInOrder owned new) → KeepsMarks old new → IsAnswered d answer may_lack old new reply before after
+      KeepsKeys old new → ((owned : List ℕ) → IsInOrder owned old → IsInOrder owned new) → MarksGoOn old new → IsAnswered d answer may_lack old new reply before after
   answered-done may_lack is n h t k o marks = record {
     answered = λ m. is;
     heap = λ m. h;
@@ -83,7 +83,7 @@ module _ (d : Deed) (answer : Reply) (old new : Keyed) (reply : Reply) (before a
 
 -- where it tells nothing
 pub answered-silently : (d : Deed) (answer : Reply) (old new : Keyed) (reply : Reply) (t : Telling) (may_lack : Bool) (h : Heap) → done_in old.heap d ≡ silently h → reply ≡ answer →
-    answer ≢ Refused NoMemory → new.heap ≡ h → KeepsKeys old new → ((owned : List ℕ) → IsInOrder owned old → IsInOrder owned new) → KeepsMarks old new →
+    answer ≢ Refused NoMemory → new.heap ≡ h → KeepsKeys old new → ((owned : List ℕ) → IsInOrder owned old → IsInOrder owned new) → MarksGoOn old new →
     IsAnswered d answer may_lack old new reply t t
 answered-silently d answer old new reply t may_lack h does is n e k o marks =
     answered-done d answer old new reply t t may_lack is n (e ∙ sym (ap (λ (p : Outcome). p.heap) does)) (subst (λ (p : Outcome). TellsEvents t t p.events) (sym does) (Tells-nil t)) k o marks

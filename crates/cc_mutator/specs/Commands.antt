@@ -16,7 +16,7 @@ use Rattle.cc_counted.specs.declared.held.Held.{Held}
 use Rattle.cc_counted.specs.declared.held.Held.TheVariants as held
 use Rattle.cc_heaps.specs.Keyed.{Keyed, IsInOrder}
 use Rattle.cc_heaps.specs.Changes.{KeepsKeys}
-use Rattle.cc_heaps.specs.Marks.{KeepsMarks}
+use Rattle.cc_heaps.specs.Marks.{MarksGoOn}
 use Rattle.cc_weakrefs.specs.declared.noted.Noted.{Noted}
 use Rattle.cc_weakrefs.specs.Noting.{HoldKeys, names_noted}
 use Rattle.cc_mutator.specs.Applied.{IsCarriedOut, deed_by, reply_by}
@@ -29,7 +29,7 @@ pub record IsAnswered (d : Deed) (answer : Reply) (may_lack : Bool) (old new : K
   pub memory : reply ≡ Refused no_memory → (may_lack ≡ true) × (new ≡ old) × (after ≡ before)
   pub keys : KeepsKeys old new
   pub order : (owned : List ℕ) → IsInOrder owned old → IsInOrder owned new
-  pub marks : KeepsMarks old new
+  pub marks : MarksGoOn old new
 
 -- a deed that takes no memory
 abbrev pub IsDone : Deed → Keyed → Keyed → Reply → Telling → Telling → Type 0
@@ -56,7 +56,7 @@ pub record IsApplied (c : Command) (old new : Keyed) (weak noted : List (Option 
       (refusal_of (objects_of old.heap) c ≡ None) × (takes_memory old.heap c ≡ true) × (new ≡ old) × (noted ≡ weak) × (after ≡ before)
   pub keys : KeepsKeys old new
   pub order : (owned : List ℕ) → IsInOrder owned old → IsInOrder owned new
-  pub marks : KeepsMarks old new
+  pub marks : MarksGoOn old new
   -- what they note has its key in the heaps as these were
   pub held : HoldKeys noted old
 

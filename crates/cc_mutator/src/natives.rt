@@ -9,7 +9,7 @@ ghost use Rattle.cc_model.specs.Effects.{move_slot as moved};
 ghost use Rattle.cc_model.specs.Heap.{objects_of, register, source};
 ghost use Rattle.cc_heaps.specs.Keyed.{IsInOrder};
 ghost use Rattle.cc_heaps.specs.Changes.{IsNativeThere, IsThere, KeepsKeys, held_name, native_name};
-ghost use Rattle.cc_heaps.specs.Marks.{KeepsMarks};
+ghost use Rattle.cc_heaps.specs.Marks.{MarksGoOn};
 ghost use Rattle.cc_heaps.specs.Few.{AreOwnedOnce};
 ghost use Rattle.cc_mutator.specs.Commands.{IsDone, IsNamed};
 
@@ -115,7 +115,7 @@ fn hand_over<N: Notices>(heaps: &mut Heaps, d: RegNo, i: u32, s: RegNo, j: u32, 
     ensures told { TellsEvents (N.telling out.old) (N.telling out.new) (moved heaps.old.heap d i s j).events }
     ensures keys { KeepsKeys heaps.old heaps.new }
     ensures order { (owned : List ℕ) → IsInOrder owned heaps.old → IsInOrder owned heaps.new }
-    ensures marks { KeepsMarks heaps.old heaps.new }
+    ensures marks { MarksGoOn heaps.old heaps.new }
 {
     let Some(to) = heaps.native_reg(d) else {
         unreachable!();

@@ -16,7 +16,7 @@ ghost use Rattle.cc_model.specs.View.{view};
 ghost use Rattle.cc_script.specs.Objects.{colour_at};
 ghost use Rattle.cc_heaps.specs.Keyed.{IsInOrder};
 ghost use Rattle.cc_heaps.specs.Changes.{IsScriptThere, KeepsKeys, script_name};
-ghost use Rattle.cc_heaps.specs.Marks.{KeepsMarks};
+ghost use Rattle.cc_heaps.specs.Marks.{MarksGoOn};
 ghost use Rattle.cc_mutator.specs.Commands.{IsAnswered, IsDone, IsNamed};
 
 use crate::reads::{
@@ -103,7 +103,7 @@ fn store_script(heaps: &mut Heaps, d: RegNo, i: u32, content: Option<SKey>)
     ensures heap { heaps.new.heap ≡ put_in_script heaps.old.heap (register heaps.old.heap (s_register d)) i (script_name heaps.old content) }
     ensures keys { KeepsKeys heaps.old heaps.new }
     ensures order { (owned : List ℕ) → IsInOrder owned heaps.old → IsInOrder owned heaps.new }
-    ensures marks { KeepsMarks heaps.old heaps.new }
+    ensures marks { MarksGoOn heaps.old heaps.new }
 {
     match heaps.script_reg(d) {
         Some(key) => {
@@ -150,7 +150,7 @@ fn write_entry(heaps: &mut Heaps, m: RegNo, k: RegNo, value: Option<SKey>) -> Re
     ensures heap { OnOk result (heaps.new.heap ≡ entry_set heaps.old.heap (register heaps.old.heap (s_register m)) (register heaps.old.heap (s_register k)) (script_name heaps.old value)) }
     ensures keys { KeepsKeys heaps.old heaps.new }
     ensures order { (owned : List ℕ) → IsInOrder owned heaps.old → IsInOrder owned heaps.new }
-    ensures marks { KeepsMarks heaps.old heaps.new }
+    ensures marks { MarksGoOn heaps.old heaps.new }
     ensures same { OnErr result (heaps.new ≡ heaps.old) }
     ensures some { OnErr result (IsSome value) }
     ensures none { OnErr result (value_at (objects_of heaps.old.heap) (register heaps.old.heap (s_register m)) (register heaps.old.heap (s_register k)) ≡ None) }
@@ -191,7 +191,7 @@ fn touch(heaps: &mut Heaps, content: Option<SKey>)
     ensures heap { heaps.new.heap ≡ exposed heaps.old.heap (script_name heaps.old content) }
     ensures keys { KeepsKeys heaps.old heaps.new }
     ensures order { (owned : List ℕ) → IsInOrder owned heaps.old → IsInOrder owned heaps.new }
-    ensures marks { KeepsMarks heaps.old heaps.new }
+    ensures marks { MarksGoOn heaps.old heaps.new }
 {
     if let Some(key) = content {
         heaps.expose(key);
