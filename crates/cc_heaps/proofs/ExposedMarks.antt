@@ -11,7 +11,6 @@ use Rattle.cc_lists.specs.Least.{system, closure}
 use Rattle.cc_lists.proofs.Members.{Among-filter, Among-filtered, Among-passes, Among-map, Among-map_cases, has-among, has-there}
 use Rattle.cc_lists.proofs.CountsOf.{false-left}
 use Rattle.cc_lists.proofs.Least.{derived-within}
-use Rattle.cc_lists.proofs.Held.{find-renamed}
 use Rattle.cc_lists.proofs.Carried.{Carries, least-carried}
 use Rattle.cc_lists.proofs.Closure.{closure-decides}
 use Rattle.cc_lists.proofs.ListWrites.{map-agree, map-kept, only-member}
@@ -22,7 +21,7 @@ use Rattle.cc_names.specs.declared.kind.Colour.{Colour}
 use Rattle.cc_names.specs.declared.kind.Colour.TheVariants.{Gray, Black}
 use Rattle.cc_names.specs.declared.number.NKey.{NKey}
 use Rattle.cc_names.specs.declared.number.SKey.{SKey}
-use Rattle.cc_names.specs.Names.{native, object, same_name}
+use Rattle.cc_names.specs.Names.{native, same_name}
 use Rattle.cc_names.proofs.NameTests.{same_name-exact, same_name-refl}
 use Rattle.cc_model.specs.Heap.{Heap, HeapScript, lengthen}
 use Rattle.cc_model.specs.Banks.{of_scripts}
@@ -46,10 +45,11 @@ use Rattle.cc_heaps.specs.declared.heaps.Heaps.TheInside.{Inside}
 use Rattle.cc_heaps.proofs.Reaching.{HasOneKey, HasOneName, found-named, name_at-found, name_at-own, named-found, named_edges, object_at-found, object_at-own, same-key, same-tests, the_name-is}
 use Rattle.cc_laws_heap.proofs.Face.{native-no_script}
 use Rattle.cc_heaps.proofs.Keys.{object-name}
+use Rattle.cc_heaps.proofs.MarksKept.{marks-renamed}
 use Rattle.cc_heaps.proofs.ObjectsKept.{there-named}
 use Rattle.cc_heaps.proofs.Remarked.{remarked, remarked-length, remarked-name}
 use Rattle.cc_heaps.proofs.RemarkedHeaps.{AreRemarked, heaps-remarked}
-use Rattle.cc_heaps.proofs.ScriptWrites.{KeepsObjects, KeepsObjects-raised, name_at-written, new_mark-raised, raise_among}
+use Rattle.cc_heaps.proofs.ScriptWrites.{KeepsObjects-raised, new_mark-raised, raise_among}
 
 and-true : (b : Bool) → (b && true) ≡ b
 and-true true = refl
@@ -380,29 +380,7 @@ module _ (p : Inside) (l : IsLinked p) (key : ℕ) (there : IsTrue (is_there p.s
       r : AreRemarked p (record p { scripts = objects })
       r = heaps-remarked p l objects p.to_scan same (subst (HasRoom p.to_scan) (sym (remarked-length p.scripts objects same)) l.room)
 
--- NEW MARKS BY NAMES STAY where each object is written, and keeps its key, its name and its new mark
-pub marks-written_in : (f : Object → Object) → KeepsObjects f → ((o : Object) → (f o).new_mark ≡ o.new_mark) → (objects : List Object) (t : ToScan) →
-    new_marks_in (map f objects) t ≡ new_marks_in objects t
-marks-written_in f keeps marks objects t = λ i. record {
-  unmarked = below Gray i;
-  unblack = below Black i;
-  black_list = map (λ k. name k i) t.black;
-  gray_list = map (λ k. name k i) (filter (λ k. test k i) t.gray);
-}
-  where
-    below : (low : Colour) → names_below low (map f objects) ≡ names_below low objects
-    below low = ap (map (λ (o : Object). o.name)) (filter-map (λ (o : Object). is_below o.new_mark low) f objects)
-        ∙ (map-kept (λ (o : Object). o.name) f (filter (λ o. is_below (f o).new_mark low) objects) keeps.name
-        ∙ ap (λ (q : Object → Bool). map (λ (o : Object). o.name) (filter q objects)) (fun_ext (λ o. ap (λ c. is_below c low) (marks o))))
-
-    name : (k : ℕ) → the_name_at (map f objects) k ≡ the_name_at objects k
-    name k = ap (λ (x : Option Name). elim x [ None ↦ object 0 | Some y ↦ y ]) (name_at-written f keeps objects k)
-
-    test : (k : ℕ) → is_unblack (map f objects) k ≡ is_unblack objects k
-    test k = ap (λ (x : Option Colour). elim x [ None ↦ false | Some mark ↦ is_below mark Black ])
-        (find-renamed f (λ (o : Object). o.key == k) (λ (o : Object). o.key == k) (λ (o : Object). o.new_mark) (λ (o : Object). o.new_mark) (λ o. ap (λ j. j == k) (keeps.key o)) marks objects)
-
--- as an exposure by colours does
+-- NEW MARKS BY NAMES STAY where an exposure makes objects black
 pub marking-raised : (v w : Keyed) (keys : List ℕ) → w.marking ≡ v.marking → w.scripts ≡ raised_among keys Black v.scripts → marks_of w ≡ marks_of v
 marking-raised v w keys lists scripts = (λ i. option_map (new_marks_in (scripts i)) (lists i))
-    ∙ ap (λ g. option_map g v.marking) (fun_ext (marks-written_in (raise_among keys) (KeepsObjects-raised keys) (new_mark-raised keys) v.scripts))
+    ∙ ap (λ g. option_map g v.marking) (fun_ext (marks-renamed (raise_among keys) (KeepsObjects-raised keys).key (KeepsObjects-raised keys).name (new_mark-raised keys) v.scripts))

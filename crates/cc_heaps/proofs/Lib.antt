@@ -70,4 +70,3 @@ pub mod BegunNew
 pub mod RootsInOrder
 pub mod EndedMarks
 pub mod Ended
-pub mod KeptMarks

@@ -50,7 +50,7 @@ module _ {owned : List ℕ} (p : Inside) (l : IsLinked p) (o : IsInOrder owned (
   -- new marks stay
   pub marks-marked : KeepsMarks (keyed_of p) (keyed_of (record p { scripts = marked_objects p }))
   marks-marked = marks-mapped (keyed_of p) (keyed_of (record p { scripts = marked_objects p })) (λ q. with_colour (colour_by (blacks p) (marks p) q.key) q) refl refl
-      (λ q. refl) (λ q. refl)
+      (λ q. refl) (λ q. refl) (λ q. refl)
 
   pub linked-marked : IsLinked (record p { scripts = marked_objects p })
   linked-marked = becomes-marked.linked

@@ -35,7 +35,7 @@ pub record KeepsObjects (f : Object → Object) : Type 0 where
 -- where it keeps its new mark too, a marking in slices is left as it is
 pub marks-written : (v w : Keyed) (f : Object → Object) → KeepsObjects f → ((o : Object) → (f o).new_mark ≡ o.new_mark) →
     w.marking ≡ v.marking → w.scripts ≡ map f v.scripts → KeepsMarks v w
-marks-written v w f keeps marks lists scripts = marks-mapped v w f lists scripts keeps.key marks
+marks-written v w f keeps marks lists scripts = marks-mapped v w f lists scripts keeps.key keeps.name marks
 
 module _ (f : Object → Object) (keeps : KeepsObjects f) (objects : List Object) where
   -- keys have the names that they had

@@ -12,9 +12,9 @@ pub mod GrayHeld
 pub mod Roots
 pub mod Sweeping
 pub mod Standing
-pub mod Marks
 pub mod NewMarks
 pub mod Ending
+pub mod Marks
 pub mod Rooting
 pub mod Keeping
 pub mod Leaving

@@ -18,8 +18,7 @@
 //! A marking of script objects that goes on in slices has marks of its own, beside the colours, and two lists of objects to scan
 //! (`begin_new`, `scan_new`, `drop_new`). At its end its marks become the colours, and what is white is swept (`end_new`). It takes
 //! no memory: each object that is made gets its places on these lists. Only these calls read and write the new marks so far; a
-//! change that keeps them keeps the lists right too (`marks_stay_listed`), and the marks
-//! by names (`marks_stay_the_same`).
+//! change that keeps them keeps the lists right too (`marks_stay_listed`).
 //!
 //! What the laws make of these equations is said beside them, for callers who know no law. For which graph the heaps
 //! stand afterwards is one clause (`stands`). What a change keeps is another (`kept`), one promise of seven parts
@@ -45,6 +44,6 @@ mod rooted;
 mod to_scan;
 
 pub use heaps::Heaps;
-pub use laws::{marks_stay_listed, marks_stay_the_same};
+pub use laws::marks_stay_listed;
 pub use make_stop::MakeStop;
 pub use rooted::Rooted;
