@@ -17,14 +17,14 @@
 //!
 //! A marking of script objects that goes on in slices has marks of its own, beside the colours, and two lists of objects to scan
 //! (`begin_new`, `scan_new`, `drop_new`). At its end its marks become the colours, and what is white is swept (`end_new`). It takes
-//! no memory: each object that is made gets its places on these lists. Only these calls read and write the new marks so far; a
-//! change that keeps them keeps the lists right too (`marks_stay_listed`).
+//! no memory: each object that is made gets its places on these lists. While it goes on, what is exposed is black by the new mark
+//! too. Any other change leaves it as it is (`KeepsMarks`), and either leaves its lists right (`marks_stay_listed`).
 //!
 //! What the laws make of these equations is said beside them, for callers who know no law. For which graph the heaps
 //! stand afterwards is one clause (`stands`). What a change keeps is another (`kept`), one promise of seven parts
 //! (`KeepsParts`): objects keep their keys, the heaps stay in order, no count is greater than all references there can
 //! be, the colour invariant stays, snapshots stay fresh, no native that nothing reaches is forgotten, and a marking in
-//! slices is left as it is. A call that may come while a collection runs promises all seven (`KeepsAll`). `select_next`,
+//! slices goes on. A call that may come while a collection runs promises all seven (`KeepsAll`). `select_next`,
 //! `sweep`, `end_new`, `root`, `unlink` and `unroot` are made where no snapshot is kept, and say nothing of the last three
 //! (`KeepsHeaps`). `mark_scripts` says nothing of snapshots and suspects either, and leaves objects white besides
 //! (`KeepsObjects`); `sweep` takes these out.

@@ -215,8 +215,9 @@ impl Heaps {
     /// one place nothing moves, but what is there is touched or exposed.
     ///
     /// What moves is seen by a collection that runs: a native stands in the buffer without the purple mark, a script object
-    /// is black, with all that an exposure makes black, by the new mark too where a marking goes on in slices. Then it leaves slot `j`, and its reference goes into slot `i`, so no
-    /// count changes; then what slot `i` held is given up with all that it deletes. Takes no memory.
+    /// is black, with all that an exposure makes black, by the new mark too where a marking goes on in slices. Then it leaves
+    /// slot `j`, and its reference goes into slot `i`, so no count changes; then what slot `i` held is given up with all that it
+    /// deletes. Takes no memory.
     ///
     /// A move can leave natives unreached that only hold each other, and to be touched is no suspicion: none is forgotten
     /// where `to` is reached once slot `j` is empty. So it is where a register holds `to`, whatever slot is emptied. That
