@@ -39,7 +39,7 @@ use Rattle.cc_heaps.specs.ToScan.{ToScan, HasRoom}
 use Rattle.cc_heaps.specs.Keyed.{Keyed, IsInOrder, named_objects, number_at, the_name_at}
 use Rattle.cc_heaps.specs.Changes.{native_name, script_name}
 use Rattle.cc_heaps.specs.Marks.{MarksGoOn}
-use Rattle.cc_heaps.specs.NewMarks.{IsRemarked, marks_of, names_below, new_marks_in, new_marks_with}
+use Rattle.cc_heaps.specs.NewMarks.{IsRemarked, marks_of, names_below, new_marks_in}
 use Rattle.cc_heaps.specs.Fields.{heap_of, keyed_of, IsLinked}
 use Rattle.cc_heaps.specs.declared.heaps.Heaps.TheInside.{Inside}
 use Rattle.cc_heaps.proofs.Reaching.{HasOneKey, HasOneName, found-named, name_at-found, name_at-own, named-found, named_edges, object_at-found, object_at-own, same-key, same-tests, the_name-is}
@@ -158,7 +158,7 @@ module _ (objects : List Object) (one_key : HasOneKey objects) (one_name : HasOn
       entry = λ ks v y m r. absurd m;
     }
 
-    -- and the other way round
+    -- what a name gives, its key gives
     keys-carried : Carries (λ y k. name_at objects k ≡ Some y) names_from ways [] keys_from (edges_unblack objects) []
     keys-carried = record {
       root = λ y k m r.
@@ -252,7 +252,7 @@ module _ (objects : List Object) (one_key : HasOneKey objects) (one_name : HasOn
     exposed-in h scripts t = blackened-in t
         ∙ ap (λ (ss : List HeapScript). blackened_by_mark (new_marks_in objects t) (closure same_name (system names_from (filter both_unblack (flat_map script_slot_edges ss)) []))) (sym scripts)
 
--- ONE THAT GOES ON while more is black by the new mark
+-- A MARKING GOES ON while more is black by the new mark
 pub marks-blackened : (v w : Keyed) (keys : List ℕ) → w.marking ≡ v.marking → w.scripts ≡ newly_blackened keys v.scripts → MarksGoOn v w
 marks-blackened v w keys lists scripts = record {
   lists = lists;
@@ -281,11 +281,9 @@ marks-blackened v w keys lists scripts = record {
     none None mark absent e = absurd (cc)
     none (Some o) mark absent e = absurd (cc)
 
--- where none goes on there is nothing to blacken
-pub none-exposed : (v : Keyed) (h : Heap) (x : Option Name) → v.marking ≡ None → marks_of v ≡ option_map (exposed_marks h x) (marks_of v)
-none-exposed v h x e = ap (option_map (new_marks_with v)) e ∙ sym (ap (λ o. option_map (exposed_marks h x) (option_map (new_marks_with v) o)) e)
+-- WHERE NOTHING IS EXPOSED, or what is exposed is black by the new mark, the new marks stay
 
--- nor is there where nothing is exposed
+-- nothing is exposed
 pub nothing-in : (h : Heap) (o : Option NewMarks) → o ≡ option_map (exposed_marks h None) o
 unfolding exposed_marks
 nothing-in h None = refl
@@ -295,7 +293,7 @@ pub nothing-marked : (v : Keyed) (h : Heap) (x : Option SKey) → ((key : SKey) 
 nothing-marked v h None none = nothing-in h (marks_of v)
 nothing-marked v h (Some key) none = absurd (none key refl)
 
--- or where what is exposed is black by the new mark, or is no script object
+-- rules without roots give nothing
 unrooted : (edges : List (Name × Name)) (x : Name) → has same_name (closure same_name (system [] edges [])) x ≡ false
 unrooted edges x = false-left (has same_name (closure same_name (system [] edges [])) x)
     (λ e. derived-within [] edges [] (λ y. ⊥) (λ y m. m) (λ y z m n. n) (λ ps y m n. m) x
@@ -315,13 +313,14 @@ blackened-none names none m = λ i. record m {
   gray_list = without-none names none m.gray_list i;
 }
 
+-- what is exposed is black by the new mark, or is no script object
 exposed-black : (h : Heap) (x : Name) (m : NewMarks) → has same_name m.unblack x ≡ false → exposed_marks h (Some x) m ≡ m
 unfolding exposed_marks
 exposed-black h x m e =
     ap (λ (b : Bool). blackened_by_mark m (closure same_name (system (cond b (x ∷ []) []) (names.edges_unblack m (slots_of_scripts h)) []))) e
     ∙ blackened-none (closure same_name (system [] (names.edges_unblack m (slots_of_scripts h)) [])) (unrooted (names.edges_unblack m (slots_of_scripts h))) m
 
--- natives have no new mark
+-- a native is exposed, which has no new mark
 pub natives-marked : (owned : List ℕ) (v : Keyed) → IsInOrder owned v → (n : Option ℕ) → marks_of v ≡ option_map (exposed_marks v.heap (option_map native n)) (marks_of v)
 natives-marked owned v o None = nothing-in v.heap (marks_of v)
 natives-marked owned v o (Some k) = go v.marking
@@ -343,7 +342,7 @@ pub native-marked : (owned : List ℕ) (v : Keyed) → IsInOrder owned v → (x 
 native-marked owned v o None = nothing-in v.heap (marks_of v)
 native-marked owned v o (Some key) = natives-marked owned v o (number_at v key.0)
 
--- where the bank of script registers is longer the same is exposed
+-- An exposure comes to the same where the bank of script registers is longer.
 pub exposed-longer : (h : Heap) (n : ℕ) (x : Option Name) → exposed_marks (lengthen h of_scripts n) x ≡ exposed_marks h x
 unfolding exposed_marks
 exposed-longer h n None = refl

@@ -61,7 +61,7 @@ listed-still v w k l = subst (λ m. IfSome m (AreListedIn w.scripts)) (sym k.lis
 pub marks-go_on : {v w : Keyed} → KeepsMarks v w → MarksGoOn v w
 marks-go_on k = record { lists = k.lists; there = λ key mark at. inl (k.there key mark at); made = k.made }
 
--- where each key has the new mark that it had
+-- each key has the new mark that it had
 marks-alike : (v w : Keyed) → w.marking ≡ v.marking → ((key : ℕ) → new_mark_at w.scripts key ≡ new_mark_at v.scripts key) → (AreListed v → marks_of w ≡ marks_of v) → KeepsMarks v w
 marks-alike v w lists same by_names = record {
   lists = lists;
@@ -96,7 +96,7 @@ module _ (f : Object → Object) (keys : (o : Object) → (f o).key ≡ o.key) (
   same-unblack : (key : ℕ) → is_unblack (map f objects) key ≡ is_unblack objects key
   same-unblack key = ap unblack_mark (same-mark key)
 
-  -- so new marks by names stay
+  -- new marks by names stay
   pub marks-renamed : (t : ToScan) → new_marks_in (map f objects) t ≡ new_marks_in objects t
   marks-renamed t = λ i. record {
     unmarked = same-below Gray i;
