@@ -5,6 +5,8 @@
 #[cfg(test)]
 mod forgetting;
 #[cfg(test)]
+mod mark_steps;
+#[cfg(test)]
 mod new_marks;
 #[cfg(test)]
 mod roots;
