@@ -1,5 +1,5 @@
 -- DEEDS ANSWERED: they are done, or lack memory; and what that is for a command.
-use Rattle.std.proofs.Common.{◌≡◌, ◌≢◌, ℕ, Bool, true, false, List, Option, Some, None, refl, sym, ◌∙◌, ap, subst, arith, ◌≤◌, ◌<◌}
+use Rattle.std.proofs.Common.{◌≡◌, ◌≢◌, ℕ, Bool, true, false, List, Option, Some, None, option_map, refl, sym, ◌∙◌, ap, subst, arith, ◌≤◌, ◌<◌}
 use Rattle.std.proofs.lemmas.Bool.{leb-true, leb-false}
 use Rattle.cc_names.specs.declared.name.Name.{Name}
 use Rattle.cc_model.specs.declared.command.Command.{Command}
@@ -15,17 +15,20 @@ use Rattle.cc_model.specs.Run.{weak_after}
 use Rattle.cc_model.specs.Heap.{Heap, Outcome, objects_of, silently}
 use Rattle.cc_model.specs.Effects.{done_in, takes_memory}
 use Rattle.cc_model.specs.Exposure.{exposed}
+use Rattle.cc_model.specs.Marking.{exposed_by, exposed_marks}
 use Rattle.cc_model.proofs.Tellings.{Tells-nil}
 use Rattle.cc_laws_heap.proofs.Face.{IsTaken, IsTaken-from}
 use Rattle.cc_heaps.specs.Keyed.{Keyed, IsInOrder, left_with}
 use Rattle.cc_heaps.specs.Changes.{KeepsKeys}
 use Rattle.cc_heaps.specs.Marks.{MarksGoOn}
+use Rattle.cc_heaps.specs.NewMarks.{AreListed, marks_of}
 use Rattle.cc_weakrefs.specs.declared.noted.Noted.{Noted}
 use Rattle.cc_weakrefs.specs.Noting.{HoldKeys, names_noted}
 use Rattle.cc_mutator.specs.Applied.{deed_by, deed_in, reply_in}
-use Rattle.cc_mutator.specs.Commands.{IsAnswered, IsApplied, IsNamed, IsTakenBeside, IsTakenUp}
+use Rattle.cc_mutator.specs.Commands.{HasMarksAfter, IsAnswered, IsApplied, IsNamed, IsTakenBeside, IsTakenUp}
 use Rattle.cc_heaps.proofs.KeysKept.{KeepsKeys-left, KeepsKeys-same}
-use Rattle.cc_heaps.proofs.MarksKept.{marks-left, marks-same}
+use Rattle.cc_heaps.proofs.MarksKept.{marks-left, marks-same, marks-stay-left}
+use Rattle.cc_heaps.proofs.ExposedMarks.{nothing-in}
 
 -- Replies
 
@@ -48,11 +51,16 @@ name-not_refused x r e = grind arith
 marks-still : (v w : Keyed) → w ≡ v → MarksGoOn v w
 marks-still v w e = marks-same v w (ap (λ (u : Keyed). u.marking) e) (ap (λ (u : Keyed). u.scripts) e)
 
+-- a deed that exposes nothing leaves the new marks by names
+marks-unexposed : (d : Deed) (v w : Keyed) → exposed_by v.heap d ≡ None → (AreListed v → marks_of w ≡ marks_of v) → HasMarksAfter d v w
+marks-unexposed d v w none same = λ listed held.
+    same listed ∙ (nothing-in v.heap (marks_of v) ∙ ap (λ x. option_map (exposed_marks v.heap x) (marks_of v)) (sym none))
+
 module _ (d : Deed) (answer : Reply) (old new : Keyed) (reply : Reply) (before after : Telling) where
   -- A DEED THAT IS DONE
   pub answered-done : (may_lack : Bool) → reply ≡ answer → answer ≢ Refused NoMemory → new.heap ≡ (done_in old.heap d).heap → TellsEvents before after (done_in old.heap d).events →
-      KeepsKeys old new → ((owned : List ℕ) → IsInOrder owned old → IsInOrder owned new) → MarksGoOn old new → IsAnswered d answer may_lack old new reply before after
-  answered-done may_lack is n h t k o marks = record {
+      KeepsKeys old new → ((owned : List ℕ) → IsInOrder owned old → IsInOrder owned new) → MarksGoOn old new → HasMarksAfter d old new → IsAnswered d answer may_lack old new reply before after
+  answered-done may_lack is n h t k o marks marking = record {
     answered = λ m. is;
     heap = λ m. h;
     told = λ m. t;
@@ -60,14 +68,21 @@ module _ (d : Deed) (answer : Reply) (old new : Keyed) (reply : Reply) (before a
     keys = k;
     order = o;
     marks = marks;
+    marking = λ m. marking;
   }
+
+  -- and exposes nothing
+  pub answered-unexposed : (may_lack : Bool) → reply ≡ answer → answer ≢ Refused NoMemory → new.heap ≡ (done_in old.heap d).heap → TellsEvents before after (done_in old.heap d).events →
+      KeepsKeys old new → ((owned : List ℕ) → IsInOrder owned old → IsInOrder owned new) → MarksGoOn old new → exposed_by old.heap d ≡ None →
+      (AreListed old → marks_of new ≡ marks_of old) → IsAnswered d answer may_lack old new reply before after
+  answered-unexposed may_lack is n h t k o marks none same = answered-done may_lack is n h t k o marks (marks-unexposed d old new none same)
 
   -- where some natives are no more
   pub answered-left : (o : Outcome) → done_in old.heap d ≡ o → reply ≡ answer → answer ≢ Refused NoMemory → new ≡ left_with old o.heap → TellsEvents before after o.events →
-      ((owned : List ℕ) → IsInOrder owned old → IsInOrder owned new) → IsAnswered d answer false old new reply before after
-  answered-left o does is n h t order =
-      answered-done false is n (ap (λ (v : Keyed). v.heap) h ∙ sym (ap (λ (p : Outcome). p.heap) does)) (subst (λ (p : Outcome). TellsEvents before after p.events) (sym does) t)
-      (KeepsKeys-left old new o.heap h) order (marks-left old new o.heap h)
+      ((owned : List ℕ) → IsInOrder owned old → IsInOrder owned new) → exposed_by old.heap d ≡ None → IsAnswered d answer false old new reply before after
+  answered-left o does is n h t order none =
+      answered-unexposed false is n (ap (λ (v : Keyed). v.heap) h ∙ sym (ap (λ (p : Outcome). p.heap) does)) (subst (λ (p : Outcome). TellsEvents before after p.events) (sym does) t)
+      (KeepsKeys-left old new o.heap h) order (marks-left old new o.heap h) none (marks-stay-left old new o.heap h).by_names
 
   -- where it lacks memory
   pub answered-denied : (may_lack : Bool) → may_lack ≡ true → reply ≡ Refused NoMemory → new ≡ old → after ≡ before → IsAnswered d answer may_lack old new reply before after
@@ -79,26 +94,34 @@ module _ (d : Deed) (answer : Reply) (old new : Keyed) (reply : Reply) (before a
     keys = subst (KeepsKeys old) (sym same) (KeepsKeys-same old);
     order = λ owned o. subst (IsInOrder owned) (sym same) o;
     marks = marks-still old new same;
+    marking = λ m. absurd (m is);
   }
 
 -- where it tells nothing
 pub answered-silently : (d : Deed) (answer : Reply) (old new : Keyed) (reply : Reply) (t : Telling) (may_lack : Bool) (h : Heap) → done_in old.heap d ≡ silently h → reply ≡ answer →
     answer ≢ Refused NoMemory → new.heap ≡ h → KeepsKeys old new → ((owned : List ℕ) → IsInOrder owned old → IsInOrder owned new) → MarksGoOn old new →
-    IsAnswered d answer may_lack old new reply t t
-answered-silently d answer old new reply t may_lack h does is n e k o marks =
-    answered-done d answer old new reply t t may_lack is n (e ∙ sym (ap (λ (p : Outcome). p.heap) does)) (subst (λ (p : Outcome). TellsEvents t t p.events) (sym does) (Tells-nil t)) k o marks
+    HasMarksAfter d old new → IsAnswered d answer may_lack old new reply t t
+answered-silently d answer old new reply t may_lack h does is n e k o marks marking =
+    answered-done d answer old new reply t t may_lack is n (e ∙ sym (ap (λ (p : Outcome). p.heap) does)) (subst (λ (p : Outcome). TellsEvents t t p.events) (sym does) (Tells-nil t)) k o marks marking
+
+-- and exposes nothing
+pub silently-unexposed : (d : Deed) (answer : Reply) (old new : Keyed) (reply : Reply) (t : Telling) (may_lack : Bool) (h : Heap) → done_in old.heap d ≡ silently h → reply ≡ answer →
+    answer ≢ Refused NoMemory → new.heap ≡ h → KeepsKeys old new → ((owned : List ℕ) → IsInOrder owned old → IsInOrder owned new) → MarksGoOn old new →
+    exposed_by old.heap d ≡ None → (AreListed old → marks_of new ≡ marks_of old) → IsAnswered d answer may_lack old new reply t t
+silently-unexposed d answer old new reply t may_lack h does is n e k o marks none same =
+    answered-silently d answer old new reply t may_lack h does is n e k o marks (marks-unexposed d old new none same)
 
 -- where the heaps do nothing
 pub answered-still : (d : Deed) (answer : Reply) (v : Keyed) (reply : Reply) (t : Telling) → done_in v.heap d ≡ silently v.heap → reply ≡ answer → answer ≢ Refused NoMemory →
-    IsAnswered d answer false v v reply t t
-answered-still d answer v reply t does is n =
-    answered-silently d answer v v reply t false v.heap does is n refl (KeepsKeys-same v) (λ owned o. o) (marks-still v v refl)
+    exposed_by v.heap d ≡ None → IsAnswered d answer false v v reply t t
+answered-still d answer v reply t does is n none =
+    silently-unexposed d answer v v reply t false v.heap does is n refl (KeepsKeys-same v) (λ owned o. o) (marks-still v v refl) none (λ listed. refl)
 
 -- where a weak register is written
 pub weak-still : (w : ℕ) (x : Option Name) (answer : Reply) (v : Keyed) (reply : Reply) (t : Telling) → reply ≡ answer → answer ≢ Refused NoMemory →
     IsAnswered (weak_written w x) answer false v v reply t t
 unfolding done_in
-weak-still w x answer v reply t is n = answered-still (weak_written w x) answer v reply t refl is n
+weak-still w x answer v reply t is n = answered-still (weak_written w x) answer v reply t refl is n refl
 
 -- by what is held
 pub named-as : (deed : Option Name → Deed) (x y : Option Name) (old new : Keyed) (reply : Reply) (before after : Telling) → x ≡ y → IsNamed (deed x) x old new reply before after →
@@ -122,6 +145,7 @@ module _ (c : Command) (old new : Keyed) (weak noted : List (Option Noted)) (rep
     keys = a.keys;
     order = a.order;
     marks = a.marks;
+    marking = λ e m. a.marking m;
     held = held;
   }
 

@@ -1,5 +1,6 @@
 -- AN EXPOSURE OF WHAT IS BLACK CHANGES NOTHING: all that it reaches over slots and delegates is black.
-use Rattle.std.proofs.Common.{◌≡◌, ℕ, Bool, true, false, [], ◌∷◌, Option, Some, None, if◌then◌else◌, refl, sym, ◌∙◌, ap, subst, inl, ⊎_elim}
+use Rattle.std.proofs.Common.{◌≡◌, ℕ, Bool, true, false, [], ◌∷◌, Option, Some, None, IfSome, option_map, if◌then◌else◌, refl, sym, ◌∙◌, ap, subst, inl, ⊎_elim}
+use Rattle.std.specs.Option.{option_to_list}
 use Rattle.cc_lists.specs.Members.{Among, has}
 use Rattle.cc_lists.proofs.Members.{Among-map_cases, Among-flat_map_cases}
 use Rattle.cc_lists.proofs.ListWrites.{map-unchanged}
@@ -14,8 +15,13 @@ use Rattle.cc_model.specs.Slots.{contents, from_to}
 use Rattle.cc_model.specs.Heap.{Heap, HeapScript, register}
 use Rattle.cc_model.specs.Places.{script_places_of}
 use Rattle.cc_model.specs.View.{script_slot_edges}
+use Rattle.cc_model.specs.Marking.{NewMarks, exposed_marks}
 use Rattle.cc_model.specs.Exposure.{as_black, exposed, exposed_names, exposure_rules, slots_of_scripts}
 use Rattle.cc_laws_heap.proofs.Face.{IsColoured, IsHeldBlack, contents-at-of_writes as contents-at}
+use Rattle.cc_heaps.specs.Keyed.{Keyed}
+use Rattle.cc_heaps.specs.NewMarks.{marks_of}
+use Rattle.cc_wrappers.proofs.Marked.{exposed-black}
+use Rattle.cc_mutator.specs.Commands.{AreHeldMarked}
 
 module _ (h : Heap) (c : IsColoured h) where
   -- script objects of this name are black
@@ -58,3 +64,16 @@ module _ (h : Heap) (c : IsColoured h) where
   -- what a register holds is black
   pub register-black : (r : ℕ) → IsHeldBlack h.scripts (register h (S r))
   register-black r = λ o m i. c.held_black o m (contents-at h.script_registers r o.name i)
+
+-- AN EXPOSURE OF WHAT A REGISTER HOLDS changes no new mark, where registers hold what is black by the new mark.
+pub register-marked : (v : Keyed) (r : ℕ) → AreHeldMarked v →
+    option_map (exposed_marks v.heap (register v.heap (S r))) (marks_of v) ≡ option_map (exposed_marks v.heap None) (marks_of v)
+unfolding exposed_marks
+register-marked v r black = go (register v.heap (S r)) (marks_of v) (λ x i. contents-at v.heap.script_registers r x i) black
+  where
+    go : (x : Option Name) (o : Option NewMarks) → ((y : Name) → Among y (option_to_list x) → Among y (contents v.heap.script_registers)) →
+        IfSome o (λ m. (y : Name) → Among y (contents v.heap.script_registers) → ¬ (Among y m.unblack)) →
+        option_map (exposed_marks v.heap x) o ≡ option_map (exposed_marks v.heap None) o
+    go None o holds b = refl
+    go (Some x) None holds b = refl
+    go (Some x) (Some m) holds b = ap (λ n. Some n) (exposed-black v.heap x m (b x (holds x (inl refl))))

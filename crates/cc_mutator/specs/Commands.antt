@@ -1,5 +1,6 @@
 -- WHAT A COMMAND COMES TO: it is refused, or it lacks memory, or it is carried out; and how contents are held.
-use Rattle.std.specs.Prelude.{◌≡◌, ◌≢◌, true, false, Bool, ℕ, List, Option, Some, None}
+use Rattle.std.specs.Prelude.{◌≡◌, ◌≢◌, true, false, Bool, ℕ, List, Option, Some, None, IfSome, option_map}
+use Rattle.cc_lists.specs.Members.{Among}
 use Rattle.cc_names.specs.declared.name.Name.{Name}
 use Rattle.cc_names.specs.declared.number.SKey.{SKey}
 use Rattle.cc_model.specs.declared.command.Command.{Command}
@@ -12,14 +13,26 @@ use Rattle.cc_model.specs.Checks.{named_or_nothing, refusal_of, reply_if_taken}
 use Rattle.cc_model.specs.Deeds.{Deed, deed_of}
 use Rattle.cc_model.specs.Heap.{objects_of}
 use Rattle.cc_model.specs.Effects.{done_in, takes_memory}
+use Rattle.cc_model.specs.Marking.{marking_after}
+use Rattle.cc_model.specs.Slots.{contents}
 use Rattle.cc_counted.specs.declared.held.Held.{Held}
 use Rattle.cc_counted.specs.declared.held.Held.TheVariants as held
 use Rattle.cc_heaps.specs.Keyed.{Keyed, IsInOrder}
 use Rattle.cc_heaps.specs.Changes.{KeepsKeys}
 use Rattle.cc_heaps.specs.Marks.{MarksGoOn}
+use Rattle.cc_heaps.specs.NewMarks.{AreListed, marks_of}
 use Rattle.cc_weakrefs.specs.declared.noted.Noted.{Noted}
 use Rattle.cc_weakrefs.specs.Noting.{HoldKeys, names_noted}
 use Rattle.cc_mutator.specs.Applied.{IsCarriedOut, deed_by, reply_by}
+
+-- WHAT SCRIPT REGISTERS HOLD IS BLACK BY THE NEW MARK, where a marking goes on in slices. So it is from its begin on: what comes into a
+-- register is exposed or made, or stood in one.
+abbrev pub AreHeldMarked : Keyed → Type 0
+AreHeldMarked v = IfSome (marks_of v) (λ m. (x : Name) → Among x (contents v.heap.script_registers) → ¬ (Among x m.unblack))
+
+-- A DEED LEAVES THE NEW MARKS that it comes to, where what is to be scanned is well listed and registers hold what is black by them
+abbrev pub HasMarksAfter : Deed → Keyed → Keyed → Type 0
+HasMarksAfter d old new = AreListed old → AreHeldMarked old → marks_of new ≡ option_map (marking_after old.heap d) (marks_of old)
 
 -- A DEED IS ANSWERED: it is done, and answered so; or, where it may lack memory, it does, and nothing changes.
 pub record IsAnswered (d : Deed) (answer : Reply) (may_lack : Bool) (old new : Keyed) (reply : Reply) (before after : Telling) : Type 0 where
@@ -30,6 +43,7 @@ pub record IsAnswered (d : Deed) (answer : Reply) (may_lack : Bool) (old new : K
   pub keys : KeepsKeys old new
   pub order : (owned : List ℕ) → IsInOrder owned old → IsInOrder owned new
   pub marks : MarksGoOn old new
+  pub marking : reply ≢ Refused no_memory → HasMarksAfter d old new
 
 -- a deed that takes no memory
 abbrev pub IsDone : Deed → Keyed → Keyed → Reply → Telling → Telling → Type 0
@@ -57,6 +71,7 @@ pub record IsApplied (c : Command) (old new : Keyed) (weak noted : List (Option 
   pub keys : KeepsKeys old new
   pub order : (owned : List ℕ) → IsInOrder owned old → IsInOrder owned new
   pub marks : MarksGoOn old new
+  pub marking : refusal_of (objects_of old.heap) c ≡ None → reply ≢ Refused no_memory → HasMarksAfter (deed_by old.heap (names_noted weak) c) old new
   -- what they note has its key in the heaps as these were
   pub held : HoldKeys noted old
 

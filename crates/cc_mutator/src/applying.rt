@@ -20,7 +20,7 @@ ghost use Rattle.cc_heaps.specs.Few.{AreOwnedOnce};
 ghost use Rattle.cc_heaps.specs.Keeping.{KeepsAll};
 ghost use Rattle.cc_weakrefs.specs.Noting.{HoldKeys, names_noted};
 ghost use Rattle.cc_mutator.specs.Applied.{IsCarriedOut, deed_by};
-ghost use Rattle.cc_mutator.specs.Commands.{IsApplied, IsTakenBeside, IsTakenUp};
+ghost use Rattle.cc_mutator.specs.Commands.{HasMarksAfter, IsApplied, IsTakenBeside, IsTakenUp};
 ghost use Rattle.cc_mutator.specs.Listing.{AgreesFor, AreListedFor};
 
 use crate::checks::HeapReads;
@@ -159,6 +159,10 @@ fn answer<N: Notices>(
 ///
 /// Afterwards the heaps stand for the graph's step, or without memory for the graph as it was; each snapshot that was
 /// fresh is fresh, and no native that nothing reaches is forgotten, whatever the candidates of a running collection are.
+///
+/// Where a marking goes on in slices, the new marks are those after the command: what it exposes is black by them, with all that
+/// it reaches past what is, and nothing else changes. For that what script registers hold is to be black by the new mark before:
+/// a register that is copied is exposed too. A command that is refused, or lacks memory, leaves them.
 pub fn apply<N: Notices>(
     heaps: &mut Heaps,
     weak: &mut WeakRegs,
@@ -183,6 +187,8 @@ pub fn apply<N: Notices>(
         IsWellMade (graph_after s.ended s.graph command.now (Some result)) × StandsFor heaps.new.heap (graph_after s.ended s.graph command.now (Some result)) }
     ensures keys { HoldKeys weak.new heaps.new }
     ensures kept { KeepsAll heaps.old heaps.new }
+    ensures marking { refusal_of (objects_of heaps.old.heap) command.now ≡ None → result ≢ refused no_memory →
+        HasMarksAfter (deed_by heaps.old.heap (names_noted weak.old) command.now) heaps.old heaps.new }
 {
     answer(heaps, weak, command, out)
 }

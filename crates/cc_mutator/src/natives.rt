@@ -1,5 +1,5 @@
 //! What native registers and slots of natives hold from then on.
-ghost use Rattle.std.specs.Prelude.{◌≡◌, ◌<◌, false, ℕ, List, length, None};
+ghost use Rattle.std.specs.Prelude.{◌≡◌, ◌<◌, false, ℕ, List, length, None, option_map};
 ghost use Rattle.cc_names.specs.declared.register.Reg.TheVariants.{N as n_register, S as s_register};
 ghost use Rattle.cc_names.specs.Sizes.{bank_length};
 ghost use Rattle.cc_model.specs.Telling.{TellsEvents};
@@ -7,9 +7,11 @@ ghost use Rattle.cc_model.specs.Checks.{is_script_there, native_of, slot_at, slo
 ghost use Rattle.cc_model.specs.Deeds.{native_held, native_stored, slot_moved};
 ghost use Rattle.cc_model.specs.Effects.{move_slot as moved};
 ghost use Rattle.cc_model.specs.Heap.{objects_of, register, source};
+ghost use Rattle.cc_model.specs.Marking.{exposed_marks};
 ghost use Rattle.cc_heaps.specs.Keyed.{IsInOrder};
 ghost use Rattle.cc_heaps.specs.Changes.{IsNativeThere, IsThere, KeepsKeys, held_name, native_name};
 ghost use Rattle.cc_heaps.specs.Marks.{MarksGoOn};
+ghost use Rattle.cc_heaps.specs.NewMarks.{marks_of};
 ghost use Rattle.cc_heaps.specs.Few.{AreOwnedOnce};
 ghost use Rattle.cc_mutator.specs.Commands.{IsDone, IsNamed};
 
@@ -116,6 +118,8 @@ fn hand_over<N: Notices>(heaps: &mut Heaps, d: RegNo, i: u32, s: RegNo, j: u32, 
     ensures keys { KeepsKeys heaps.old heaps.new }
     ensures order { (owned : List ℕ) → IsInOrder owned heaps.old → IsInOrder owned heaps.new }
     ensures marks { MarksGoOn heaps.old heaps.new }
+    ensures marking { marks_of heaps.new ≡
+        option_map (exposed_marks heaps.old.heap (slot_at (objects_of heaps.old.heap) (n_register s) j)) (marks_of heaps.old) }
 {
     let Some(to) = heaps.native_reg(d) else {
         unreachable!();

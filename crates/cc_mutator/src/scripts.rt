@@ -12,11 +12,13 @@ ghost use Rattle.cc_model.specs.Deeds.{entry_written, object_exposed, reflector_
 ghost use Rattle.cc_model.specs.Effects.{put_in_script, set_entry as entry_set, takes_memory};
 ghost use Rattle.cc_model.specs.Exposure.{exposed};
 ghost use Rattle.cc_model.specs.Heap.{objects_of, register, source};
+ghost use Rattle.cc_model.specs.Marking.{exposed_marks};
 ghost use Rattle.cc_model.specs.View.{view};
 ghost use Rattle.cc_script.specs.Objects.{colour_at};
 ghost use Rattle.cc_heaps.specs.Keyed.{IsInOrder};
 ghost use Rattle.cc_heaps.specs.Changes.{IsScriptThere, KeepsKeys, script_name};
 ghost use Rattle.cc_heaps.specs.Marks.{MarksGoOn};
+ghost use Rattle.cc_heaps.specs.NewMarks.{AreListed, marks_of};
 ghost use Rattle.cc_mutator.specs.Commands.{IsAnswered, IsDone, IsNamed};
 
 use crate::reads::{
@@ -104,6 +106,7 @@ fn store_script(heaps: &mut Heaps, d: RegNo, i: u32, content: Option<SKey>)
     ensures keys { KeepsKeys heaps.old heaps.new }
     ensures order { (owned : List ℕ) → IsInOrder owned heaps.old → IsInOrder owned heaps.new }
     ensures marks { MarksGoOn heaps.old heaps.new }
+    ensures marking { AreListed heaps.old → marks_of heaps.new ≡ marks_of heaps.old }
 {
     match heaps.script_reg(d) {
         Some(key) => {
@@ -151,6 +154,7 @@ fn write_entry(heaps: &mut Heaps, m: RegNo, k: RegNo, value: Option<SKey>) -> Re
     ensures keys { KeepsKeys heaps.old heaps.new }
     ensures order { (owned : List ℕ) → IsInOrder owned heaps.old → IsInOrder owned heaps.new }
     ensures marks { MarksGoOn heaps.old heaps.new }
+    ensures marking { AreListed heaps.old → marks_of heaps.new ≡ marks_of heaps.old }
     ensures same { OnErr result (heaps.new ≡ heaps.old) }
     ensures some { OnErr result (IsSome value) }
     ensures none { OnErr result (value_at (objects_of heaps.old.heap) (register heaps.old.heap (s_register m)) (register heaps.old.heap (s_register k)) ≡ None) }
@@ -192,6 +196,7 @@ fn touch(heaps: &mut Heaps, content: Option<SKey>)
     ensures keys { KeepsKeys heaps.old heaps.new }
     ensures order { (owned : List ℕ) → IsInOrder owned heaps.old → IsInOrder owned heaps.new }
     ensures marks { MarksGoOn heaps.old heaps.new }
+    ensures marking { marks_of heaps.new ≡ option_map (exposed_marks heaps.old.heap (script_name heaps.old content)) (marks_of heaps.old) }
 {
     if let Some(key) = content {
         heaps.expose(key);

@@ -1,4 +1,4 @@
-use Rattle.std.proofs.Common.{◌≡◌, List, Some, not, refl, sym, ◌∙◌, ap, arith}
+use Rattle.std.proofs.Common.{◌≡◌, List, Some, not, option_map, refl, sym, ◌∙◌, ap, arith}
 use Rattle.cc_names.specs.declared.register.Reg.TheVariants.{N, S}
 use Rattle.cc_names.specs.Names.{reflector}
 use Rattle.cc_model.specs.declared.item.Refusal.TheVariants.{NoMemory}
@@ -7,11 +7,14 @@ use Rattle.cc_model.specs.Checks.{named_or_nothing, reflector_of}
 use Rattle.cc_model.specs.Effects.{done_in, lacks_reflector, wrapped}
 use Rattle.cc_model.specs.Exposure.{exposed}
 use Rattle.cc_model.specs.Heap.{Heap, register, set_register}
+use Rattle.cc_model.specs.Marking.{exposed_marks}
 use Rattle.cc_model.specs.WellFormed.{native_names, script_names}
 use Rattle.cc_laws_heap.proofs.Face.{AreColoured-from_view}
 use Rattle.cc_script.specs.Objects.{Object, name_at}
 use Rattle.cc_heaps.specs.Keyed.{the_number}
+use Rattle.cc_heaps.specs.NewMarks.{marks_of}
 use Rattle.cc_heaps.proofs.MarksKept.{marks-then}
+use Rattle.cc_wrappers.proofs.Marked.{exposed-again}
 use Rattle.cc_mutator.proofs.Carrying.{answered-denied, answered-silently, named-not_refused}
 use Rattle.cc_mutator.proofs.Exposing.{exposed-same}
 use Rattle.cc_mutator.proofs.NativesRead.{held-number}
@@ -46,6 +49,9 @@ returns-in-Ok c = λ t.
     (left ∙ (ap (λ (g : Heap). set_register g (S c.args.d) (Some (reflector k))) e.heap ∙ ap (λ y. set_register (wrapped v.heap y) (S c.args.d) (reflector_of y)) (sym held)))
     (KeepsKeys-then v w c.set_script_reg.new.self e.kept.keys c.set_script_reg.ensures.kept.keys (ap native_names left) (ap script_names left)) (λ owned o. c.set_script_reg.ensures.kept.order owned (c.wrap.ensures.kept.order owned o))
     (marks-then e.kept.marks c.set_script_reg.ensures.kept.marks)
+    (λ listed marked. c.set_script_reg.ensures.marking
+    ∙ ((λ i. option_map (exposed_marks w.heap (e.name i)) (e.marking listed i))
+    ∙ (exposed-again v.heap w.heap (reflector k) (marks_of v) ∙ ap (λ y. option_map (exposed_marks v.heap (reflector_of y)) (marks_of v)) (sym held))))
 
 pub returns-in-Err : goal.returns-in-Err
 returns-in-Err c = λ t.

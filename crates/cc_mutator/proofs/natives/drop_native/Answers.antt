@@ -11,4 +11,4 @@ pub returns : goal.returns
 unfolding done_in
 returns g c =
     let e = c.set_native_reg.ensures in
-    answered-left _ _ _ _ _ _ _ (hold_native c.args.heaps.now.heap c.args.d None) refl refl (done-not_refused NoMemory) e.heap e.told e.kept.order
+    answered-left _ _ _ _ _ _ _ (hold_native c.args.heaps.now.heap c.args.d None) refl refl (done-not_refused NoMemory) e.heap e.told e.kept.order refl

@@ -1,11 +1,13 @@
-use Rattle.std.proofs.Common.{◌≡◌, ◌<◌, sym, ◌∙◌, ap, subst, arith}
+use Rattle.std.proofs.Common.{◌≡◌, ◌<◌, option_map, sym, ◌∙◌, ap, subst, arith}
 use Rattle.cc_model.specs.Effects.{move_slot}
 use Rattle.cc_model.specs.Heap.{Outcome}
+use Rattle.cc_model.specs.Marking.{exposed_marks}
 use Rattle.cc_model.specs.Telling.{TellsEvents}
 use Rattle.cc_heaps.specs.Changes.{moved_in}
 use Rattle.cc_heaps.specs.Keyed.{the_number}
+use Rattle.cc_heaps.specs.NewMarks.{marks_of}
 use Rattle.cc_mutator.proofs.NativesRead.{held-number, slots-as_many, slots-few}
-use Rattle.cc_mutator.proofs.Storing.{moved-moves}
+use Rattle.cc_mutator.proofs.Storing.{held-slot, moved-moves}
 use Rattle.cc_mutator.proofs.natives.hand_over.Given as given
 use Rattle.cc_mutator.proofs.natives.hand_over.Goals as goal
 
@@ -48,3 +50,11 @@ returns-clause-told g c =
 
 pub returns-clause-marks : goal.returns-clause-marks
 returns-clause-marks g c = c.move_slot.ensures.kept.marks
+
+pub returns-clause-marking : goal.returns-clause-marking
+returns-clause-marking g c =
+    let v = c.args.heaps.now in
+    let f = c.requires.order in
+    let e = c.in-Some-native_reg in
+    subst (λ x. marks_of c.move_slot.new.self ≡ option_map (exposed_marks v.heap x) (marks_of v))
+    (held-slot v.heap c.args.s _ c.args.j (held-number f.0 v f.1 c.args.s e.from e.ensures.name e.ensures.there)) c.move_slot.ensures.marking

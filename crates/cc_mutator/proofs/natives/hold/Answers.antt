@@ -13,4 +13,4 @@ unfolding done_in
 returns g c =
     let v = c.args.heaps.now in
     let e = c.set_native_reg.ensures in
-    answered-left _ _ _ _ _ _ _ (hold_native v.heap c.args.d (native_name v c.args.content)) refl c.naming_native-reply.ensures (named-not_refused _ NoMemory) e.heap e.told e.kept.order
+    answered-left _ _ _ _ _ _ _ (hold_native v.heap c.args.d (native_name v c.args.content)) refl c.naming_native-reply.ensures (named-not_refused _ NoMemory) e.heap e.told e.kept.order refl

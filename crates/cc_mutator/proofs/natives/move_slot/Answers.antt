@@ -9,4 +9,4 @@ pub returns : goal.returns
 unfolding done_in
 returns g c =
     let e = c.hand_over.ensures in
-    answered-done _ _ _ _ _ _ _ false (c.naming-reply.ensures ∙ ap named_or_nothing c.native_content-content.ensures.name) (named-not_refused _ NoMemory) e.heap e.told e.keys e.order e.marks
+    answered-done _ _ _ _ _ _ _ false (c.naming-reply.ensures ∙ ap named_or_nothing c.native_content-content.ensures.name) (named-not_refused _ NoMemory) e.heap e.told e.keys e.order e.marks (λ listed held. e.marking)

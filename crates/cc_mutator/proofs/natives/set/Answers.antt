@@ -25,4 +25,4 @@ returns g c =
     let held = held-number c.requires.order.0 v c.requires.order.1 c.args.d c.in-Some.key c.in-Some.ensures.name c.in-Some.ensures.there in
     answered-left _ _ _ _ _ _ _ (stored_in v.heap (the_number v c.in-Some.key.0) c.args.i x)
     (ap (store_native v.heap c.args.d c.args.i) (sym c.source_content-content.ensures.name) ∙ sym (stored-store v.heap c.args.d _ c.args.i x held)) refl (done-not_refused NoMemory) e.heap e.told
-    e.kept.order
+    e.kept.order refl

@@ -15,4 +15,4 @@ returns c = λ t.
     let h = c.args.heaps.now.heap in
     let e = c.set_script_reg.ensures in
     answered-silently _ _ _ _ _ t false (set_register h (S c.args.d) None) refl refl (done-not_refused NoMemory)
-    (e.heap ∙ ap (λ (k : Heap). set_register k (S c.args.d) None) (exposed-none h)) e.kept.keys e.kept.order e.kept.marks
+    (e.heap ∙ ap (λ (k : Heap). set_register k (S c.args.d) None) (exposed-none h)) e.kept.keys e.kept.order e.kept.marks (λ listed held. e.marking)

@@ -13,4 +13,4 @@ unfolding done_in
 returns c = λ t.
     let v = c.args.heaps.now in
     let e = c.set_script_reg.ensures in
-    answered-silently _ _ _ _ _ t false (hold_script v.heap c.args.d (script_name v c.args.content)) refl c.naming_script-reply.ensures (named-not_refused _ NoMemory) e.heap e.kept.keys e.kept.order e.kept.marks
+    answered-silently _ _ _ _ _ t false (hold_script v.heap c.args.d (script_name v c.args.content)) refl c.naming_script-reply.ensures (named-not_refused _ NoMemory) e.heap e.kept.keys e.kept.order e.kept.marks (λ listed held. e.marking)

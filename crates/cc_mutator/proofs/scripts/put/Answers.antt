@@ -4,7 +4,7 @@ use Rattle.cc_model.specs.declared.item.Refusal.TheVariants.{NoMemory}
 use Rattle.cc_model.specs.Effects.{done_in, put_in_script}
 use Rattle.cc_model.specs.Heap.{register, source}
 use Rattle.cc_laws_heap.proofs.Face.{AreColoured-from_view}
-use Rattle.cc_mutator.proofs.Carrying.{answered-silently, done-not_refused}
+use Rattle.cc_mutator.proofs.Carrying.{silently-unexposed, done-not_refused}
 use Rattle.cc_mutator.proofs.ScriptsRead.{source-black}
 use Rattle.cc_mutator.proofs.scripts.put.Goals as goal
 
@@ -20,5 +20,5 @@ returns c = λ t.
     let h = c.args.heaps.now.heap in
     let e = c.store_script.ensures in
     let to = register h (S c.args.d) in
-    answered-silently _ _ _ _ _ t false (put_in_script h to c.args.i (source h (option_map S c.args.from))) refl refl (done-not_refused NoMemory)
-    (e.heap ∙ ap (put_in_script h to c.args.i) c.script_source-content.ensures.name) e.keys e.order e.marks
+    silently-unexposed _ _ _ _ _ t false (put_in_script h to c.args.i (source h (option_map S c.args.from))) refl refl (done-not_refused NoMemory)
+    (e.heap ∙ ap (put_in_script h to c.args.i) c.script_source-content.ensures.name) e.keys e.order e.marks refl e.marking

@@ -2,7 +2,7 @@ use Rattle.std.proofs.Common.{◌<◌, length, List, sym, subst, ap, arith}
 use Rattle.cc_script.specs.Objects.{Object}
 use Rattle.cc_script.specs.Objects as objects
 use Rattle.cc_heaps.specs.Keyed.{Keyed}
-use Rattle.cc_heaps.proofs.MarksKept.{marks-then}
+use Rattle.cc_heaps.proofs.MarksKept.{marks-stay-changed, marks-stay-then, marks-then}
 use Rattle.cc_mutator.proofs.ScriptsRead.{script_slots-as_many, script_slots-few}
 use Rattle.cc_mutator.proofs.scripts.store_script.Goals as goal
 
@@ -28,3 +28,6 @@ returns-clause-keys c = grind arith
 
 pub returns-clause-marks : goal.returns-clause-marks
 returns-clause-marks c = marks-then c.preserve-is_reflector.ensures.kept.marks c.store_script.ensures.kept.marks
+
+pub returns-clause-marking : goal.returns-clause-marking
+returns-clause-marking c = (marks-stay-then (marks-stay-changed c.args.heaps.now _ _ c.preserve-is_reflector.ensures.heap) c.store_script.ensures.marks).by_names

@@ -33,3 +33,9 @@ returns-in-None-clause-order c = c.unset_entry.ensures.kept.order
 
 pub returns-in-None-clause-marks : goal.returns-in-None-clause-marks
 returns-in-None-clause-marks c = c.unset_entry.ensures.kept.marks
+
+pub returns-in-Some-value-clause-marking : goal.returns-in-Some-value-clause-marking
+returns-in-Some-value-clause-marking c = c.set_entry.ensures.marks.by_names
+
+pub returns-in-None-clause-marking : goal.returns-in-None-clause-marking
+returns-in-None-clause-marking c = c.unset_entry.ensures.marks.by_names
