@@ -7,18 +7,21 @@ ghost use Rattle.cc_model.specs.Checks.{native_of};
 ghost use Rattle.cc_model.specs.Effects.{wrapped};
 ghost use Rattle.cc_model.specs.Graph as graph;
 ghost use Rattle.cc_model.specs.Heap.{has_reflector, preserve as preserved};
+ghost use Rattle.cc_model.specs.Marking.{exposed_marks};
 ghost use Rattle.cc_script.specs.Objects.{colour_at, is_there, name_at};
 ghost use Rattle.cc_heaps.specs.Keyed.{IsInOrder, number_at, the_number, changed_to};
 ghost use Rattle.cc_heaps.specs.Changes.{IsNativeThere, IsScriptThere, native_name};
 ghost use Rattle.cc_heaps.specs.Standing.{IsReached, MayHold, StandsAfter};
 ghost use Rattle.cc_heaps.specs.Few.{AreOwnedOnce};
 ghost use Rattle.cc_heaps.specs.Keeping.{KeepsAllIfBlack, KeepsAllIfReached};
+ghost use Rattle.cc_heaps.specs.NewMarks.{AreListed, marks_of};
 
 use cc_heaps::Heaps;
 use cc_names::{NKey, NoMemory, SKey};
 
 /// The reflector of a native, for script: it is black, with all that it reaches over slots and from proxies to their
-/// delegates. The one that the native has is exposed; where it has none, one is made.
+/// delegates. The one that the native has is exposed, by the new mark too where a marking goes on in slices; where it has none,
+/// one is made, which is black by it.
 ///
 /// `NoMemory` only where the native has no reflector; it changes nothing.
 pub fn wrap(heaps: &mut Heaps, key: NKey) -> Result<SKey, NoMemory>
@@ -32,6 +35,8 @@ pub fn wrap(heaps: &mut Heaps, key: NKey) -> Result<SKey, NoMemory>
     ensures same { OnErr result (heaps.new ≡ heaps.old) }
     ensures natives { heaps.new.keys ≡ heaps.old.keys }
     ensures kept { KeepsAllIfReached (IsReached heaps.old.heap (Some (native (the_number heaps.old key.0)))) heaps.old heaps.new }
+    ensures marking { AreListed heaps.old →
+        OnOk result (marks_of heaps.new ≡ option_map (exposed_marks heaps.old.heap (Some (reflector (the_number heaps.old key.0)))) (marks_of heaps.old)) }
     ensures stands { OnOk result (IsReached heaps.old.heap (Some (native (the_number heaps.old key.0))) →
         StandsAfter heaps.old.heap heaps.new.heap (λ g. graph.wrapped g (Some (native (the_number heaps.old key.0))))) }
     ensures reached { (x : Option Name) → IsReached heaps.old.heap x → IsReached heaps.new.heap x }

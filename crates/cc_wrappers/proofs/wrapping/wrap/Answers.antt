@@ -1,14 +1,18 @@
-use Rattle.std.proofs.Common.{◌≡◌, true, false, Some, sym, ◌∙◌, ap}
+use Rattle.std.proofs.Common.{◌≡◌, true, false, Some, option_map, Result, Ok, Err, OnOk, sym, ◌∙◌, ap}
 use Rattle.cc_heaps.proofs.ObjectsKept.{named-there}
 use Rattle.std.proofs.lemmas.Result.{on_ok_weaker}
 use Rattle.cc_lists.proofs.KnownBytes.{on_err_of}
 use Rattle.cc_names.specs.Names.{native, reflector}
 use Rattle.cc_model.specs.Heap.{has_reflector}
+use Rattle.cc_model.specs.Marking.{exposed_marks}
+use Rattle.cc_laws_heap.proofs.Face.{has_reflector-none}
 use Rattle.cc_counted.specs.Counts.{reflector_at}
 use Rattle.cc_script.specs.Objects.{name_at}
 use Rattle.cc_heaps.specs.Keyed.{counts_of, the_number}
+use Rattle.cc_heaps.specs.NewMarks.{marks_of}
 use Rattle.cc_heaps.specs.Standing.{IsReached}
 use Rattle.cc_heaps.proofs.Kept.{KeepsAll-if_reached}
+use Rattle.cc_wrappers.proofs.Marked.{exposed-absent}
 use Rattle.cc_wrappers.proofs.Wrapped.{reflector-name, reflector-none, reflector-has, exposed-wrapped, exposed-name, exposed-colour, exposed-stands, exposed-keeps_reached, made-wrapped, made-colour, made-keeps_reached}
 use Rattle.cc_wrappers.proofs.wrapping.wrap.Goals as goal
 
@@ -73,6 +77,9 @@ returns-in-Some-clause-reached c =
     let v = c.args.heaps.now in
     exposed-keeps_reached v c.expose.new.self c.requires.order.1 (c.expose.ensures.kept.order c.requires.order.0 c.requires.order.1) (the_number v c.args.key.0) c.in-Some.there.0 (named c) (has c) c.expose.ensures.heap c.expose.ensures.kept.keys
 
+pub returns-in-Some-clause-marking : goal.returns-in-Some-clause-marking
+returns-in-Some-clause-marking c listed = c.expose.ensures.marking ∙ ap (λ x. option_map (exposed_marks c.args.heaps.now.heap x) (marks_of c.args.heaps.now)) (named c)
+
 -- A new one
 
 -- there was none
@@ -104,3 +111,14 @@ returns-in-None-clause-reached c =
     let v = c.args.heaps.now in
     made-keeps_reached v c.new_reflector.new.self (c.new_reflector.ensures.kept.order c.requires.order.0 c.requires.order.1) (the_number v c.args.key.0) (lacks c) c.new_reflector.result
     c.new_reflector.ensures.heap c.new_reflector.ensures.same
+
+pub returns-in-None-clause-marking : goal.returns-in-None-clause-marking
+returns-in-None-clause-marking c listed =
+    let v = c.args.heaps.now in
+    let k = the_number v c.args.key.0 in
+    on_ok_of c.new_reflector.result
+    (c.new_reflector.ensures.marks.by_names listed ∙ exposed-absent v c.requires.order.1.named v.heap (reflector k) (has_reflector-none v.heap k (lacks c)))
+  where
+    on_ok_of : {T E P : Type 0} (r : Result T E) → P → OnOk r P
+    on_ok_of (Ok x) p = p
+    on_ok_of (Err e) p = tt
