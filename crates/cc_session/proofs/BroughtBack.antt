@@ -5,20 +5,21 @@ use Rattle.cc_names.specs.declared.register.Reg.TheVariants.{N}
 use Rattle.cc_model.specs.Graph as graph
 use Rattle.cc_model.specs.View.{view}
 use Rattle.cc_laws_run.specs.Doomed.{IsDoomed}
+use Rattle.cc_heaps.specs.Changes.{KeepsKeys}
 use Rattle.cc_heaps.specs.Standing.{IsReached, StandsAfter}
 use Rattle.cc_heaps.proofs.Leaving.{nothing-told}
 use Rattle.cc_host.specs.declared.stop.Stop.{Stop}
-use Rattle.cc_host.specs.Calls.{Always, Brings, Does, TellsFreed}
+use Rattle.cc_host.specs.Calls.{Always, Brings, Does, NoneComes, TellsFreed}
 use Rattle.cc_host.specs.declared.object.Object.{Object}
 use Rattle.cc_host.specs.declared.weak.Weak.{Weak}
 use Rattle.cc_host.specs.Referring.{has_ended, referent, upgraded}
-use Rattle.cc_host.specs.Hosted.{Hosted, named}
+use Rattle.cc_host.specs.Hosted.{Hosted, IsKept, named}
 use Rattle.cc_host.specs.Missing.{KeepsDoomed, KeepsDoomedBut}
 use Rattle.cc_host.specs.Queues.{told_all}
-use Rattle.cc_host.proofs.Composing.{stands-then}
+use Rattle.cc_host.proofs.Composing.{KeepsKeys-then, stands-then}
 use Rattle.cc_host.proofs.KeptDoomed.{doomed-then}
 use Rattle.cc_session.specs.declared.root.Root.{Root}
-use Rattle.cc_session.specs.Roots.{TellsInThree, brought_back, brought_for_nothing, leaf_in, meanwhile, rooted_from, slot_for, some_tables, with_tables}
+use Rattle.cc_session.specs.Roots.{KeepsKeysInTwo, TellsInThree, brought_back, brought_for_nothing, leaf_in, meanwhile, rooted_from, slot_for, some_tables, with_tables}
 use Rattle.cc_session.specs.Sessions.{State}
 
 -- the slot of a root, in a table that is made for it
@@ -92,3 +93,24 @@ brought-bring a b c w x index e d t = subst (λ n. StandsAfter a.heaps.heap c.he
 pub brought-none : (a b : Hosted) (x : Option Name) → b ≡ a → KeepsDoomedBut x a.heaps.heap b.heaps.heap
 unfolding KeepsDoomedBut
 brought-none a b x e s ds keeps none i = subst (λ (h : Hosted). IsDoomed (view h.heaps.heap) s ds) (sym e) i
+
+-- One step that keeps the keys, and nothing after it.
+pub keys-nothing : (h : Hosted) → KeepsKeys h.heaps h.heaps
+keys-nothing h = record { natives = λ key k at there. at; scripts = λ key x at there. at }
+
+pub keys-once : (a b : State) → TellsFreed a.host b.host (told_all a.told) (told_all b.told) → KeepsKeys a.host.heaps b.host.heaps → KeepsKeysInTwo a b
+keys-once a b t k = (b, (t, (b, told-nothing b, told-nothing b)), (k, keys-nothing b.host))
+
+-- also where the call did nothing
+pub keys-same : (a b : Hosted) → b ≡ a → KeepsKeys a.heaps b.heaps
+keys-same a b e = subst (λ (h : Hosted). KeepsKeys a.heaps h.heaps) (sym e) (keys-nothing a)
+
+-- A root is made or not, and the register is emptied.
+pub rooted-keys : (a b c : Hosted) (r : ℕ) (x : Name) (result : Result Root Stop) → IsKept b → IsKept c → NoneComes b c →
+    IfOk result (λ root. Does (IsReached a.heaps.heap (Some x)) (put root.index x) a b) →
+    OnErr result ((n : ℕ) × (index : ℕ) × Does Always (some_tables n index) a b) →
+    Does Always (λ g. graph.set_register g (N r) None) b c → KeepsKeys a.heaps c.heaps
+rooted-keys a b c r x (Ok root) kb kc came d tried e =
+    KeepsKeys-then a.heaps b.heaps c.heaps kb.runs.order.sound.well_formed kc.runs.order.sound.well_formed came d.keys e.keys
+rooted-keys a b c r x (Err s) kb kc came d tried e =
+    KeepsKeys-then a.heaps b.heaps c.heaps kb.runs.order.sound.well_formed kc.runs.order.sound.well_formed came tried.2.keys e.keys

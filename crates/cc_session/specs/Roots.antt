@@ -10,6 +10,7 @@ use Rattle.cc_model.specs.Checks.{slots_or_none}
 use Rattle.cc_model.specs.Graph as graph
 use Rattle.cc_model.specs.Graph.{Graph}
 use Rattle.cc_model.specs.WellFormed.{names_there}
+use Rattle.cc_heaps.specs.Changes.{KeepsKeys}
 use Rattle.cc_heaps.specs.Standing.{IsReached}
 use Rattle.cc_host.specs.Calls.{Always, Does, TellsFreed}
 use Rattle.cc_host.specs.Hosted.{Hosted, IsKept}
@@ -114,6 +115,12 @@ TellsInTwo old new = (s : State) × TellsFreed old.host s.host (told_all old.tol
 -- and by three
 abbrev pub TellsInThree : State → State → Type 0
 TellsInThree old new = (s : State) × TellsFreed old.host s.host (told_all old.told) (told_all s.told) × TellsInTwo s new
+
+-- AN OBJECT KEEPS ITS KEY over two steps: one that is there before, is not told by the first step, and is there at last. What the
+-- first step tells is told before what the rest tells.
+abbrev pub KeepsKeysInTwo : State → State → Type 0
+KeepsKeysInTwo old new = (s : State) × (TellsFreed old.host s.host (told_all old.told) (told_all s.told) × TellsInTwo s new) ×
+    (KeepsKeys old.host.heaps s.host.heaps × KeepsKeys s.host.heaps new.host.heaps)
 
 -- WHAT TABLES THAT ARE MADE COME TO
 

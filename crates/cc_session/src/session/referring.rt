@@ -3,15 +3,16 @@ ghost use Rattle.std.specs.Prelude.{◌≡◌, ◌⊎◌, ◌+◌, ◌<◌, ◌�
 ghost use Rattle.cc_names.specs.declared.register.Reg.TheVariants.{N as n_register};
 ghost use Rattle.cc_model.specs.Graph as graph;
 ghost use Rattle.cc_model.specs.Heap.{register};
+ghost use Rattle.cc_heaps.specs.Changes.{KeepsKeys};
 ghost use Rattle.cc_heaps.specs.Standing.{StandsAfter};
-ghost use Rattle.cc_host.specs.Calls.{Always, Brings, Does, TellsFreed};
+ghost use Rattle.cc_host.specs.Calls.{Always, Brings, Does, NoneComes, TellsFreed};
 ghost use Rattle.cc_host.specs.Hosted.{IsKept, named, roots};
 ghost use Rattle.cc_host.specs.Missing.{KeepsDoomed, KeepsDoomedBut};
 ghost use Rattle.cc_host.specs.Queues.{told_all};
 ghost use Rattle.cc_host.specs.Referring.{HasEnded, has_ended, referent, stop_upgrade, stop_weak, upgraded};
 ghost use Rattle.cc_host.specs.Stops.{IsStoppedBy, stop_native};
 ghost use Rattle.cc_session.specs.Sessions.{Aside, Enters, serial_at};
-ghost use Rattle.cc_session.specs.Roots.{TellsInThree, TellsInTwo, brought_back, brought_for_nothing, meanwhile, rooted_from, some_tables};
+ghost use Rattle.cc_session.specs.Roots.{KeepsKeysInTwo, TellsInThree, TellsInTwo, brought_back, brought_for_nothing, meanwhile, rooted_from, some_tables};
 ghost use Rattle.cc_session.specs.Refusals.{IsRootRefused, stop_upgraded};
 
 use crate::root::Root;
@@ -84,8 +85,10 @@ impl Session {
     fn empty(&mut self, r: RegNo)
         requires { r < roots }
         ensures does { Does Always (λ g. graph.set_register g (n_register r) None) self.old.host self.new.host }
+        ensures none_came { NoneComes self.old.host self.new.host }
         ensures tells { TellsFreed self.old.host self.new.host (told_all self.old.told) (told_all self.new.told) }
         ensures aside { Aside self.old self.new }
+        ensures kept { IsKept self.new.host }
     {
         let done = self.host.set_native_root(r, None, &mut self.told);
         self.told.keeps();
@@ -112,9 +115,11 @@ impl Session {
         ensures steps { self.new.steps ≡ self.old.steps }
         ensures running { self.new.host.running ≡ self.old.host.running }
         ensures own_mark { self.new.host.mark ≡ self.old.host.mark }
+        ensures keys { KeepsKeys self.old.host.heaps self.new.host.heaps }
         ensures tells { TellsInTwo self.old self.new }
     {
         let root = self.root(x);
+        self.host.keeps();
         self.empty(r);
         match root {
             Ok(root) => Ok(root),
@@ -146,6 +151,7 @@ impl Session {
         ensures steps { self.new.steps ≡ self.old.steps }
         ensures running { self.new.host.running ≡ self.old.host.running }
         ensures own_mark { self.new.host.mark ≡ self.old.host.mark }
+        ensures keys { KeepsKeysInTwo self.old self.new }
         ensures tells { TellsInThree self.old self.new }
     {
         let Some(x) = self.bring(MEANWHILE, w)? else {

@@ -1,7 +1,9 @@
 use Rattle.std.proofs.Common.{Some, subst}
 use Rattle.cc_heaps.specs.Standing.{IsReached}
+use Rattle.cc_host.specs.Hosted.{IsKept}
+use Rattle.cc_session.specs.Sessions.{State}
 use Rattle.cc_host.proofs.Rooted.{root-reached}
-use Rattle.cc_session.proofs.BroughtBack.{rooted-doomed, rooted-stands, rooted-tried}
+use Rattle.cc_session.proofs.BroughtBack.{rooted-doomed, rooted-keys, rooted-stands, rooted-tried}
 use Rattle.cc_session.proofs.session.Session.root_from.Goals as goal
 use Rattle.cc_session.proofs.session.Session.root_from.Goals.{After-empty}
 
@@ -27,3 +29,13 @@ returns-in-Err-clause-doomed c =
 pub returns-in-Err-clause-tried : goal.returns-in-Err-clause-tried
 returns-in-Err-clause-tried c =
     rooted-tried c.args.self.now.host c.root-root.new.self.host c.empty.new.self.host c.args.r c.in-Err.ensures.tried c.empty.ensures.does
+
+pub returns-in-Ok-clause-keys : goal.returns-in-Ok-clause-keys
+returns-in-Ok-clause-keys c =
+    rooted-keys c.args.self.now.host c.root-root.new.self.host c.empty.new.self.host c.args.r c.args.x.name c.root-root.result
+    (subst (λ (t : State). IsKept t.host) c.self.view_is c.keeps.ensures) c.empty.ensures.kept c.empty.ensures.none_came c.root-root.ensures.does c.root-root.ensures.tried c.empty.ensures.does
+
+pub returns-in-Err-clause-keys : goal.returns-in-Err-clause-keys
+returns-in-Err-clause-keys c =
+    rooted-keys c.args.self.now.host c.root-root.new.self.host c.empty.new.self.host c.args.r c.args.x.name c.root-root.result
+    (subst (λ (t : State). IsKept t.host) c.self.view_is c.keeps.ensures) c.empty.ensures.kept c.empty.ensures.none_came c.root-root.ensures.does c.root-root.ensures.tried c.empty.ensures.does
