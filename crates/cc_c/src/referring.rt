@@ -11,7 +11,7 @@ ghost use Rattle.cc_host.specs.Referring.{HasEnded, has_ended, referent, stop_we
 ghost use Rattle.cc_host.specs.Stops.{stop_native};
 ghost use Rattle.cc_session.specs.Sessions.{Aside, Enters, serial_at};
 ghost use Rattle.cc_session.specs.Refusals.{stop_upgraded};
-ghost use Rattle.cc_session.specs.Roots.{TellsInThree, brought_back, brought_for_nothing, meanwhile};
+ghost use Rattle.cc_session.specs.Roots.{KeepsKeysInTwo, TellsInThree, brought_back, brought_for_nothing, meanwhile};
 ghost use Rattle.cc_c.specs.Calls.{Open, Reads, Stays};
 ghost use Rattle.cc_c.specs.Values.{IsRootStatus, IsStatus, flag, to_object, to_weak};
 
@@ -145,6 +145,7 @@ pub extern "C" fn cc_upgrade(
     ensures own_mark { Open c.old.handle.session c.new.handle.session (λ s t. t.host.mark ≡ s.host.mark) }
     ensures native { result ≡ 0 → to_object native.new ≡ referent (to_weak weak.now) }
     ensures left { result ≢ 0 → (root.new ≡ root.old) × (native.new ≡ native.old) }
+    ensures keys { Open c.old.handle.session c.new.handle.session KeepsKeysInTwo }
     ensures tells { Open c.old.handle.session c.new.handle.session TellsInThree }
 {
     let Some(mut session) = c.take(alloc) else {
