@@ -15,7 +15,7 @@ use Rattle.cc_laws_marking.proofs.Face.{ended-suspected}
 use Rattle.cc_counted.specs.Counts.{key_left}
 use Rattle.cc_heaps.specs.Changes.{KeepsKeys}
 use Rattle.cc_heaps.specs.Ending.{IsToEnd}
-use Rattle.cc_heaps.specs.Keyed.{Keyed}
+use Rattle.cc_heaps.specs.Keyed.{Keyed, IsInOrder}
 use Rattle.cc_heaps.specs.NewMarks.{AreListed, marks_of}
 use Rattle.cc_gc.specs.Sparing.{KeepsWhatIsReached, SparesWhatIsReached}
 use Rattle.cc_gc.proofs.RoundsLeft.{KeepsKeys-then}
@@ -40,6 +40,22 @@ pub record HasTried (old mid : Keyed) (some : Bool) : Type 0 where
   pub rest : mid ≡ record old { scripts = mid.scripts; marking = mid.marking }
   pub keys : KeepsKeys old mid
   pub listed : AreListed mid
+
+-- as the heaps say of a scan, by what it answers
+pub tried : (old mid : Keyed) (result some : Bool) → result ≡ some → (owned : List ℕ) → IsInOrder owned old → IsMarkingWell old →
+    IfSome (marks_of old) (λ m. result ≡ not (is_scanned m)) → marks_of mid ≡ option_map (scanned old.heap) (marks_of old) → mid.heap ≡ old.heap →
+    mid ≡ record old { scripts = mid.scripts; marking = mid.marking } → KeepsKeys old mid → AreListed mid → HasTried old mid some
+tried old mid result some is owned order well left marks heap rest keys listed = record {
+  owned = owned;
+  well = well;
+  sound = order.sound;
+  some_left = subst (λ r. IfSome (marks_of old) (λ m. r ≡ not (is_scanned m))) is left;
+  marks = marks;
+  heap = heap;
+  rest = rest;
+  keys = keys;
+  listed = listed;
+}
 
 module _ {some : Bool} (old mid : Keyed) (t : HasTried old mid some) where
   -- The marking goes on as it should,

@@ -1,13 +1,10 @@
-use Rattle.std.specs.Prelude.{IfSome}
-use Rattle.std.proofs.Common.{◌≡◌, true, false, not, [], refl, sym, subst}
-use Rattle.cc_model.specs.Marking.{is_scanned}
+use Rattle.std.proofs.Common.{true, false, [], refl, sym, subst}
 use Rattle.cc_model.specs.Suspected.{IsSuspected}
 use Rattle.cc_model.specs.View.{view}
-use Rattle.cc_heaps.specs.NewMarks.{marks_of}
 use Rattle.cc_heaps.proofs.FewCounts.{few-owned}
 use Rattle.cc_gc.specs.Sparing.{KeepsWhatIsReached}
 use Rattle.cc_gc.proofs.Sparing.{keeps-same}
-use Rattle.cc_markslice.proofs.Stepped.{HasTried, tried-well, tried-less, tried-ends, has-ended, ended-keys, ended-forgets_nothing, ended-keeps_reached, ended-spares_reached, ended-spares_held}
+use Rattle.cc_markslice.proofs.Stepped.{HasTried, tried, tried-well, tried-less, tried-ends, has-ended, ended-keys, ended-forgets_nothing, ended-keeps_reached, ended-spares_reached, ended-spares_held}
 use Rattle.cc_markslice.proofs.marking.Marking.step.Given as given
 use Rattle.cc_markslice.proofs.marking.Marking.step.Goals as goal
 
@@ -15,17 +12,7 @@ use Rattle.cc_markslice.proofs.marking.Marking.step.Goals as goal
 some : (g : given.Over) (c : goal.Then-scan_new g) → HasTried c.args.heaps.now c.scan_new.new.self true
 some g c =
     let e = c.scan_new.ensures in
-    record {
-      owned = c.requires.order.0;
-      well = c.requires.well;
-      sound = c.requires.order.1.sound;
-      some_left = subst (λ r. IfSome (marks_of c.args.heaps.now) (λ m. r ≡ not (is_scanned m))) c.if-scan_new.true e.some;
-      marks = e.marks;
-      heap = e.heap;
-      rest = e.rest;
-      keys = e.kept.keys;
-      listed = e.listed;
-    }
+    tried c.args.heaps.now c.scan_new.new.self c.scan_new.result true c.if-scan_new.true c.requires.order.0 c.requires.order.1 c.requires.well e.some e.marks e.heap e.rest e.kept.keys e.listed
 
 pub returns-then-scan_new-clause-well : goal.returns-then-scan_new-clause-well
 returns-then-scan_new-clause-well g c = λ same. tried-well _ _ (some g c)
@@ -48,33 +35,13 @@ pub end_new-requires-clause-ending : goal.end_new-requires-clause-ending
 end_new-requires-clause-ending g c =
     let e = c.scan_new.ensures in
     tried-ends _ _
-    (record {
-      owned = c.requires.order.0;
-      well = c.requires.well;
-      sound = c.requires.order.1.sound;
-      some_left = subst (λ r. IfSome (marks_of c.args.heaps.now) (λ m. r ≡ not (is_scanned m))) c.if-scan_new.false e.some;
-      marks = e.marks;
-      heap = e.heap;
-      rest = e.rest;
-      keys = e.kept.keys;
-      listed = e.listed;
-    })
+    (tried c.args.heaps.now c.scan_new.new.self c.scan_new.result false c.if-scan_new.false c.requires.order.0 c.requires.order.1 c.requires.well e.some e.marks e.heap e.rest e.kept.keys e.listed)
 
 -- and the marking was ended
 none : (g : given.Over) (c : goal.After-end_new g) → HasTried c.args.heaps.now c.scan_new.new.self false
 none g c =
     let e = c.scan_new.ensures in
-    record {
-      owned = c.requires.order.0;
-      well = c.requires.well;
-      sound = c.requires.order.1.sound;
-      some_left = subst (λ r. IfSome (marks_of c.args.heaps.now) (λ m. r ≡ not (is_scanned m))) c.if-scan_new.false e.some;
-      marks = e.marks;
-      heap = e.heap;
-      rest = e.rest;
-      keys = e.kept.keys;
-      listed = e.listed;
-    }
+    tried c.args.heaps.now c.scan_new.new.self c.scan_new.result false c.if-scan_new.false c.requires.order.0 c.requires.order.1 c.requires.well e.some e.marks e.heap e.rest e.kept.keys e.listed
 
 pub returns-clause-stepped : goal.returns-clause-stepped
 returns-clause-stepped g c = λ m is. has-ended c.args.heaps.now c.scan_new.new.self (none g c) c.end_new.new.self (g.N.Notices.telling c.args.out.now) (g.N.Notices.telling c.end_new.new.out)
