@@ -8,8 +8,7 @@ use Rattle.cc_names.specs.declared.name.Name.{Name}
 use Rattle.cc_names.specs.Names.{same_name}
 use Rattle.cc_names.proofs.NameTests.{same_name-refl, same_name-exact}
 use Rattle.cc_model.specs.Heap.{Heap}
-use Rattle.cc_model.specs.Marking.{NewMarks, held_by_script, raised_black, raised_gray, each_raised, scanned, is_scanned, is_none_of}
-use Rattle.cc_laws_heap.specs.UnderMarking.{scans_left}
+use Rattle.cc_model.specs.Marking.{NewMarks, held_by_script, raised_black, raised_gray, each_raised, scanned, is_scanned, is_none_of, scans_left}
 
 -- a list without a name is at most as long
 without-no_longer : (y : Name) (xs : List Name) → length (without same_name y xs) ≤ length xs

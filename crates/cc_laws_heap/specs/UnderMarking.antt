@@ -1,5 +1,4 @@
 -- A MARKING THAT GOES ON: what its new marks keep to from one step to the next, whatever commands come between.
-use Rattle.std.specs.Prelude.{ℕ, ◌+◌, length}
 use Rattle.cc_lists.specs.Members.{Among}
 use Rattle.cc_names.specs.declared.name.Name.{Name}
 use Rattle.cc_model.specs.Slots.{contents}
@@ -28,7 +27,3 @@ pub record IsScannedSoFar (h : Heap) (m : NewMarks) : Type 0 where
   pub gray_on : (x y : Name) → Among (x, y) (slots_of_scripts h) → Among x m.unblack → ¬ (Among x m.unmarked) → ¬ (Among x m.gray_list) → ¬ (Among y m.unmarked)
   pub black_list : (x : Name) → Among x m.black_list → Among x (script_names h) × (¬ (Among x m.unblack))
   pub gray_list : (x : Name) → Among x m.gray_list → Among x m.unblack × (¬ (Among x m.unmarked))
-
--- HOW MANY SCANS ARE LEFT at most: an object goes on a list where it gets a higher mark, so at most twice
-abbrev pub scans_left : NewMarks → ℕ
-scans_left m = length m.black_list + length m.gray_list + (length m.unblack + length m.unmarked)

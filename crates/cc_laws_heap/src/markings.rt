@@ -16,13 +16,13 @@ ghost use Rattle.cc_model.specs.Heap.{Heap, HeapNative, objects_of};
 ghost use Rattle.cc_model.specs.View.{view};
 ghost use Rattle.cc_model.specs.Places.{places_of_native};
 ghost use Rattle.cc_model.specs.Effects.{effects};
-ghost use Rattle.cc_model.specs.Marking.{NewMarks, begun_marks, scanned, is_scanned, marking_after, blacks_by_mark, marks_by_mark, ended_marks};
+ghost use Rattle.cc_model.specs.Marking.{NewMarks, begun_marks, scanned, is_scanned, marking_after, blacks_by_mark, marks_by_mark, ended_marks, scans_left};
 ghost use Rattle.cc_model.specs.Colours.{HasColourInvariant, IsMarked, coloured_by};
 ghost use Rattle.cc_model.specs.StandsFor.{StandsFor};
 ghost use Rattle.cc_laws_heap.specs.Sound.{IsSound};
 ghost use Rattle.cc_laws_heap.specs.Marks.{AreMarksClosed, IsBlackClosed};
 ghost use Rattle.cc_laws_heap.specs.Rounds.{FreesNames};
-ghost use Rattle.cc_laws_heap.specs.UnderMarking.{IsUnderMarking, IsScannedSoFar, scans_left};
+ghost use Rattle.cc_laws_heap.specs.UnderMarking.{IsUnderMarking, IsScannedSoFar};
 
 /// A marking that was just begun over sound heaps is under way as it should be: script registers hold what is black by the
 /// new marks, and natives what is marked by them. Each command that is not refused keeps it so, with the marks after what it

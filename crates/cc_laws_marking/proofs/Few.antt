@@ -13,8 +13,8 @@ use Rattle.cc_names.specs.Names.{same_name}
 use Rattle.cc_names.proofs.NameTests.{same_name-exact}
 use Rattle.cc_model.specs.Heap.{Heap, HeapScript}
 use Rattle.cc_model.specs.WellFormed.{IsWellFormed, script_names}
-use Rattle.cc_model.specs.Marking.{NewMarks}
-use Rattle.cc_laws_heap.specs.UnderMarking.{IsUnderMarking, IsScannedSoFar, scans_left}
+use Rattle.cc_model.specs.Marking.{NewMarks, scans_left}
+use Rattle.cc_laws_heap.specs.UnderMarking.{IsUnderMarking, IsScannedSoFar}
 use Rattle.cc_laws_heap.proofs.NameLists.{same_name-sym}
 use Rattle.cc_laws_marking.specs.Lists.{AreInOrderOf, HasListsInOrder}
 

@@ -6,9 +6,9 @@ ghost use Rattle.cc_model.specs.Checks.{refusal_of};
 ghost use Rattle.cc_model.specs.Deeds.{deed_of};
 ghost use Rattle.cc_model.specs.Heap.{Heap, objects_of};
 ghost use Rattle.cc_model.specs.Effects.{effects};
-ghost use Rattle.cc_model.specs.Marking.{NewMarks, begun_marks, scanned, marking_after};
+ghost use Rattle.cc_model.specs.Marking.{NewMarks, begun_marks, scanned, marking_after, scans_left};
 ghost use Rattle.cc_laws_heap.specs.Sound.{IsSound};
-ghost use Rattle.cc_laws_heap.specs.UnderMarking.{IsUnderMarking, IsScannedSoFar, scans_left};
+ghost use Rattle.cc_laws_heap.specs.UnderMarking.{IsUnderMarking, IsScannedSoFar};
 ghost use Rattle.cc_laws_marking.specs.Lists.{HasListsInOrder};
 
 /// From its begin on a marking has what is not marked, and what is not black, in order of making, and each object waits at most

@@ -11,7 +11,7 @@ use Rattle.cc_model.specs.Slots.{Slots, empty_slots}
 use Rattle.cc_model.specs.Heap.{Heap, Outcome, empty_heap}
 use Rattle.cc_model.specs.View.{view}
 use Rattle.cc_model.specs.Sweep.{collect_scripts}
-use Rattle.cc_model.specs.Marking.{NewMarks, begun_marks, is_scanned, scanned, ended_marks}
+use Rattle.cc_model.specs.Marking.{NewMarks, begun_marks, is_scanned, scanned, ended_marks, scans_left}
 use Rattle.cc_model.specs.Snapshot.{Snapshot}
 use Rattle.cc_model.specs.Units.{first_names}
 use Rattle.cc_model.specs.End.{Progress, went_on, at_end, refused, UnitDone, unit, may_be_refused}
@@ -92,9 +92,9 @@ to_the_end d = units_done (enough_units d.machine) d
 abbrev pub finish_running : Machine → UnitsDone
 finish_running m = elim (is_some m.snapshot) [ true ↦ to_the_end (no_units m) | false ↦ no_units m ]
 
--- SLICE: a collection begins where none runs, and no second one does
-unfoldable pub slice : ℕ → Machine → UnitsDone
-slice n m = units_done n (no_units m)
+-- so many units of collections of cycles, of the one that runs or of one that begins here; no second one begins
+unfoldable pub slice_cycles : ℕ → Machine → UnitsDone
+slice_cycles n m = units_done n (no_units m)
 
 abbrev pub starting_anew : UnitsDone → UnitsDone
 starting_anew d = record d { progress = went_on }
@@ -106,23 +106,16 @@ unless_stopped d = elim d.progress [
   | at_end ↦ to_the_end (starting_anew d)
 ]
 
--- COLLECT: a running collection is ended first; where that is refused memory, no other begins
-unfoldable pub collect : Machine → UnitsDone
-collect m = unless_stopped (finish_running m)
+-- a whole collection of cycles: a running one is ended first; where that is refused memory, no other begins
+unfoldable pub collect_cycles : Machine → UnitsDone
+collect_cycles m = unless_stopped (finish_running m)
+
+-- Units of a script marking
 
 abbrev pub with_outcome : UnitsDone → Outcome → UnitsDone
 with_outcome d o = record d { machine = record d.machine { heap = o.heap }; events = d.events ++ o.events }
 
-abbrev pub then_scripts : UnitsDone → UnitsDone
-then_scripts d = with_outcome d (collect_scripts d.machine.heap)
-
--- GC: a running collection is ended first; where that is refused memory, it is abandoned, and gc goes on
-unfoldable pub gc : Machine → UnitsDone
-gc m = then_scripts (finish_running m)
-
--- MARK: a running collection is ended first, as `gc` does; then a marking begins where none goes on, and no second one does
-
--- one unit of it: it begins, or one object is scanned, or it ends where none is left to scan
+-- one unit: it begins, or one object is scanned, or it ends where none is left to scan
 abbrev pub one_marked : Machine → List Event → UnitsDone
 one_marked m events = elim m.marking [
   | None ↦ units_came (record m { marking = Some (begun_marks m.heap) }) events went_on
@@ -140,6 +133,35 @@ units_marked (suc n) d = elim d.progress [
   | at_end ↦ d
   | refused ↦ d
 ]
+
+-- THE MARKING THAT GOES ON is brought to its end, by a unit for each scan that is left, and one more
+unfoldable pub finish_marking : Machine → UnitsDone
+finish_marking m = elim m.marking [ None ↦ no_units m | Some marks ↦ units_marked (suc (scans_left marks)) (no_units m) ]
+
+-- what units told before, in front of what others tell
+abbrev pub behind : UnitsDone → UnitsDone → UnitsDone
+behind before d = record d { events = before.events ++ d.events }
+
+-- SLICE: a marking that goes on is ended first, outside the units; then a collection begins where none runs, and no second one does
+unfoldable pub slice : ℕ → Machine → UnitsDone
+slice n m = behind (finish_marking m) (slice_cycles n (finish_marking m).machine)
+
+-- COLLECT: a marking that goes on is ended first, and then a running collection; where that is refused memory, no other begins
+unfoldable pub collect : Machine → UnitsDone
+collect m = behind (finish_marking m) (collect_cycles (finish_marking m).machine)
+
+abbrev pub then_scripts : UnitsDone → UnitsDone
+then_scripts d = with_outcome d (collect_scripts d.machine.heap)
+
+abbrev pub without_marking : Machine → Machine
+without_marking m = record m { marking = None }
+
+-- GC: a marking that goes on is dropped, and a running collection is ended; where that is refused memory, it is abandoned, and gc goes
+-- on
+unfoldable pub gc : Machine → UnitsDone
+gc m = then_scripts (finish_running (without_marking m))
+
+-- MARK: a running collection is ended first, as `gc` does; then a marking begins where none goes on, and no second one does
 
 unfoldable pub mark : ℕ → Machine → UnitsDone
 mark n m = units_marked n (starting_anew (finish_running m))

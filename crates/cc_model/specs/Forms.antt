@@ -151,6 +151,10 @@ why_form = form (codes "why") (of_one command.Why object_name)
 abbrev pub forget_form : Form
 forget_form = form (codes "forget") (alone command.Forget)
 
+-- units of a script marking
+abbrev pub mark_form : Form
+mark_form = form (codes "mark") (of_one command.Mark units_number)
+
 -- the forms without registers
 abbrev pub slice_form : Form
 slice_form = form (codes "slice") (of_one command.Slice units_number)
@@ -204,4 +208,4 @@ common_forms v =
 abbrev pub forms_of : Dialect → List Form
 forms_of Start = version_form ∷ common_forms Start
 forms_of One = common_forms One
-forms_of Two = move_form Two ∷ why_form ∷ forget_form ∷ weak_form Two ∷ deref_form Two ∷ drop_weak_form ∷ common_forms Two
+forms_of Two = move_form Two ∷ why_form ∷ forget_form ∷ mark_form ∷ weak_form Two ∷ deref_form Two ∷ drop_weak_form ∷ common_forms Two

@@ -125,13 +125,17 @@ is_abandoning c reply = runs_units c && is_without_memory reply
 abbrev pub is_gc : Command → Bool
 is_gc c = is_script_collection (class_of c)
 
--- script objects are freed under `gc` and `mark` alone
-abbrev pub may_free : Command → Name → Bool
-may_free c x = is_native x || is_gc c
+-- the commands that collect: `slice`, `collect`, `gc` and `mark`
+abbrev pub collects : Command → Bool
+collects c = runs_units c || is_gc c
 
--- natives are unlinked under `slice`, `collect`, `gc` and `mark` alone
+-- script objects are freed under these alone: `slice` and `collect` first end a marking that goes on
+abbrev pub may_free : Command → Name → Bool
+may_free c x = is_native x || collects c
+
+-- natives are unlinked under these alone
 abbrev pub may_unlink : Command → Name → Bool
-may_unlink c x = is_native x && (runs_units c || is_gc c)
+may_unlink c x = is_native x && collects c
 
 abbrev pub MayBe : Graph → List Name → Command → Event → Type 0
 MayBe g names c (Freed x) = Among x names × (¬ (Reached g x)) × IsTrue (may_free c x)

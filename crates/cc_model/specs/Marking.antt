@@ -1,5 +1,5 @@
 -- SCRIPT MARKING IN SLICES: the new marks of script objects, which stand beside their colours, and the lists of those to scan.
-use Rattle.std.specs.Prelude.{ℕ, Bool, true, false, not, ◌&&◌, List, [], ◌∷◌, ◌++◌, filter, Option, Some, None, option_map, if◌then◌else◌}
+use Rattle.std.specs.Prelude.{ℕ, ◌+◌, Bool, true, false, not, ◌&&◌, List, [], ◌∷◌, ◌++◌, length, filter, Option, Some, None, option_map, if◌then◌else◌}
 use Rattle.cc_lists.specs.Members.{has, without, with_all_last}
 use Rattle.cc_lists.specs.Least.{Rule, system, closure}
 use Rattle.cc_names.specs.declared.name.Name.{Name}
@@ -96,6 +96,10 @@ is_none_of (x ∷ xs) = false
 -- whether none is left to scan
 abbrev pub is_scanned : NewMarks → Bool
 is_scanned m = is_none_of m.black_list && is_none_of m.gray_list
+
+-- how many scans are left at most: an object goes on a list where it gets a higher mark, so at most twice
+abbrev pub scans_left : NewMarks → ℕ
+scans_left m = length m.black_list + length m.gray_list + (length m.unblack + length m.unmarked)
 
 -- AN EXPOSURE while a marking goes on: what it comes to over slots past objects that are black by the new mark becomes black so,
 -- and leaves its list

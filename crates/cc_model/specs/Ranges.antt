@@ -4,7 +4,7 @@ use Rattle.cc_names.specs.declared.register.Reg.{Reg}
 use Rattle.cc_names.specs.declared.register.Reg.TheVariants.{N, S, W}
 use Rattle.cc_names.specs.Sizes.{bank_length, most_slots, weak_length}
 use Rattle.cc_model.specs.declared.command.Command.{Command}
-use Rattle.cc_model.specs.declared.command.Command.TheVariants.{Native, Script, WeakMap, Proxy, CopyNative, CopyScript, Drop, Set, Get, Move, Put, Take, Wrap, Unwrap, Preserve, SetEntry, GetEntry, Expose, Weak, Deref, Mark}
+use Rattle.cc_model.specs.declared.command.Command.TheVariants.{Native, Script, WeakMap, Proxy, CopyNative, CopyScript, Drop, Set, Get, Move, Put, Take, Wrap, Unwrap, Preserve, SetEntry, GetEntry, Expose, Weak, Deref}
 
 -- a register is one of its bank
 abbrev pub is_register : ℕ → Bool
@@ -62,6 +62,4 @@ in_range (GetEntry d m k) = is_register d && are_registers m k
 in_range (Expose s i) = is_register s
 in_range (Weak w s) = is_weak_register w && is_register s
 in_range (Deref d w) = is_register d && is_weak_register w
--- no line asks this yet
-in_range (Mark n) = false
 in_range _ = true

@@ -7,7 +7,7 @@ use cc_names::{Name, Reg, RegNo, SlotNo, WeakNo};
 /// The first register of a command that has a destination is the destination. Registers are 0 to 1023 (their type has room for
 /// those that a host alone names), weak registers 0 to 255, numbers of slots 0 to 256, indexes of slots 0 to 4294967295, numbers
 /// of units 1 to 1000000. Version 1 of the language names the registers 0 to 255 alone, gives 64 slots at most, and has no `move`,
-/// `why`, `forget`, `weak`, `deref` and `drop wX`. No line asks `mark` yet: it is out of range.
+/// `why`, `forget`, `mark`, `weak`, `deref` and `drop wX`.
 #[derive(Clone, Copy, Debug, PartialEq, Eq, Drop)]
 pub enum Command {
     /// A blank line or a comment.
