@@ -1,6 +1,6 @@
--- NO ASK FORGETS AN UNREACHED NATIVE: commands, units of collections, and `gc`.
+-- NO ASK FORGETS AN UNREACHED NATIVE: commands, units of collections, `gc`, and units of a marking.
 use Rattle.std.specs.Prelude.{IsTrue}
-use Rattle.std.proofs.Common.{◌≡◌, ℕ, [], refl, sym, subst}
+use Rattle.std.proofs.Common.{◌≡◌, ℕ, [], None, refl, sym, subst}
 use Rattle.cc_model.specs.declared.command.Command.{Command}
 use Rattle.cc_model.specs.Mutating.{Class, so_many, whole, says, does, forgets, reads_weak, runs, collects_scripts, class_of}
 use Rattle.cc_model.specs.Asks.{Ask, taken}
@@ -9,16 +9,23 @@ use Rattle.cc_model.specs.View.{view}
 use Rattle.cc_model.specs.Suspected.{IsSuspected}
 use Rattle.cc_model.specs.End.{went_on}
 use Rattle.cc_model.specs.Lawful.{State}
-use Rattle.cc_model.specs.Collecting.{Machine, UnitsDone, no_units, finish_running, slice, collect, gc, enough_units, starting_anew}
+use Rattle.cc_model.specs.Heap.{Heap}
+use Rattle.cc_model.specs.Marking.{NewMarks, ended_marks}
+use Rattle.cc_model.specs.Collecting.{Machine, UnitsDone, no_units, finish_running, finish_marking, slice_cycles, collect_cycles, slice, collect, gc, one_marked, mark, enough_units, starting_anew}
 use Rattle.cc_model.specs.Run.{Turn, mutate, do_ask, do_class}
 use Rattle.cc_laws_heap.specs.Sound.{IsSound}
 use Rattle.cc_laws_run.specs.Doomed.{candidates_now, IsSuspectedNow}
-use Rattle.cc_laws_run.specs.Running.{IsRunning, ask_in_range}
+use Rattle.cc_laws_run.specs.Running.{IsRunning, IsFreshNow, IsMarking, IsMarkingNow, ask_in_range}
 use Rattle.cc_laws_snapshot.proofs.CommandsSuspected.{effects-suspected}
 use Rattle.cc_laws_snapshot.proofs.Unmarking.{forgotten-suspected}
 use Rattle.cc_laws_snapshot.proofs.SweepLoses.{collect_scripts-suspected}
+use Rattle.cc_laws_heap.proofs.MarkingEnded.{ended-sound, ended-invariant}
+use Rattle.cc_laws_marking.proofs.EndSuspected.{ended-suspected}
+use Rattle.cc_laws_run.proofs.Finishing.{finish-by}
+use Rattle.cc_laws_run.proofs.MarkingOn.{IsMarkingOn, one_marked-going}
+use Rattle.cc_laws_run.proofs.MarkLawful.{finished-marking}
+use Rattle.cc_laws_run.proofs.MarkedUnits.{units_marked-keep}
 use Rattle.cc_laws_run.proofs.ReadingWeak.{weak-suspected}
-use Rattle.cc_laws_run.proofs.Spoken.{spoken-as}
 use Rattle.cc_laws_run.proofs.CommandCases.{mutate-cases, say-leaves}
 use Rattle.cc_laws_run.proofs.HoldingUnits.{unless_stopped-cases}
 use Rattle.cc_laws_run.proofs.QuietUnits.{IsGoing, units-going, IsGoingOn, gc-collects, finish_running-going, running-going}
@@ -34,24 +41,85 @@ mutate-suspected m c s i suspected = mutate-cases m c (λ (u : Turn). IsSuspecte
 
 -- Units
 
+-- the end of a marking that goes on as it should forgets none: no collection runs then
+ended-going : (m : Machine) (marks : NewMarks) → IsGoing m.heap m.snapshot went_on → IsMarking m.heap marks m.snapshot →
+    IsGoing (ended_marks m.heap marks).heap m.snapshot went_on
+ended-going m marks g t =
+    let k : Heap = (ended_marks m.heap marks).heap in
+    record {
+      sound = ended-sound m.heap marks g.sound t.under;
+      colours = ended-invariant m.heap marks g.sound t.under;
+      fresh = subst (IsFreshNow k) (sym t.alone) tt;
+      suspected = subst (λ o. IsSuspected (view k) (candidates_now o)) (sym t.alone)
+          (ended-suspected m.heap marks g.sound t.under (subst (λ o. IsSuspected (view m.heap) (candidates_now o)) t.alone g.suspected));
+      stopped = λ n. absurd (n refl);
+    }
+
+-- so it is where a marking that goes on is finished
+finished-going : (m : Machine) → IsGoing m.heap m.snapshot went_on → IsMarkingNow m.heap m.marking m.snapshot →
+    let n = (finish_marking m).machine in IsGoing n.heap n.snapshot went_on
+finished-going m g t = finish-by m (λ d. IsGoing d.machine.heap d.machine.snapshot went_on) g.sound t (λ e. g) (λ marks on over. ended-going m marks g on)
+
+-- the units of a slice forget none
+slice_cycles-suspected : (n : ℕ) (m : Machine) → IsGoing m.heap m.snapshot went_on → IsSuspectedNow (slice_cycles n m).machine
+unfolding slice_cycles
+slice_cycles-suspected n m g = (units-going n (no_units m) g).suspected
+
+-- nor do those of a whole collection
+collect_cycles-suspected : (m : Machine) → IsGoing m.heap m.snapshot went_on → IsSuspectedNow (collect_cycles m).machine
+unfolding collect_cycles
+collect_cycles-suspected m g =
+    let d : UnitsDone = finish_running m in
+    let f : IsGoingOn d = (finish_running-going m g).0 in
+    unless_stopped-cases d (λ u. IsSuspectedNow u.machine) (λ e. f.suspected) (λ e. (units-going (enough_units d.machine) (starting_anew d)
+    (record { sound = f.sound; colours = f.colours; fresh = f.fresh; suspected = f.suspected; stopped = λ n. absurd (n refl) })).suspected)
+
+-- Units of a marking
+
+-- the machine forgot none, no collection runs, and a marking goes on as it should
+record MarksOn (d : UnitsDone) : Type 0 where
+  going : IsGoing d.machine.heap d.machine.snapshot went_on
+  marking : IsMarkingOn d
+  alone : d.machine.snapshot ≡ None
+
+-- one unit leaves such a machine
+one_marked-on : (d : UnitsDone) → MarksOn d → MarksOn (one_marked d.machine d.events)
+one_marked-on d t = one_marked-going d.machine d.events MarksOn t.going.sound t.marking t.alone
+    (λ marks on. record { going = t.going; marking = on; alone = t.alone })
+    (λ marks on. record { going = ended-going d.machine marks t.going on; marking = tt; alone = t.alone })
+
+-- UNITS OF A MARKING FORGET NONE.
+mark-suspected : (n : ℕ) (m : Machine) → IsGoing m.heap m.snapshot went_on → IsMarkingNow m.heap m.marking m.snapshot → IsSuspectedNow (mark n m).machine
+unfolding mark
+mark-suspected n m g t =
+    let d : UnitsDone = starting_anew (finish_running m) in
+    let f = finish_running-going m g in
+    (units_marked-keep MarksOn one_marked-on n d (record {
+      going = record { sound = f.0.sound; colours = f.0.colours; fresh = f.0.fresh; suspected = f.0.suspected; stopped = λ n. absurd (n refl) };
+      marking = finished-marking m t;
+      alone = f.1;
+    })).going.suspected
+
+-- Asks
+
 module _ (m : Machine) (s : State) (r : IsRunning m s) (suspected : IsSuspectedNow m) where
   -- the collection goes on
   going : IsGoing m.heap m.snapshot went_on
   going = running-going m s r suspected
 
+  -- so it does where a marking was finished
+  finished : let n = (finish_marking m).machine in IsGoing n.heap n.snapshot went_on
+  finished = finished-going m going r.marking
+
   -- the units of a slice forget none
   slice-suspected : (n : ℕ) → IsSuspectedNow (slice n m).machine
   unfolding slice
-  slice-suspected n = (units-going n (no_units m) going).suspected
+  slice-suspected n = slice_cycles-suspected n (finish_marking m).machine finished
 
   -- nor do those of a whole collection
   collect-suspected : IsSuspectedNow (collect m).machine
   unfolding collect
-  collect-suspected =
-      let d : UnitsDone = finish_running m in
-      let f : IsGoingOn d = (finish_running-going m going).0 in
-      unless_stopped-cases d (λ u. IsSuspectedNow u.machine) (λ e. f.suspected) (λ e. (units-going (enough_units d.machine) (starting_anew d)
-      (record { sound = f.sound; colours = f.colours; fresh = f.fresh; suspected = f.suspected; stopped = λ n. absurd (n refl) })).suspected)
+  collect-suspected = collect_cycles-suspected (finish_marking m).machine finished
 
   -- `gc` forgets none: its script collection finds no collection running
   gc-suspected : IsSuspectedNow (gc m).machine
@@ -67,7 +135,7 @@ module _ (m : Machine) (s : State) (r : IsRunning m s) (suspected : IsSuspectedN
   class-suspected c i (runs (so_many n)) e = slice-suspected n
   class-suspected c i (runs whole) e = collect-suspected
   class-suspected c i (collects_scripts whole) e = gc-suspected
-  class-suspected c i (collects_scripts (so_many n)) e = absurd (spoken-as c i (collects_scripts (so_many n)) e)
+  class-suspected c i (collects_scripts (so_many n)) e = mark-suspected n m going r.marking
   class-suspected c i forgets e = forgotten-suspected m.heap (candidates_now m.snapshot) r.sound.well_formed suspected
   class-suspected c i (reads_weak d w) e = weak-suspected m s c d w r i e suspected
 

@@ -19,7 +19,8 @@ use Rattle.cc_model.specs.Run.{Turn, turn_of, answering, beside_deed, if_granted
 use Rattle.cc_laws_run.specs.Memory.{with_memory, noes, noes_of_reply, noes_told, noes_told_by}
 use Rattle.cc_laws_run.proofs.Unabandoned.{abandonments, TellsNone, hold_native-none, effects-none}
 use Rattle.cc_laws_run.proofs.CommandCases.{taken-granted, said-silent}
-use Rattle.cc_laws_run.proofs.UnitsUse.{refusals, UnitsUse, finish_running-use, run_units-use, gc-use, ample-next, ample-later}
+use Rattle.cc_laws_run.proofs.UnitsUse.{refusals, UnitsUse, finish_running-use, gc-use, ample-next, ample-later}
+use Rattle.cc_laws_run.proofs.FinishingUse.{run_units-use}
 use Rattle.cc_laws_run.proofs.MarkedUnits.{units_marked-memory, units_marked-with, units_marked-told}
 
 -- the same turn, with other answers of memory to come

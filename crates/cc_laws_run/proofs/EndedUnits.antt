@@ -9,38 +9,42 @@ use Rattle.cc_lists.proofs.Members.{Among-map, Among-map_cases, Among-filter, Am
 use Rattle.cc_lists.proofs.Numbers.{number-exact}
 use Rattle.cc_names.specs.declared.name.Name.{Name}
 use Rattle.cc_names.specs.Names.{native, number_of}
-use Rattle.cc_model.specs.declared.command.Command.TheVariants.{Collect}
+use Rattle.cc_model.specs.declared.command.Command.TheVariants.{Collect, Gc}
 use Rattle.cc_model.specs.declared.item.Event.{Event}
 use Rattle.cc_model.specs.declared.item.Event.TheVariants.{Abandoned}
 use Rattle.cc_model.specs.Mutating.{Running}
 use Rattle.cc_model.specs.Graph.{Graph}
 use Rattle.cc_model.specs.WellMade.{IsWellMade}
-use Rattle.cc_model.specs.Heap.{Heap, HeapNative, native_at}
+use Rattle.cc_model.specs.Heap.{Heap, Outcome, HeapNative, native_at}
+use Rattle.cc_model.specs.Marking.{ended_marks}
 use Rattle.cc_model.specs.Given.{is_usable_native, is_usable}
 use Rattle.cc_model.specs.WellFormed.{IsWellFormed, native_names, names_there}
 use Rattle.cc_model.specs.Snapshot.{Snapshot, white_natives}
 use Rattle.cc_model.specs.Units.{first_untraversed}
 use Rattle.cc_model.specs.Sweep.{collect_scripts}
 use Rattle.cc_model.specs.End.{take_away, heap_given_back, node_or_end, granted, unit}
-use Rattle.cc_model.specs.Listed.{ended_after}
+use Rattle.cc_model.specs.Listed.{after_events, ended_after}
 use Rattle.cc_model.specs.Lawful.{unlinked_numbers}
-use Rattle.cc_model.specs.Collecting.{Machine, UnitsDone, finish_running, gc}
+use Rattle.cc_model.specs.Collecting.{Machine, UnitsDone, finish_marking, finish_running, without_marking, gc, mark}
 use Rattle.cc_model.specs.Run.{run_units}
 use Rattle.cc_laws_heap.specs.Sound.{IsSound}
 use Rattle.cc_laws_heap.specs.Ending.{freed_numbers, AreThere, TakesAway}
-use Rattle.cc_laws_heap.specs.Rounds.{is_not_among, FreesNames}
+use Rattle.cc_laws_heap.specs.Rounds.{is_not_among}
 use Rattle.cc_laws_heap.proofs.Making.{native_names-made}
 use Rattle.cc_laws_heap.proofs.Natives.{IsWellFormed-distinct, native_at-there, native_at-number, native_at-named, native_at-member, named-member}
 use Rattle.cc_laws_heap.proofs.References.{native-there}
 use Rattle.cc_laws_heap.proofs.TakingAway.{take_away-takes}
-use Rattle.cc_laws_heap.proofs.CollectedColours.{collect_scripts-sound, collect_scripts-frees}
-use Rattle.cc_laws_heap.proofs.UnlinkedKept.{take_away-unlinked, collect_scripts-unlinked}
+use Rattle.cc_laws_heap.proofs.UnlinkedKept.{take_away-unlinked}
 use Rattle.cc_laws_snapshot.proofs.GivingBack.{give_back-buffer}
 use Rattle.cc_laws_snapshot.proofs.WhiteNatives.{white_natives-there}
-use Rattle.cc_laws_run.proofs.FreedListed.{freed_names, freed_names-freed, freed_names-natives}
-use Rattle.cc_laws_run.proofs.RunsOfNumbers.{unlinked-freed}
+use Rattle.cc_laws_run.proofs.FreedListed.{freed_names, freed_names-natives}
+use Rattle.cc_laws_run.specs.Running.{IsMarkingNow}
 use Rattle.cc_laws_run.proofs.EndedAfter.{IsTold, EndsWhatItTells, EndedIn, ended-after, ended_after-append, ends-freed}
 use Rattle.cc_laws_run.proofs.UnitLawful.{RunsOn, unit-cases, unit-lawful}
+use Rattle.cc_laws_run.proofs.Swept.{IsSwept, outcome_of, collect_scripts-swept, ended_marks-swept, finishing-swept}
+use Rattle.cc_laws_run.proofs.SweptLawful.{swept-freed, swept-unlinks_none}
+use Rattle.cc_laws_run.proofs.UnitsLawful.{finished-runs}
+use Rattle.cc_laws_run.proofs.MarkLawful.{EndsKeep, mark-on}
 use Rattle.cc_laws_run.proofs.HoldingUnits.{Manner, EachKeeps, HoldsOn, finish-holds, run_units-holds}
 
 -- Where nothing is told
@@ -181,6 +185,23 @@ module _ (h : Heap) (ks : List ℕ) (s : IsSound [] h) (are : AreThere ks h) (v 
           (found-cases j n.0 n.1))
           (Among_or_not ◌==◌ number-exact freed j)
 
+-- What frees objects that no root reaches
+
+-- IT ENDS WHAT IT TELLS: a script collection, the end of a marking, and the finishing of one.
+pub swept-ends : (h : Heap) (o : Outcome) → IsSound [] h → IsSwept h o → EndsWhatItTells h o.heap o.events
+swept-ends h o s w = ends-freed h o.heap o.events [] s.well_formed w.sound.well_formed (λ p i. inl (w.unlinked p i))
+    (omega (arith, w.frees.natives_made))
+    (w.frees.natives ∙ (ap (λ ys. filter (is_not_among ys) (native_names h)) (sym freed_are) ∙ ap (filter (is_not_among (freed_names o.events))) (sym (append-nil (native_names h)))))
+    (λ j new few. absurd (omega (arith, new, few, w.frees.natives_made)))
+    (swept-unlinks_none h o w)
+    (λ j m. omega (arith, native_names-made h 0 s.well_formed j (natives_are j (w.frees.were_there (native j) (subst (Among (native j)) freed_are m))), w.frees.natives_made))
+  where
+    freed_are : freed_names o.events ≡ w.names
+    freed_are = swept-freed h o w
+
+    natives_are : (j : ℕ) → Among (native j) (names_there h) → Among (native j) (native_names h)
+    natives_are j m = native-there h j s.well_formed m
+
 -- Units
 
 -- a begin, a node and an abandonment tell nothing
@@ -224,43 +245,39 @@ module _ (g : Graph) (well : IsWellMade g) where
         (ended-after h (unit h o answer).heap (ended_after ended es) (unit h o answer).events
         (unit-ends names h o answer r (unit-lawful g well Collect refl names h o answer r).still.sound.well_formed) a)
 
+    -- the ended names after the finishing of a marking
+    finished-end : (m : Machine) (names : List Name) → RunsOn g names m.heap m.snapshot → IsMarkingNow m.heap m.marking m.snapshot → EndedIn m.heap ended →
+        EndedIn (finish_marking m).machine.heap (ended_after ended (finish_marking m).events)
+    finished-end m names r t a = ended-after m.heap (finish_marking m).machine.heap ended (finish_marking m).events
+        (swept-ends m.heap (outcome_of (finish_marking m)) r.sound (finishing-swept m r.sound r.colours t)) a
+
     -- UNITS END WHAT THEY TELL.
-    pub units-end : (u : Running) (m : Machine) (names : List Name) → RunsOn g names m.heap m.snapshot → EndedIn m.heap ended →
+    pub units-end : (u : Running) (m : Machine) (names : List Name) → RunsOn g names m.heap m.snapshot → IsMarkingNow m.heap m.marking m.snapshot → EndedIn m.heap ended →
         EndedIn (run_units m u).machine.heap (ended_after ended (run_units m u).events)
-    units-end u m names r a = (run_units-holds g well EndedSoFar one-ends (λ h o es p e. e) u m (record { names = names; runs = r; holds = a })).holds
-
-    -- and a script collection
-    scripts-end : (h : Heap) → IsSound [] h → EndsWhatItTells h (collect_scripts h).heap (collect_scripts h).events
-    scripts-end h s = ends-freed h k es [] s.well_formed (collect_scripts-sound h s).well_formed (λ p i. inl (collect_scripts-unlinked h s p i))
-        (omega (arith, f.natives_made))
-        (f.natives ∙ (ap (λ ys. filter (is_not_among ys) (native_names h)) (sym freed_are) ∙ ap (filter (is_not_among (freed_names es))) (sym (append-nil (native_names h)))))
-        (λ j new few. absurd (omega (arith, new, few, f.natives_made)))
-        (ap unlinked_numbers f.told ∙ unlinked-freed xs)
-        (λ j m. omega (arith, native_names-made h 0 s.well_formed j (natives_are j (f.were_there (native j) (subst (Among (native j)) freed_are m))), f.natives_made))
-      where
-        k : Heap
-        k = (collect_scripts h).heap
-
-        es : List Event
-        es = (collect_scripts h).events
-
-        xs : List Name
-        xs = (collect_scripts-frees h s).0
-
-        f : FreesNames h xs (collect_scripts h)
-        f = (collect_scripts-frees h s).1
-
-        freed_are : freed_names es ≡ xs
-        freed_are = ap freed_names f.told ∙ freed_names-freed xs
-
-        natives_are : (j : ℕ) → Among (native j) (names_there h) → Among (native j) (native_names h)
-        natives_are j m = native-there h j s.well_formed m
+    units-end u m names r t a = (run_units-holds g well EndedSoFar one-ends (λ h o es p e. e) u m (record {
+      names = after_events names (finish_marking m).events;
+      runs = finished-runs g well Collect refl names m r t;
+      holds = finished-end m names r t a;
+    })).holds
 
     -- SO DOES `gc`.
     pub gc-end : (m : Machine) (names : List Name) → RunsOn g names m.heap m.snapshot → EndedIn m.heap ended → EndedIn (gc m).machine.heap (ended_after ended (gc m).events)
     unfolding gc
     gc-end m names r a =
-        let d : UnitsDone = finish_running m in
-        let f : HoldsOn g EndedSoFar d = finish-holds g well EndedSoFar one-ends m (record { names = names; runs = r; holds = a }) in
-        subst (EndedIn (collect_scripts d.machine.heap).heap) (sym (ended_after-append d.events (collect_scripts d.machine.heap).events ended))
-        (ended-after d.machine.heap (collect_scripts d.machine.heap).heap (ended_after ended d.events) (collect_scripts d.machine.heap).events (scripts-end d.machine.heap f.runs.sound) f.holds)
+        let d : UnitsDone = finish_running (without_marking m) in
+        let f : HoldsOn g EndedSoFar d = finish-holds g well EndedSoFar one-ends (without_marking m) (record { names = names; runs = r; holds = a }) in
+        let o : Outcome = collect_scripts d.machine.heap in
+        subst (EndedIn o.heap) (sym (ended_after-append d.events o.events ended))
+        (ended-after d.machine.heap o.heap (ended_after ended d.events) o.events (swept-ends d.machine.heap o f.runs.sound (collect_scripts-swept d.machine.heap f.runs.sound)) f.holds)
+
+    -- the end of a marking keeps the ended names
+    ends-keep : EndsKeep (λ h es. EndedIn h (ended_after ended es))
+    ends-keep h marks es s u a = subst (EndedIn (ended_marks h marks).heap) (sym (ended_after-append es (ended_marks h marks).events ended))
+        (ended-after h (ended_marks h marks).heap (ended_after ended es) (ended_marks h marks).events
+        (swept-ends h (ended_marks h marks) s (ended_marks-swept h marks s u)) a)
+
+    -- AND SO DOES `mark`.
+    pub mark-end : (n : ℕ) (m : Machine) (names : List Name) → RunsOn g names m.heap m.snapshot → IsMarkingNow m.heap m.marking m.snapshot → EndedIn m.heap ended →
+        EndedIn (mark n m).machine.heap (ended_after ended (mark n m).events)
+    mark-end n m names r t a = (mark-on g well Gc refl names (λ h es. EndedIn h (ended_after ended es)) ends-keep m r t
+        (finish-holds g well EndedSoFar one-ends m (record { names = names; runs = r; holds = a })).holds n).holds

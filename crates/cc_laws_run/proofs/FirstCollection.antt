@@ -1,25 +1,20 @@
 -- THE FIRST COLLECTION UNDER ASKS, of any machine: what it tells stands first in an answer, and later asks leave what it came to.
-use Rattle.std.proofs.Common.{arith, ◌≡◌, ◌≢◌, ℕ, Bool, true, false, List, [], ◌∷◌, ◌++◌, Option, Some, None, is_some, refl, sym, ◌∙◌, ap, subst, inl, inr}
+use Rattle.std.proofs.Common.{arith, ◌≡◌, ◌≢◌, ℕ, Bool, true, false, List, [], ◌∷◌, ◌++◌, Some, is_some, refl, sym, ◌∙◌, ap, inl, inr}
 use Rattle.std.proofs.lemmas.List.{append_assoc, append-nil}
-use Rattle.cc_names.specs.declared.name.Name.{Name}
 use Rattle.cc_model.specs.declared.item.Event.{Event}
 use Rattle.cc_model.specs.Answers.{Answer}
 use Rattle.cc_model.specs.Mutating.{Class, so_many, whole, runs, collects_scripts, class_of}
 use Rattle.cc_model.specs.Asks.{Ask, taken}
-use Rattle.cc_model.specs.Heap.{Heap}
 use Rattle.cc_model.specs.Snapshot.{Snapshot}
 use Rattle.cc_model.specs.Sweep.{collect_scripts}
 use Rattle.cc_model.specs.Marking.{ended_marks}
-use Rattle.cc_model.specs.Units.{first_untraversed}
-use Rattle.cc_model.specs.End.{Progress, went_on, UnitDone, granted, node_or_end, unit}
-use Rattle.cc_model.specs.Collecting.{Machine, UnitsDone, no_units, next_answer, units_done, enough_units, to_the_end, finish_running, slice, starting_anew, unless_stopped, collect, gc, mark}
+use Rattle.cc_model.specs.End.{Progress, went_on, UnitDone, unit}
+use Rattle.cc_model.specs.Collecting.{Machine, UnitsDone, no_units, next_answer, units_done, enough_units, to_the_end, finish_running, without_marking, finish_marking, behind, slice, starting_anew, unless_stopped, collect_cycles, collect, gc, mark}
 use Rattle.cc_model.specs.Run.{Turn, do_ask, turns, machine_after, do_class}
 use Rattle.cc_laws_run.specs.Followed.{first_units, then_later, first_collection, first_units_of}
 use Rattle.cc_laws_run.specs.Missing.{AreTold}
-use Rattle.cc_laws_run.proofs.QuietUnits.{collect-none}
-use Rattle.cc_laws_run.proofs.UnitLawful.{unit-cases}
 use Rattle.cc_laws_run.proofs.MarkedUnits.{one_marked-cases, units_marked-keep}
-use Rattle.cc_laws_run.proofs.HoldingUnits.{units_done-keep, unless_stopped-cases, finish-cases}
+use Rattle.cc_laws_run.proofs.HoldingUnits.{units_done-keep, unless_stopped-cases}
 
 -- `collect`
 
@@ -27,10 +22,14 @@ use Rattle.cc_laws_run.proofs.HoldingUnits.{units_done-keep, unless_stopped-case
 pub finish-some : (m : Machine) (s : Snapshot) → m.snapshot ≡ Some s → finish_running m ≡ to_the_end (no_units m)
 finish-some m s e = ap (λ (b : Bool). elim b [ true ↦ to_the_end (no_units m) | false ↦ no_units m ]) (ap is_some e)
 
--- `collect` brings the collection that runs to its end, or the one that it begins; then it may begin a second one
-pub collect-cases : (m : Machine) (P : UnitsDone → Type 0) → P (to_the_end (no_units m)) → P (unless_stopped (to_the_end (no_units m))) → P (collect m)
-unfolding collect
-collect-cases m P first second = grind (arith, collect-none, finish-some)
+-- a whole collection of cycles brings the one that runs to its end, or the one that it begins; then it may begin a second one
+pub collect-cases : (m : Machine) (P : UnitsDone → Type 0) → P (to_the_end (no_units m)) → P (unless_stopped (to_the_end (no_units m))) → P (collect_cycles m)
+unfolding collect_cycles
+collect-cases m P first second = go (is_some m.snapshot)
+  where
+    go : (b : Bool) → P (unless_stopped (elim b [ true ↦ to_the_end (no_units m) | false ↦ no_units m ]))
+    go true = second
+    go false = first
 
 -- What units tell
 
@@ -44,13 +43,25 @@ units_done-begin es n d b = units_done-keep (λ d. BeginsWith es d.events)
     (λ d e b. let u : UnitDone = unit d.machine.heap d.machine.snapshot (next_answer d.machine.memory) in
     (b.0 ++ u.events, ap (λ l. l ++ u.events) b.1 ∙ append_assoc es b.0 u.events)) n d b
 
--- what collections tell begins with what the first of them tells
-collect-begins : (m : Machine) → BeginsWith (to_the_end (no_units m)).events (collect m).events
-collect-begins m =
+-- what collections of cycles tell begins with what the first of them tells
+cycles-begin : (m : Machine) → BeginsWith (to_the_end (no_units m)).events (collect_cycles m).events
+cycles-begin m =
     let d : UnitsDone = to_the_end (no_units m) in
     let all : BeginsWith d.events d.events = ([], sym (append-nil d.events)) in
     collect-cases m (λ u. BeginsWith d.events u.events) all
     (unless_stopped-cases d (λ u. BeginsWith d.events u.events) (λ e. all) (λ e. units_done-begin d.events (enough_units d.machine) (starting_anew d) all))
+
+-- so it is behind what was told before
+behind-begins : (before es all : List Event) → BeginsWith es all → BeginsWith (before ++ es) (before ++ all)
+behind-begins before es all b = (b.0, ap (λ l. before ++ l) b.1 ∙ sym (append_assoc before es b.0))
+
+-- and in `collect`, where the end of a marking stands before
+collect-begins : (m : Machine) → let before = finish_marking m in
+    BeginsWith (behind before (to_the_end (no_units before.machine))).events (collect m).events
+unfolding collect
+collect-begins m =
+    let before : UnitsDone = finish_marking m in
+    behind-begins before.events (to_the_end (no_units before.machine)).events (collect_cycles before.machine).events (cycles-begin before.machine)
 
 -- so does what a script marking tells that ends a collection first
 mark-begins : (n : ℕ) (m : Machine) → BeginsWith (finish_running m).events (mark n m).events
@@ -70,43 +81,15 @@ ask-begins m (taken c) = go (class_of c)
     go : (k : Class) → BeginsWith (first_units_of m (do_class m c k).machine k).events (do_class m c k).answer.events
     go (runs (so_many n)) = ([], sym (append-nil (slice n m).events))
     go (runs whole) = collect-begins m
-    go (collects_scripts whole) = ((collect_scripts (finish_running m).machine.heap).events, refl)
+    go (collects_scripts whole) = ((collect_scripts (finish_running (without_marking m)).machine.heap).events, refl)
     go (collects_scripts (so_many n)) = mark-begins n m
     go k = ((do_class m c k).answer.events, refl)
 ask-begins m ask = ((do_ask m ask).answer.events, refl)
 
--- nothing is told where the collection goes on
-abbrev TellsAtLast : Progress → List Event → Type 0
-TellsAtLast p es = p ≡ went_on → es ≡ []
-
--- by a unit
-unit-last : (h : Heap) (s : Option Snapshot) (memory : Bool) → TellsAtLast (unit h s memory).progress (unit h s memory).events
-unit-last h s memory = unit-cases h s memory (λ u. TellsAtLast u.progress u.events) (λ e. absurd (cc)) (by_snapshot s)
-  where
-    by_node : (s : Snapshot) (x : Option Name) → TellsAtLast (node_or_end h s x).progress (node_or_end h s x).events
-    by_node s None e = absurd (cc)
-    by_node s (Some x) e = refl
-
-    by_snapshot : (s : Option Snapshot) → TellsAtLast (granted h s).progress (granted h s).events
-    by_snapshot None e = refl
-    by_snapshot (Some s) e = by_node s (first_untraversed s.nodes) e
-
--- by units in a row
-units_done-last : (n : ℕ) (m : Machine) → TellsAtLast (units_done n (no_units m)).progress (units_done n (no_units m)).events
-units_done-last n m = units_done-keep (λ d. TellsAtLast d.progress d.events)
-    (λ d e t f. let u : UnitDone = unit d.machine.heap d.machine.snapshot (next_answer d.machine.memory) in
-    ap (λ l. l ++ u.events) (t e) ∙ unit-last d.machine.heap d.machine.snapshot (next_answer d.machine.memory) f)
-    n (no_units m) (λ e. refl)
-
--- and by those under an ask
-first_units-last : (m : Machine) (ask : Ask) → TellsAtLast (first_units m ask).progress (first_units m ask).events
-unfolding slice
-first_units-last m ask = grind (arith, units_done-last, finish-cases)
-
 -- AN ANSWER BEGINS WITH WHAT THE FIRST COLLECTION TELLS, where it does not go on.
 pub first_collection-told : (m : Machine) (asks : List Ask) → (first_collection m asks).progress ≢ went_on → AreTold (first_collection m asks).events (turns m asks)
 first_collection-told m [] stopped = absurd (stopped refl)
-first_collection-told m (ask ∷ asks) stopped = go (first_collection-told t.machine asks) d.progress refl stopped
+first_collection-told m (ask ∷ asks) stopped = go (first_collection-told t.machine asks) d.progress stopped
   where
     t : Turn
     t = do_ask m ask
@@ -117,22 +100,20 @@ first_collection-told m (ask ∷ asks) stopped = go (first_collection-told t.mac
     later : UnitsDone
     later = first_collection t.machine asks
 
+    followed_by : Progress → UnitsDone
+    followed_by went_on = later
+    followed_by _ = d
+
     all : List Answer
     all = t.answer ∷ turns t.machine asks
-
-    followed_by : Progress → UnitsDone
-    followed_by went_on = record later { events = d.events ++ later.events }
-    followed_by _ = d
 
     here : AreTold d.events all
     here = let b = ask-begins m ask in (t.answer, inl refl, b.0, b.1)
 
-    go : (later.progress ≢ went_on → AreTold later.events (turns t.machine asks)) → (p : Progress) → d.progress ≡ p →
+    go : (later.progress ≢ went_on → AreTold later.events (turns t.machine asks)) → (p : Progress) →
         (followed_by p).progress ≢ went_on → AreTold (followed_by p).events all
-    go ih went_on e stopped =
-        let a = ih stopped in
-        subst (λ es. AreTold (es ++ later.events) all) (sym (first_units-last m ask e)) (a.0, inr a.1, a.2, a.3)
-    go ih _ e stopped = here
+    go ih went_on stopped = let a = ih stopped in (a.0, inr a.1, a.2, a.3)
+    go ih _ stopped = here
 
 -- Later asks
 

@@ -2,7 +2,7 @@
 -- abandoned itself. One that begins right after `gc` can't miss what was lost.
 use Rattle.std.specs.Prelude.{IsTrue}
 use Rattle.std.specs.List.{list_all}
-use Rattle.std.proofs.Common.{◌≡◌, ◌≢◌, ℕ, zero, suc, ◌<◌, true, false, List, [], ◌∷◌, ◌++◌, None, refl, sym, ◌∙◌, ap, subst, arith}
+use Rattle.std.proofs.Common.{◌≡◌, ◌≢◌, ℕ, zero, suc, ◌<◌, Bool, true, false, is_some, List, [], ◌∷◌, ◌++◌, None, refl, sym, ◌∙◌, ap, subst, arith}
 use Rattle.std.proofs.lemmas.Bool.{false≢true, true≢false, and_parts}
 use Rattle.cc_lists.specs.Members.{Among}
 use Rattle.cc_names.specs.declared.name.Name.{Name}
@@ -21,7 +21,7 @@ use Rattle.cc_model.specs.View.{view}
 use Rattle.cc_model.specs.Units.{begun, with_empty_buffer}
 use Rattle.cc_model.specs.End.{Progress, went_on, at_end, refused}
 use Rattle.cc_model.specs.Lawful.{State, next}
-use Rattle.cc_model.specs.Collecting.{Machine, UnitsDone, no_units, one_unit, units_done, enough_units, to_the_end, finish_running, slice, starting_anew, collect, gc}
+use Rattle.cc_model.specs.Collecting.{Machine, UnitsDone, no_units, one_unit, units_done, enough_units, to_the_end, finish_running, finish_marking, behind, slice, starting_anew, collect_cycles, collect, then_scripts, without_marking, gc, mark}
 use Rattle.cc_model.specs.Run.{Turn, mutate, do_ask, machine_after, do_class}
 use Rattle.cc_model.proofs.UnitsEnd.{to_the_end-stops}
 use Rattle.cc_model.proofs.NoDeeds.{units-in_range}
@@ -33,7 +33,6 @@ use Rattle.cc_laws_run.specs.Followed.{first_units, first_collection, first_unit
 use Rattle.cc_laws_run.specs.Missing.{MissesNoneAtAll, begins_one, lost, has_units}
 use Rattle.cc_laws_run.specs.Spent.{IsSpent}
 use Rattle.cc_laws_run.proofs.Forgetting.{forget-follows}
-use Rattle.cc_laws_run.proofs.Spoken.{spoken-as}
 use Rattle.cc_laws_run.proofs.CommandCases.{mutate-cases, say-leaves}
 use Rattle.cc_laws_run.proofs.TouchedCommands.{doomed-effects}
 use Rattle.cc_laws_run.proofs.DoomedBegin.{collected-doomed}
@@ -43,7 +42,9 @@ use Rattle.cc_laws_run.proofs.QuietUnits.{gc-collects, running-going}
 use Rattle.cc_laws_run.proofs.MissesLost.{lost-doomed, lost-keeps}
 use Rattle.cc_laws_run.proofs.Unabandoned.{TellsNone, none-abandoned}
 use Rattle.cc_laws_run.proofs.SpentGone.{collected-gone}
-use Rattle.cc_laws_run.proofs.HoldingUnits.{HoldsOn, units_done-holds, unless_stopped-cases}
+use Rattle.cc_laws_run.proofs.HoldingUnits.{HoldsOn, units_done-keep, units_done-holds, unless_stopped-cases}
+use Rattle.cc_laws_run.proofs.Unmarked.{running-unmarked, slice-unmarked, collect-unmarked, first-unmarked, dropped-unmarked, gc-drops_none}
+use Rattle.cc_laws_run.proofs.SpentMarks.{marked-spends}
 use Rattle.cc_laws_run.proofs.SpentUnits.{Settles, Spending, each-spends, SettlesOn, units_done-settle, first-settles}
 use Rattle.cc_laws_run.proofs.SpentAsks.{collected-spent, asks-spend, gc-gone}
 use Rattle.cc_laws_run.proofs.FirstCollection.{finish-some, then_later-progress, first_collection-append, collect-cases}
@@ -73,8 +74,8 @@ module _ (g : Graph) (well : IsWellMade g) (ds : List Name) where
       let k : Settles ds d.machine.heap d.machine.snapshot d.events at_end = subst (Settles ds d.machine.heap d.machine.snapshot d.events) e t.holds in
       record { names = t.names; runs = t.runs; holds = k.1 }
 
-  -- `collect` leaves it spent, though it begin a second collection
-  collect-spent : (m : Machine) → SettlesOn g ds (to_the_end (no_units m)) → (to_the_end (no_units m)).progress ≡ at_end → IsSpent (collect m).machine.heap ds
+  -- a whole collection leaves it spent, though it begin a second one
+  collect-spent : (m : Machine) → SettlesOn g ds (to_the_end (no_units m)) → (to_the_end (no_units m)).progress ≡ at_end → IsSpent (collect_cycles m).machine.heap ds
   collect-spent m t e =
       let d : UnitsDone = to_the_end (no_units m) in
       let first : HoldsOn g (Spending ds) (starting_anew d) = spent-at_end d t e in
@@ -82,12 +83,23 @@ module _ (g : Graph) (well : IsWellMade g) (ds : List Name) where
       (unless_stopped-cases d (λ u. IsSpent u.machine.heap ds) (λ r. first.holds)
       (λ r. (units_done-holds g well (Spending ds) (each-spends g ds) (enough_units d.machine) (starting_anew d) first).holds))
 
+  -- where no marking goes on, `collect` is followed
+  collected-follows : (m : Machine) → m.marking ≡ None → SettlesOn g ds (to_the_end (no_units m)) →
+      let d = behind (finish_marking m) (to_the_end (no_units (finish_marking m).machine)) in IsFollowed ds d.events d.progress (collect m).machine
+  collected-follows m none t = subst (λ (u : UnitsDone). IsFollowed ds u.events u.progress (collect m).machine) (sym (first-unmarked m none))
+      (subst (λ (u : UnitsDone). IsFollowed ds (to_the_end (no_units m)).events (to_the_end (no_units m)).progress u.machine) (sym (collect-unmarked m none))
+      (stopped m (collect_cycles m).machine t (collect-spent m t)))
+
 -- One ask
 
 module _ (m : Machine) (s : State) (ds : List Name) (r : IsRunning m s) (d : IsDoomedNow m ds) where
   -- before any unit
   start : SettlesOn s.graph ds (no_units m)
   start = record { names = s.listed; runs = running-on m s r; holds = (refl, d) }
+
+  -- no script marking goes on
+  unmarked : m.marking ≡ None
+  unmarked = running-unmarked m s d.0 r d.1
 
   -- units
   units-settle : (n : ℕ) → SettlesOn s.graph ds (units_done n (no_units m))
@@ -97,26 +109,54 @@ module _ (m : Machine) (s : State) (ds : List Name) (r : IsRunning m s) (d : IsD
   ended : SettlesOn s.graph ds (to_the_end (no_units m))
   ended = units-settle (enough_units m)
 
-  -- the same, as `gc` has them
+  -- the same, as `gc` and `mark` have them
   finished : finish_running m ≡ to_the_end (no_units m)
   finished = finish-some m d.0 d.1
 
-  -- where `gc` ends it, what it leaves is spent
+  -- where they end it, what they leave is spent
   finish-spends : (finish_running m).progress ≡ at_end → HoldsOn s.graph (Spending ds) (starting_anew (finish_running m))
   finish-spends e = spent-at_end s.graph r.well_made ds (finish_running m) (subst (SettlesOn s.graph ds) (sym finished) ended) e
 
+  -- it is followed to its end, whatever machine there is later that has spent what was spent
+  finish-follows : (n : Machine) → (HoldsOn s.graph (Spending ds) (starting_anew (finish_running m)) → IsSpent n.heap ds) →
+      IsFollowed ds (finish_running m).events (finish_running m).progress n
+  finish-follows n later = subst (λ (u : UnitsDone). IsFollowed ds u.events u.progress n) (sym finished)
+      (stopped s.graph r.well_made ds m n ended (λ e. later (finish-spends (ap (λ (u : UnitsDone). u.progress) finished ∙ e))))
+
   -- `gc`
-  gc-follows : IsFollowed ds (finish_running m).events (finish_running m).progress (gc m).machine
-  unfolding gc
-  gc-follows = subst (λ (u : UnitsDone). IsFollowed ds u.events u.progress (gc m).machine) (sym finished)
-      (stopped s.graph r.well_made ds m (gc m).machine ended
-      (λ e. let t = finish-spends (ap (λ (u : UnitsDone). u.progress) finished ∙ e) in
-      collected-spent (finish_running m).machine.heap ds t.runs.sound t.holds))
+  gc-follows : let d = finish_running (without_marking m) in IsFollowed ds d.events d.progress (gc m).machine
+  gc-follows = subst (λ (k : Machine). IsFollowed ds (finish_running k).events (finish_running k).progress (gc m).machine) (sym (dropped-unmarked m unmarked))
+      (subst (λ (u : UnitsDone). IsFollowed ds (finish_running m).events (finish_running m).progress u.machine) (sym (gc-drops_none m unmarked))
+      (finish-follows (then_scripts (finish_running m)).machine (λ t. collected-spent (finish_running m).machine.heap ds t.runs.sound t.holds)))
 
   -- `gc` takes away what the collection that it ends can't miss
-  gc-gone_at_once : (finish_running m).progress ≢ refused → (x : Name) → Among x ds → ¬ (Among x (names_there (gc m).machine.heap))
-  unfolding gc
-  gc-gone_at_once unrefused x i = grind (arith, to_the_end-stops, finish-spends, collected-gone)
+  gc-gone_at_once : (finish_running (without_marking m)).progress ≢ refused → (x : Name) → Among x ds → ¬ (Among x (names_there (gc m).machine.heap))
+  gc-gone_at_once unrefused x i = subst (λ (u : UnitsDone). ¬ (Among x (names_there u.machine.heap))) (sym (gc-drops_none m unmarked))
+      (gone (finish_running m).progress refl)
+    where
+      gone : (p : Progress) → (finish_running m).progress ≡ p → ¬ (Among x (names_there (then_scripts (finish_running m)).machine.heap))
+      gone went_on e = absurd (to_the_end-stops m (ap (λ (u : UnitsDone). u.progress) (sym finished) ∙ e))
+      gone at_end e = let t = finish-spends e in collected-gone ds (finish_running m).machine.heap t.runs.sound t.holds x i
+      gone refused e = absurd (unrefused (ap (λ (k : Machine). (finish_running k).progress) (dropped-unmarked m unmarked) ∙ e))
+
+  -- no marking goes on where `mark` has ended it
+  ended-unmarked : (finish_running m).machine.marking ≡ None
+  ended-unmarked = subst (λ (u : UnitsDone). u.machine.marking ≡ None) (sym finished)
+      (units_done-keep (λ (u : UnitsDone). u.machine.marking ≡ None) (λ u e q. q) (enough_units m) (no_units m) unmarked)
+
+  -- `mark`
+  mark-follows : (n : ℕ) → IsFollowed ds (finish_running m).events (finish_running m).progress (mark n m).machine
+  mark-follows n = finish-follows (mark n m).machine
+      (λ t. (marked-spends ds m n ended-unmarked (record { sound = t.runs.sound; spent = t.holds })).spent)
+
+  -- a slice
+  slice-follows : (n : ℕ) → IsFollowed ds (slice n m).events (slice n m).progress (slice n m).machine
+  slice-follows n = subst (λ (u : UnitsDone). IsFollowed ds u.events u.progress u.machine) (sym (slice-unmarked m unmarked n))
+      (settled s.graph r.well_made ds (units_done n (no_units m)) (units-settle n))
+
+  -- `collect`
+  collect-follows : let d = behind (finish_marking m) (to_the_end (no_units (finish_marking m).machine)) in IsFollowed ds d.events d.progress (collect m).machine
+  collect-follows = collected-follows s.graph r.well_made ds m unmarked ended
 
 -- a command of the mutator leaves the collection such
 pub mutate-follows : (m : Machine) (c : Command) (ds : List Name) → IsSound [] m.heap → KeepsReflectors ds → IsDoomedNow m ds → IsDoomedNow (mutate m c).machine ds
@@ -128,14 +168,12 @@ mutate-follows m c ds sound keeps d = mutate-cases m c (λ (u : Turn). IsDoomedN
 -- A COLLECTION THAT CAN'T MISS NAMES, under a command of any class that brings nothing back
 pub class-follows : (m : Machine) (s : State) (c : Command) (ds : List Name) → IsRunning m s → IsTrue (in_range c) → KeepsReflectors ds → IsDoomedNow m ds →
     (k : Class) → class_of c ≡ k → brings_back k ≡ false → let n = (do_class m c k).machine in let d = first_units_of m n k in IsFollowed ds d.events d.progress n
-unfolding slice
 class-follows m s c ds r i keeps d (says q) e b = (refl, say-leaves m q (λ n. IsDoomedNow n ds) (λ memory. d))
 class-follows m s c ds r i keeps d does e b = (refl, mutate-follows m c ds r.sound keeps d)
-class-follows m s c ds r i keeps d (runs (so_many u)) e b = settled s.graph r.well_made ds (slice u m) (units-settle m s ds r d u)
-class-follows m s c ds r i keeps d (runs whole) e b = let t = ended m s ds r d in
-    stopped s.graph r.well_made ds m (collect m).machine t (collect-spent s.graph r.well_made ds m t)
+class-follows m s c ds r i keeps d (runs (so_many u)) e b = slice-follows m s ds r d u
+class-follows m s c ds r i keeps d (runs whole) e b = collect-follows m s ds r d
 class-follows m s c ds r i keeps d (collects_scripts whole) e b = gc-follows m s ds r d
-class-follows m s c ds r i keeps d (collects_scripts (so_many n)) e b = absurd (spoken-as c i (collects_scripts (so_many n)) e)
+class-follows m s c ds r i keeps d (collects_scripts (so_many n)) e b = mark-follows m s ds r d n
 class-follows m s c ds r i keeps d forgets e b = (refl, forget-follows m ds d)
 class-follows m s c ds r i keeps d (reads_weak n w) e b = absurd (true≢false b)
 
@@ -152,7 +190,7 @@ ask-follows m s _ ds r i keeps d none = (refl, d)
 
 -- The ask that begins it
 
-module _ (m : Machine) (s : State) (ds : List Name) (r : IsRunning m s) (none : m.snapshot ≡ None) (doomed : IsDoomed (view (with_empty_buffer m.heap)) (begun m.heap) ds) where
+module _ (m : Machine) (s : State) (ds : List Name) (r : IsRunning m s) (none : m.snapshot ≡ None) (unmarked : m.marking ≡ None) (doomed : IsDoomed (view (with_empty_buffer m.heap)) (begun m.heap) ds) where
   -- some units
   some-settle : (n : ℕ) → 0 < n → SettlesOn s.graph ds (units_done n (no_units m))
   unfolding units_done
@@ -162,10 +200,9 @@ module _ (m : Machine) (s : State) (ds : List Name) (r : IsRunning m s) (none : 
   -- under a command that has units
   has_units-follow : (c : Command) (k : Class) → has_units k ≡ true →
       let n = (do_class m c k).machine in let d = first_units_of m n k in IsFollowed ds d.events d.progress n
-  unfolding slice
-  has_units-follow c (runs (so_many (suc n))) e = settled s.graph r.well_made ds (slice (suc n) m) (some-settle (suc n) (omega arith))
-  has_units-follow c (runs whole) e = let t = some-settle (enough_units m) (omega arith) in
-      stopped s.graph r.well_made ds m (collect m).machine t (collect-spent s.graph r.well_made ds m t)
+  has_units-follow c (runs (so_many (suc n))) e = subst (λ (u : UnitsDone). IsFollowed ds u.events u.progress u.machine) (sym (slice-unmarked m unmarked (suc n)))
+      (settled s.graph r.well_made ds (units_done (suc n) (no_units m)) (some-settle (suc n) (omega arith)))
+  has_units-follow c (runs whole) e = collected-follows s.graph r.well_made ds m unmarked (some-settle (enough_units m) (omega arith))
   has_units-follow c _ e = absurd (false≢true e)
 
   -- under an ask that begins a collection
@@ -233,20 +270,29 @@ pub after_gc-runs : (m : Machine) (s : State) → IsRunning m s → IsRunning (g
 unfolding do_ask
 after_gc-runs m s r = any-runs m s (taken Gc) r refl
 
--- a collection that begins now dooms what is garbage
+-- a collection that begins now dooms what is garbage, and no script marking is ended before it
 abbrev pub Dooms : Machine → Type 0
-Dooms m = (m.snapshot ≡ None) × IsDoomed (view (with_empty_buffer m.heap)) (begun m.heap) (garbage m.heap)
+Dooms m = (m.snapshot ≡ None) × (m.marking ≡ None) × IsDoomed (view (with_empty_buffer m.heap)) (begun m.heap) (garbage m.heap)
+
+-- and no script marking goes on
+after_gc-unmarked : (m : Machine) → (gc m).machine.marking ≡ None
+unfolding gc
+after_gc-unmarked m = go (is_some m.snapshot)
+  where
+    go : (b : Bool) → (then_scripts (elim b [ true ↦ to_the_end (no_units (without_marking m)) | false ↦ no_units (without_marking m) ])).machine.marking ≡ None
+    go true = units_done-keep (λ (u : UnitsDone). u.machine.marking ≡ None) (λ u e q. q) (enough_units (without_marking m)) (no_units (without_marking m)) refl
+    go false = refl
 
 -- right after `gc` a collection that begins dooms what is garbage
 pub after_gc-dooms : (m : Machine) (s : State) → IsRunning m s → IsSuspectedNow m → Dooms (gc m).machine
 after_gc-dooms m s r suspected =
     let f = gc-collects m (running-going m s r suspected) in
-    (f.4, subst (λ (h : Heap). IsDoomed (view (with_empty_buffer h)) (begun h) (garbage h)) (sym f.3) (collected-doomed f.0 f.1 f.2))
+    (f.4, after_gc-unmarked m, subst (λ (h : Heap). IsDoomed (view (with_empty_buffer h)) (begun h) (garbage h)) (sym f.3) (collected-doomed f.0 f.1 f.2))
 
 module _ (m : Machine) (s : State) (r : IsRunning m s) (dooms : Dooms m) where
   -- THE ASK THAT BEGINS A COLLECTION that dooms garbage makes one that can't miss what was lost.
   pub begun-follows : (ask : Ask) → begins_one ask ≡ true → IsFollowed (lost m.heap) (first_units m ask).events (first_units m ask).progress (do_ask m ask).machine
-  begun-follows ask e = begin-follows m s (lost m.heap) r dooms.0 (lost-doomed m.heap s.graph r.sound r.well_made r.stands dooms.1) ask e
+  begun-follows ask e = begin-follows m s (lost m.heap) r dooms.0 dooms.1 (lost-doomed m.heap s.graph r.sound r.well_made r.stands dooms.2) ask e
 
   -- A COLLECTION THAT DOOMED GARBAGE CAN'T MISS WHAT WAS LOST, under later asks that bring nothing back.
   pub all-follow : (ask : Ask) (asks : List Ask) → begins_one ask ≡ true → IsTrue (list_all ask_in_range asks) → IsTrue (list_all brings_none_back asks) →

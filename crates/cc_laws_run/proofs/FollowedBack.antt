@@ -34,7 +34,7 @@ use Rattle.cc_model.specs.Snapshot.{Snapshot}
 use Rattle.cc_model.specs.Units.{first_untraversed}
 use Rattle.cc_model.specs.End.{Progress, went_on, at_end, refused, granted, node_or_end, unit}
 use Rattle.cc_model.specs.Lawful.{State, next}
-use Rattle.cc_model.specs.Collecting.{Machine, UnitsDone, no_units, next_answer, units_done, slice, gc}
+use Rattle.cc_model.specs.Collecting.{Machine, UnitsDone, no_units, next_answer, units_done, to_the_end, finish_running, finish_marking, behind, slice, gc}
 use Rattle.cc_model.specs.Run.{Turn, mutate, do_ask, turns, machine_after, do_class, noted, read_weak}
 use Rattle.cc_model.proofs.UnitsEnd.{to_the_end-stops}
 use Rattle.cc_names.proofs.NameTests.{same_name-exact}
@@ -49,10 +49,10 @@ use Rattle.cc_laws_run.specs.Returning.{MayBeBack, AreBeside, met_over, brings_b
 use Rattle.cc_laws_run.specs.Followed.{first_units, then_later, first_collection, first_units_of}
 use Rattle.cc_laws_run.specs.Missing.{CannotMissNow, AreLeftOf, MissesNone, graph_then, met_then, begins_one, has_units, lost}
 use Rattle.cc_laws_run.specs.Spent.{IsSpent}
-use Rattle.cc_laws_run.proofs.Spoken.{spoken-as}
 use Rattle.cc_laws_run.proofs.CommandCases.{mutate-cases, say-leaves}
 use Rattle.cc_laws_run.proofs.UnitLawful.{unit-cases}
 use Rattle.cc_laws_run.proofs.HoldingUnits.{units_done-keep}
+use Rattle.cc_laws_run.proofs.Unmarked.{running-unmarked, slice-unmarked, first-unmarked, dropped-unmarked}
 use Rattle.cc_laws_run.proofs.FirstCollection.{finish-some}
 use Rattle.cc_laws_run.proofs.TouchedParts.{IsUntouched}
 use Rattle.cc_laws_run.proofs.TouchedViews.{Spares, doomed-spared}
@@ -149,17 +149,33 @@ forget-gave : (h : Heap) (ds : List Name) → GaveBefore ds h (forgotten h)
 unfolding forgotten
 forget-gave h ds e i m = m
 
+-- where no marking goes on, a slice that goes on leaves the entries
+slice-entries : (m : Machine) → m.marking ≡ None → (n : ℕ) → (slice n m).progress ≡ went_on → (slice n m).machine.heap.entries ≡ m.heap.entries
+slice-entries m none n p =
+    let same : slice n m ≡ units_done n (no_units m) = slice-unmarked m none n in
+    ap (λ (u : UnitsDone). u.machine.heap.entries) same ∙ units-entries n m (ap (λ (u : UnitsDone). u.progress) (sym same) ∙ p)
+
+slice-gave : (m : Machine) (ds : List Name) → m.marking ≡ None → (n : ℕ) → (slice n m).progress ≡ went_on → GaveBefore ds m.heap (slice n m).machine.heap
+slice-gave m ds none n p = gave-same ds m.heap (slice n m).machine.heap (slice-entries m none n p)
+
+-- a collection that is brought to its end does not go on
+first-stops : (m : Machine) → m.marking ≡ None → ¬ ((behind (finish_marking m) (to_the_end (no_units (finish_marking m).machine))).progress ≡ went_on)
+first-stops m none p = to_the_end-stops m (ap (λ (u : UnitsDone). u.progress) (sym (first-unmarked m none)) ∙ p)
+
+finish-stops : (m : Machine) (t : Snapshot) → m.snapshot ≡ Some t → ¬ ((finish_running m).progress ≡ went_on)
+finish-stops m t e p = to_the_end-stops m (ap (λ (u : UnitsDone). u.progress) (sym (finish-some m t e)) ∙ p)
+
 -- WHAT GIVES A DOOMED NAME GAVE IT BEFORE a command that leaves the collection running and brings nothing back.
 class-gave : (m : Machine) (s : State) (c : Command) (ds : List Name) → IsRunning m s → IsTrue (in_range c) → KeepsReflectors ds → IsDoomedNow m ds →
     (k : Class) → class_of c ≡ k → brings_back k ≡ false → let n = (do_class m c k).machine in (first_units_of m n k).progress ≡ went_on → GaveBefore ds m.heap n.heap
-unfolding slice
 class-gave m s c ds r i keeps d (says q) e b p = say-leaves m q (λ n. GaveBefore ds m.heap n.heap) (λ memory j i at. at)
 class-gave m s c ds r i keeps d does e b p = mutate-gave m c ds r.sound keeps d
 class-gave m s c ds r i keeps d forgets e b p = forget-gave m.heap ds
-class-gave m s c ds r i keeps d (runs (so_many u)) e b p = gave-same ds m.heap (slice u m).machine.heap (units-entries u m p)
-class-gave m s c ds r i keeps d (runs whole) e b p = absurd (to_the_end-stops m p)
-class-gave m s c ds r i keeps d (collects_scripts whole) e b p = absurd (to_the_end-stops m (ap (λ (u : UnitsDone). u.progress) (sym (finish-some m d.0 d.1)) ∙ p))
-class-gave m s c ds r i keeps d (collects_scripts (so_many n)) e b p = absurd (spoken-as c i (collects_scripts (so_many n)) e)
+class-gave m s c ds r i keeps d (runs (so_many u)) e b p = slice-gave m ds (running-unmarked m s d.0 r d.1) u p
+class-gave m s c ds r i keeps d (runs whole) e b p = absurd (first-stops m (running-unmarked m s d.0 r d.1) p)
+class-gave m s c ds r i keeps d (collects_scripts whole) e b p = absurd (finish-stops m d.0 d.1
+    (ap (λ (k : Machine). (finish_running k).progress) (sym (dropped-unmarked m (running-unmarked m s d.0 r d.1))) ∙ p))
+class-gave m s c ds r i keeps d (collects_scripts (so_many n)) e b p = absurd (finish-stops m d.0 d.1 p)
 class-gave m s c ds r i keeps d (reads_weak n w) e b p = absurd (true≢false b)
 
 -- A native brought back
@@ -301,7 +317,7 @@ module _ (met ds : List Name) (d later : UnitsDone) (n k : Machine) (g e : Graph
   then-shrinks = go d.progress refl
     where
       followed_by : Progress → UnitsDone
-      followed_by went_on = record later { events = d.events ++ later.events }
+      followed_by went_on = later
       followed_by _ = d
 
       go : (p : Progress) → d.progress ≡ p → Shrinks met ds (followed_by p).events (followed_by p).progress k e
@@ -311,7 +327,7 @@ module _ (met ds : List Name) (d later : UnitsDone) (n k : Machine) (g e : Graph
           record {
             left = r.left;
             keeps = r.keeps;
-            followed = subst (λ es. IsFollowed r.left (es ++ later.events) later.progress k) (sym h.0) r.followed;
+            followed = r.followed;
             beside = r.beside;
             were = λ x j. f.were x (r.were x j);
             others = λ x j. ⊎_elim (λ l. r.others x l) (λ b. inr b) (others-later x j);
@@ -425,18 +441,18 @@ shrunk-gone met m s asks ds g r f unrefused x i out = ⊎_elim (λ l. followed-g
 
 -- The ask that begins a collection
 
--- a command that begins a collection leaves the entries, where that goes on
-has_units-entries : (m : Machine) (c : Command) (k : Class) → has_units k ≡ true → let n = (do_class m c k).machine in
+-- a command that begins a collection where no marking goes on leaves the entries, where that goes on
+has_units-entries : (m : Machine) (c : Command) (k : Class) → m.marking ≡ None → has_units k ≡ true → let n = (do_class m c k).machine in
     (first_units_of m n k).progress ≡ went_on → n.heap.entries ≡ m.heap.entries
-unfolding slice
-has_units-entries m c (runs (so_many (suc u))) e p = units-entries (suc u) m p
-has_units-entries m c (runs whole) e p = absurd (to_the_end-stops m p)
-has_units-entries m c _ e p = absurd (false≢true e)
+has_units-entries m c (runs (so_many (suc u))) none e p = slice-entries m none (suc u) p
+has_units-entries m c (runs whole) none e p = absurd (first-stops m none p)
+has_units-entries m c _ none e p = absurd (false≢true e)
 
-begin-entries : (m : Machine) (ask : Ask) → begins_one ask ≡ true → (first_units m ask).progress ≡ went_on → (do_ask m ask).machine.heap.entries ≡ m.heap.entries
+begin-entries : (m : Machine) (ask : Ask) → m.marking ≡ None → begins_one ask ≡ true → (first_units m ask).progress ≡ went_on →
+    (do_ask m ask).machine.heap.entries ≡ m.heap.entries
 unfolding do_ask
-begin-entries m (taken c) e p = has_units-entries m c (class_of c) e p
-begin-entries m _ e p = absurd (false≢true e)
+begin-entries m (taken c) none e p = has_units-entries m c (class_of c) none e p
+begin-entries m _ none e p = absurd (false≢true e)
 
 module _ (m : Machine) (s : State) (r : IsRunning m s) (dooms : Dooms m) (ask : Ask) (e : begins_one ask ≡ true) (met : List Name) where
   -- all that was lost is left by the ask that begins the collection
@@ -448,7 +464,7 @@ module _ (m : Machine) (s : State) (r : IsRunning m s) (dooms : Dooms m) (ask : 
     followed = begun-follows m s r dooms ask e;
     beside = λ p. beside-stays s.graph (next s ask (do_ask m ask).answer).graph met (lost m.heap) m.heap (do_ask m ask).machine.heap
         (ask-stays s ask (do_ask m ask).answer met reached)
-        (gave-same (lost m.heap) m.heap (do_ask m ask).machine.heap (begin-entries m ask e p))
+        (gave-same (lost m.heap) m.heap (do_ask m ask).machine.heap (begin-entries m ask dooms.1 e p))
         (lost-beside m.heap s.graph r.sound r.well_made r.stands met reached);
     were = λ x j. j;
     others = λ x j. inl j;

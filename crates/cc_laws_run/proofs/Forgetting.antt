@@ -9,11 +9,13 @@ use Rattle.cc_model.specs.Heap.{Heap}
 use Rattle.cc_model.specs.View.{view}
 use Rattle.cc_model.specs.Skipping.{forgotten}
 use Rattle.cc_model.specs.Snapshot.{Snapshot}
+use Rattle.cc_model.specs.Marking.{NewMarks}
 use Rattle.cc_model.specs.Lawful.{State, next, AnswersClass}
 use Rattle.cc_model.specs.Collecting.{Machine}
 use Rattle.cc_model.specs.Run.{forget_suspects}
 use Rattle.cc_laws_snapshot.proofs.Unmarking.{forgotten-fresh, forgotten-sound, forgotten-stands, forgotten-colours, forgotten-names}
-use Rattle.cc_laws_run.specs.Running.{IsRunning, IsFreshNow, moves_none}
+use Rattle.cc_laws_marking.proofs.Beside.{forgotten-keeps}
+use Rattle.cc_laws_run.specs.Running.{IsRunning, IsFreshNow, IsMarkingNow, moves_none}
 use Rattle.cc_laws_run.specs.Doomed.{IsDoomed, IsDoomedNow}
 use Rattle.cc_laws_run.specs.Spent.{IsSpent}
 use Rattle.cc_laws_run.proofs.CommandCases.{next-no_deed}
@@ -27,6 +29,13 @@ unfolding forgotten
 forgotten-fresh_now h None f = tt
 forgotten-fresh_now h (Some s) f = forgotten-fresh h s f
 
+-- a marking that goes on does so as it should
+forgotten-marking_now : (h : Heap) (marking : Option NewMarks) (snapshot : Option Snapshot) → IsMarkingNow h marking snapshot → IsMarkingNow (forgotten h) marking snapshot
+forgotten-marking_now h None snapshot is = tt
+forgotten-marking_now h (Some marks) snapshot is =
+    let keeps = forgotten-keeps h in
+    record { under = keeps.under marks is.under; so_far = keeps.so_far marks is.so_far; alone = is.alone }
+
 -- the graph and the listed names stay, and so does a machine that runs beside them
 forgotten-runs : (m : Machine) (s : State) → IsRunning m s → IsRunning (forget_suspects m).machine s
 unfolding forgotten
@@ -35,6 +44,7 @@ forgotten-runs m s r = record {
   colours = forgotten-colours m.heap r.colours;
   fresh = forgotten-fresh_now m.heap m.snapshot r.fresh;
   well_made = r.well_made;
+  marking = forgotten-marking_now m.heap m.marking m.snapshot r.marking;
   stands = forgotten-stands m.heap s.graph r.stands;
   listed = r.listed;
   weak = r.weak;

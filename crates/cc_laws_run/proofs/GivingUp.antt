@@ -1,6 +1,6 @@
 -- A COLLECTION THAT IS REFUSED MEMORY leaves of the heaps what the definitions say, over whole asks.
-use Rattle.std.proofs.Common.{arith, ◌≡◌, ℕ, Bool, List, [], ◌∷◌, ◌++◌, Option, Some, None, refl, sym, ◌∙◌, ap, subst, ◌⊎◌, ⊎_elim}
-use Rattle.std.proofs.lemmas.List.{append-nil}
+use Rattle.std.proofs.Common.{arith, ◌≡◌, ℕ, Bool, List, [], ◌∷◌, ◌++◌, Option, Some, None, refl, sym, ◌∙◌, ap, subst, inl, inr, ◌⊎◌, ⊎_elim}
+use Rattle.std.proofs.lemmas.List.{append-nil, append_assoc}
 use Rattle.std.specs.List.{filter}
 use Rattle.cc_lists.specs.Members.{Among}
 use Rattle.cc_lists.proofs.Members.{Among-map, Among-map_cases}
@@ -14,11 +14,11 @@ use Rattle.cc_model.specs.WellFormed.{native_names}
 use Rattle.cc_model.specs.Snapshot.{Snapshot}
 use Rattle.cc_model.specs.Units.{candidates_of, with_empty_buffer}
 use Rattle.cc_model.specs.End.{Progress, went_on, at_end, refused, UnitDone, give_back, heap_given_back, granted, unit}
-use Rattle.cc_model.specs.Collecting.{Machine, UnitsDone, next_answer, one_unit, units_done, enough_units, finish_running, slice, collect, units_came}
+use Rattle.cc_model.specs.Collecting.{Machine, UnitsDone, next_answer, one_unit, units_done, enough_units, finish_running, finish_marking, behind, slice_cycles, slice, collect_cycles, collect, units_came}
 use Rattle.cc_laws_heap.proofs.Kept.{with_buffer}
 use Rattle.cc_laws_snapshot.proofs.GivingBack.{given_back, given_back-purple, give_back-buffer}
 use Rattle.cc_laws_run.specs.Doomed.{candidates_now}
-use Rattle.cc_laws_run.specs.GivenUp.{IsGivenUp, GivesUp, CollectGivesUp}
+use Rattle.cc_laws_run.specs.GivenUp.{IsGivenUp, GivesUp, SliceGivesUp, CyclesGiveUp, CollectGivesUp}
 use Rattle.cc_laws_run.proofs.UnitLawful.{unit-cases}
 use Rattle.cc_laws_run.proofs.RefusedUnits.{give_back-purple}
 use Rattle.cc_laws_run.proofs.HoldingUnits.{units_done-keep, finish-cases, unless_stopped-cases}
@@ -117,16 +117,48 @@ module _ (m : Machine) (es : List Event) where
       let r = subst (λ (p : Progress). ComesTo p d.machine.heap d.machine.snapshot d.events) e (units-come n) in
       record { heap = r.0; snapshot = r.1; events = r.2 }
 
--- A SLICE GAVE UP where it was refused.
-pub slice-gives_up : (n : ℕ) (m : Machine) → (slice n m).progress ≡ refused → GivesUp m [] (slice n m)
-unfolding slice
-slice-gives_up n m e = units-give_up m [] n e
+-- units of collections gave up where they were refused
+slice_cycles-gives_up : (n : ℕ) (m : Machine) → (slice_cycles n m).progress ≡ refused → GivesUp m [] (slice_cycles n m)
+unfolding slice_cycles
+slice_cycles-gives_up n m e = units-give_up m [] n e
 
 -- SO DID THE END OF A RUNNING COLLECTION, of `collect` and of `gc`.
 pub finish-gives_up : (m : Machine) → (finish_running m).progress ≡ refused → GivesUp m [] (finish_running m)
 finish-gives_up m = finish-cases m (λ d. d.progress ≡ refused → GivesUp m [] d) (units-give_up m [] (enough_units m)) (λ none e. absurd cc)
 
+-- a whole collection of cycles did, there or in a collection of its own
+pub collect_cycles-gives_up : (m : Machine) → (collect_cycles m).progress ≡ refused → CyclesGiveUp m [] (collect_cycles m)
+unfolding collect_cycles
+collect_cycles-gives_up m = grind (arith, unless_stopped-cases, finish-gives_up, units-give_up)
+
+-- Behind the end of a marking
+
+-- what gave up behind what was told before
+behind-gives_up : (m : Machine) (es : List Event) (b d : UnitsDone) → GivesUp m es d → GivesUp m (b.events ++ es) (behind b d)
+behind-gives_up m es b d g = record {
+  heap = g.heap;
+  snapshot = g.snapshot;
+  events = ap (λ (fs : List Event). b.events ++ fs) g.events ∙ sym (append_assoc b.events es (Abandoned ∷ []));
+}
+
+-- where nothing else was told before
+behind-gives_up_first : (m : Machine) (b d : UnitsDone) → GivesUp m [] d → GivesUp m b.events (behind b d)
+behind-gives_up_first m b d g = record { heap = g.heap; snapshot = g.snapshot; events = ap (λ (fs : List Event). b.events ++ fs) g.events }
+
+-- A SLICE GAVE UP where it was refused.
+pub slice-gives_up : (n : ℕ) (m : Machine) → (slice n m).progress ≡ refused → SliceGivesUp m (slice n m)
+unfolding slice
+slice-gives_up n m e =
+    let b : UnitsDone = finish_marking m in
+    behind-gives_up_first b.machine b (slice_cycles n b.machine) (slice_cycles-gives_up n b.machine e)
+
 -- AND `collect`, there or in a collection of its own.
 pub collect-gives_up : (m : Machine) → (collect m).progress ≡ refused → CollectGivesUp m (collect m)
 unfolding collect
-collect-gives_up m = grind (arith, unless_stopped-cases, finish-gives_up, units-give_up)
+collect-gives_up m e =
+    let b : UnitsDone = finish_marking m in
+    let d : UnitsDone = collect_cycles b.machine in
+    let ran : UnitsDone = finish_running b.machine in
+    ⊎_elim
+    (λ g. inl (behind-gives_up_first b.machine b d g))
+    (λ g. inr (g.0, behind-gives_up ran.machine ran.events b d g.1)) (collect_cycles-gives_up b.machine e)

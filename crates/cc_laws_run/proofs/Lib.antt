@@ -2,7 +2,6 @@ pub mod Listing
 pub mod NamesKept
 pub mod NamesAfter
 pub mod ListedAfter
-pub mod Spoken
 pub mod CommandCases
 pub mod Answered
 pub mod RunsOn
@@ -11,6 +10,7 @@ pub mod Forgetting
 pub mod Unabandoned
 pub mod UnitsUse
 pub mod MarkedUnits
+pub mod FinishingUse
 pub mod AsksUse
 pub mod Ample
 pub mod UnitsTaken
@@ -22,6 +22,8 @@ pub mod EndedAfter
 pub mod EndedDeeds
 pub mod RunsOfNumbers
 pub mod UnitLawful
+pub mod Finishing
+pub mod Unmarked
 pub mod HoldingUnits
 pub mod BesideUnits
 pub mod EndedUnits
@@ -34,6 +36,7 @@ pub mod DoomedWhite
 pub mod DoomedNode
 pub mod DoomedBegin
 pub mod LeftThere
+pub mod MarkingOn
 pub mod QuietRounds
 pub mod QuietTaken
 pub mod QuietUnits
@@ -56,11 +59,16 @@ pub mod DoomedLess
 pub mod SpentViews
 pub mod SpentGone
 pub mod SpentUnits
+pub mod SpentMarks
 pub mod SpentAsks
+pub mod Swept
+pub mod SweptLawful
+pub mod MarkLawful
 pub mod FirstCollection
 pub mod FollowedAsks
 pub mod FollowedBack
 pub mod WholeRuns
+pub mod WhitesFreed
 pub mod Witnesses
 pub mod Face
 mod JointLists

@@ -13,12 +13,12 @@ use Rattle.cc_laws_run.proofs.UnitsUse.{done_with}
 -- One unit
 
 -- a unit by whether none is left to scan
-abbrev marked_by : Machine → List Event → NewMarks → Bool → UnitsDone
+abbrev pub marked_by : Machine → List Event → NewMarks → Bool → UnitsDone
 marked_by m es marks true = with_outcome (units_came (record m { marking = None }) es at_end) (ended_marks m.heap marks)
 marked_by m es marks false = units_came (record m { marking = Some (scanned m.heap marks) }) es went_on
 
 -- a unit by the marking that goes on
-abbrev marked_from : Machine → List Event → Option NewMarks → UnitsDone
+abbrev pub marked_from : Machine → List Event → Option NewMarks → UnitsDone
 marked_from m es None = units_came (record m { marking = Some (begun_marks m.heap) }) es went_on
 marked_from m es (Some marks) = marked_by m es marks (is_scanned marks)
 

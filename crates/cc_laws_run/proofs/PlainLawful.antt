@@ -4,21 +4,20 @@ use Rattle.std.proofs.Common.{Bool, List, [], ◌∷◌, refl, ◌≡◌, false}
 use Rattle.std.specs.List.{list_all}
 use Rattle.std.proofs.lemmas.Bool.{and_parts, true≢false}
 use Rattle.cc_names.specs.Allowance.{Allowance}
-use Rattle.cc_model.specs.Mutating.{Class, so_many, whole, says, does, forgets, reads_weak, runs, collects_scripts, class_of}
+use Rattle.cc_model.specs.Mutating.{Class, says, does, forgets, reads_weak, runs, collects_scripts, class_of}
 use Rattle.cc_model.specs.Asks.{Ask, taken, long, bad}
 use Rattle.cc_model.specs.Lawful.{State, AnswersAsk, IsLawfulFrom, IsLawful, start, next, AnswersClass}
 use Rattle.cc_model.specs.Collecting.{Machine, empty_machine}
 use Rattle.cc_model.specs.Run.{do_ask, turns, plain_run, do_class}
 use Rattle.cc_model.specs.declared.command.Command.{Command}
-use Rattle.cc_model.specs.declared.command.Command.TheVariants.{Slice, Collect, Gc}
+use Rattle.cc_model.specs.declared.command.Command.TheVariants.{Slice, Collect, Gc, Mark}
 use Rattle.cc_model.specs.Ranges.{in_range}
 use Rattle.cc_laws_run.specs.Running.{IsRunning, ask_in_range, moves_none, moves_no_collection}
-use Rattle.cc_laws_run.proofs.Spoken.{spoken-as}
 use Rattle.cc_laws_run.proofs.Answered.{mutate-answers, say-answers}
 use Rattle.cc_laws_run.proofs.RunsOn.{empty-runs, mutate-runs, say-runs}
 use Rattle.cc_laws_run.proofs.ReadingWeak.{weak-answers, weak-runs}
 use Rattle.cc_laws_run.proofs.Forgetting.{forget-answers, forget-runs}
-use Rattle.cc_laws_run.proofs.CollectionsLawful.{units-answers, units-runs, gc-answers, gc-runs}
+use Rattle.cc_laws_run.proofs.CollectionsLawful.{units-answers, units-runs, collects-answers, collects-runs}
 
 -- each command is answered lawfully, by its class
 class-answers : (m : Machine) (s : State) (c : Command) → IsRunning m s → IsTrue (in_range c) → (k : Class) → class_of c ≡ k →
@@ -26,8 +25,7 @@ class-answers : (m : Machine) (s : State) (c : Command) → IsRunning m s → Is
 class-answers m s c r i (says q) e = say-answers m s c q r e
 class-answers m s c r i does e = mutate-answers m s c r i e
 class-answers m s c r i (runs u) e = units-answers m s c u r e
-class-answers m s c r i (collects_scripts whole) e = gc-answers m s c r e
-class-answers m s c r i (collects_scripts (so_many n)) e = absurd (spoken-as c i (collects_scripts (so_many n)) e)
+class-answers m s c r i (collects_scripts u) e = collects-answers m s c u r e
 class-answers m s c r i forgets e = forget-answers m s c e
 class-answers m s c r i (reads_weak d w) e = weak-answers m s c d w r i e
 
@@ -37,8 +35,7 @@ class-runs : (m : Machine) (s : State) (c : Command) → IsRunning m s → IsTru
 class-runs m s c r i (says q) e = say-runs m s c q r e
 class-runs m s c r i does e = mutate-runs m s c r i e
 class-runs m s c r i (runs u) e = units-runs m s c u r e
-class-runs m s c r i (collects_scripts whole) e = gc-runs m s c r e
-class-runs m s c r i (collects_scripts (so_many n)) e = absurd (spoken-as c i (collects_scripts (so_many n)) e)
+class-runs m s c r i (collects_scripts u) e = collects-runs m s c u r e
 class-runs m s c r i forgets e = forget-runs m s c r e
 class-runs m s c r i (reads_weak d w) e = weak-runs m s c d w r i e
 
@@ -62,6 +59,7 @@ moving-command : (c : Command) → moves_none (class_of c) ≡ false → IsTrue 
 moving-command (Slice n) e = refl
 moving-command Collect e = refl
 moving-command Gc e = refl
+moving-command (Mark n) e = refl
 moving-command c e = absurd (true≢false e)
 
 -- so is an ask

@@ -136,6 +136,7 @@ forms-in_range Two =
     also (λ tokens. grind (arith, below))
     also (λ tokens. grind (arith, below))
     also (λ tokens. grind (arith, below))
+    also (λ tokens. grind (arith, below))
     also common-in_range Two
 
 -- Lines

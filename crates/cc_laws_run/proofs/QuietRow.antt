@@ -16,7 +16,7 @@ use Rattle.cc_laws_run.specs.Running.{IsFreshNow}
 use Rattle.cc_laws_run.specs.Doomed.{IsSuspectedNow}
 use Rattle.cc_laws_snapshot.proofs.ReachedStays.{reached-there}
 use Rattle.cc_laws_run.proofs.QuietRounds.{collected-reached}
-use Rattle.cc_laws_run.proofs.QuietUnits.{gc-collects, gc-none, collect-tidy}
+use Rattle.cc_laws_run.proofs.QuietUnits.{gc-collects, gc-none, gc-unmarked, collect-tidy}
 
 -- the machine before them runs and forgot nothing
 pub row-quiet : (m : Machine) (x : Name) → IsSound [] m.heap → HasColourInvariant (view m.heap) → IsFreshNow m.heap m.snapshot →
@@ -27,7 +27,7 @@ row-quiet m x sound colours fresh suspected taken =
     let first = gc-collects m (record { sound = sound; colours = colours; fresh = fresh; suspected = suspected; stopped = λ d. absurd (d refl) }) in
     let n : Machine = (collect (gc m).machine).machine in
     let k : Heap = n.heap in
-    let second = collect-tidy first.0 (gc m).machine first.1 first.2 first.3 first.4 taken in
+    let second = collect-tidy first.0 (gc m).machine first.1 first.2 first.3 first.4 (gc-unmarked m) taken in
     subst (λ (h : Heap). (Among x (names_there h) → ReachedIn (view h) x) × (ReachedIn (view h) x → Among x (names_there h)))
     (sym (gc-none n second.0)) (
       collected-reached k second.1 second.2 x,

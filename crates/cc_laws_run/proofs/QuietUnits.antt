@@ -11,7 +11,7 @@ use Rattle.cc_model.specs.End.{Progress, went_on, at_end, refused, UnitDone, aba
 use Rattle.cc_model.specs.Sweep.{collect_scripts}
 use Rattle.cc_model.specs.Fresh.{IsFresh, IsTraversed}
 use Rattle.cc_model.specs.Suspected.{IsSuspected}
-use Rattle.cc_model.specs.Collecting.{Machine, UnitsDone, no_units, next_answer, one_unit, enough_units, to_the_end, finish_running, unless_stopped, collect, then_scripts, gc, units_done}
+use Rattle.cc_model.specs.Collecting.{Machine, UnitsDone, no_units, next_answer, one_unit, enough_units, to_the_end, finish_running, unless_stopped, collect_cycles, collect, then_scripts, without_marking, gc, units_done}
 use Rattle.cc_model.proofs.UnitsEnd.{to_the_end-stops}
 use Rattle.cc_laws_heap.specs.Sound.{IsSound}
 use Rattle.cc_laws_heap.proofs.Kept.{IsBuffer}
@@ -30,6 +30,8 @@ use Rattle.cc_laws_run.proofs.QuietTaken.{end-tidy}
 use Rattle.cc_laws_heap.proofs.BufferStands.{IsSound-buffer, HasColourInvariant-buffer}
 use Rattle.cc_laws_run.proofs.UnitLawful.{unit-cases, traversed-none}
 use Rattle.cc_laws_run.proofs.HoldingUnits.{units_done-keep, finish-cases}
+use Rattle.cc_laws_run.proofs.BesideUnits.{gc-beside}
+use Rattle.cc_laws_run.proofs.Unmarked.{collect-unmarked}
 use Rattle.cc_model.specs.Lawful.{State}
 
 -- Heaps with another buffer
@@ -202,17 +204,21 @@ module _ (g : Heap) (sound : IsSound [] g) (colours : HasColourInvariant (view g
       go at_end f = subst (IsStage (to_the_end (no_units m)).machine.heap (to_the_end (no_units m)).machine.snapshot) f last
       go refused f = absurd (taken f)
 
--- where no collection runs, collect begins one and brings it to its end
-pub collect-none : (m : Machine) → m.snapshot ≡ None → collect m ≡ to_the_end (no_units m)
-unfolding collect
-collect-none m e = ap (λ (b : Bool). unless_stopped (elim b [ true ↦ to_the_end (no_units m) | false ↦ no_units m ])) (ap is_some e)
+-- where no collection runs, units of a whole one begin one and bring it to its end
+pub collect_cycles-none : (m : Machine) → m.snapshot ≡ None → collect_cycles m ≡ to_the_end (no_units m)
+unfolding collect_cycles
+collect_cycles-none m e = ap (λ (b : Bool). unless_stopped (elim b [ true ↦ to_the_end (no_units m) | false ↦ no_units m ])) (ap is_some e)
+
+-- so does collect, where no marking goes on either
+pub collect-none : (m : Machine) → m.snapshot ≡ None → m.marking ≡ None → collect m ≡ to_the_end (no_units m)
+collect-none m e unmarked = collect-unmarked m unmarked ∙ collect_cycles-none m e
 
 -- A COLLECTION RIGHT AFTER A SCRIPT COLLECTION, if it is not refused, leaves natives that hold something reached.
-pub collect-tidy : (h : Heap) (m : Machine) → IsSound [] h → IsSuspected (view h) [] → m.heap ≡ (collect_scripts h).heap → m.snapshot ≡ None →
+pub collect-tidy : (h : Heap) (m : Machine) → IsSound [] h → IsSuspected (view h) [] → m.heap ≡ (collect_scripts h).heap → m.snapshot ≡ None → m.marking ≡ None →
     ¬ ((collect m).progress ≡ refused) →
     ((collect m).machine.snapshot ≡ None) × IsSound [] (collect m).machine.heap × IsTidy (collect m).machine.heap
-collect-tidy h m s suspected e n taken =
-    let same : collect m ≡ to_the_end (no_units m) = collect-none m n in
+collect-tidy h m s suspected e n unmarked taken =
+    let same : collect m ≡ to_the_end (no_units m) = collect-none m n unmarked in
     subst (λ (d : UnitsDone). (d.machine.snapshot ≡ None) × IsSound [] d.machine.heap × IsTidy d.machine.heap) (sym same)
     (to_the_end-tidy (collect_scripts h).heap (collect_scripts-sound h s) (collect_scripts-invariant h s) (collected-doomed h s suspected)
     m e n (λ f. taken (ap (λ (d : UnitsDone). d.progress) same ∙ f)))
@@ -220,13 +226,20 @@ collect-tidy h m s suspected e n taken =
 -- where no collection runs, gc is a script collection
 pub gc-none : (m : Machine) → m.snapshot ≡ None → (gc m).machine.heap ≡ (collect_scripts m.heap).heap
 unfolding gc
-gc-none m e = ap (λ (b : Bool). (then_scripts (elim b [ true ↦ to_the_end (no_units m) | false ↦ no_units m ])).machine.heap) (ap is_some e)
+gc-none m e =
+    let n : Machine = without_marking m in
+    ap (λ (b : Bool). (then_scripts (elim b [ true ↦ to_the_end (no_units n) | false ↦ no_units n ])).machine.heap) (ap is_some e)
+
+-- after gc no marking goes on
+pub gc-unmarked : (m : Machine) → (gc m).machine.marking ≡ None
+gc-unmarked m = (gc-beside m).marking
 
 -- GC IS A SCRIPT COLLECTION of sound heaps without a snapshot.
 pub gc-collects : (m : Machine) → IsGoing m.heap m.snapshot went_on →
     (h : Heap) × IsSound [] h × IsSuspected (view h) [] × ((gc m).machine.heap ≡ (collect_scripts h).heap) × ((gc m).machine.snapshot ≡ None)
 unfolding gc
 gc-collects m g =
-    let f = finish_running-going m g in
-    let h : Heap = (finish_running m).machine.heap in
+    let n : Machine = without_marking m in
+    let f = finish_running-going n g in
+    let h : Heap = (finish_running n).machine.heap in
     (h, f.0.sound, subst (λ s. IsSuspected (view h) (candidates_now s)) f.1 f.0.suspected, refl, f.1)

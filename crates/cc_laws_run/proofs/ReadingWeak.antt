@@ -26,6 +26,7 @@ use Rattle.cc_model.specs.Given.{is_usable, MayComeBack}
 use Rattle.cc_model.specs.StandsFor.{StandsFor}
 use Rattle.cc_model.specs.Effects.{hold_native}
 use Rattle.cc_model.specs.Snapshot.{Snapshot}
+use Rattle.cc_model.specs.Marking.{NewMarks}
 use Rattle.cc_model.specs.WellFormed.{native_names, script_names}
 use Rattle.cc_model.specs.Listed.{after_events, ended_after}
 use Rattle.cc_model.specs.Lawful.{State, next, AnswersClass, EachMayBe, unless_ended, noted_in, graph_after, is_refused, is_without_memory, has_none, unlinked_numbers}
@@ -38,7 +39,8 @@ use Rattle.cc_laws_heap.proofs.Holds.{contents-get}
 use Rattle.cc_laws_heap.proofs.BroughtBack.{IsGivenNative, come_back-given, come_back-there, hold-sound, hold-invariant, hold-stands, hold-well, hold-unreached}
 use Rattle.cc_laws_heap.proofs.UnlinkedKept.{hold-unlinked}
 use Rattle.cc_laws_snapshot.proofs.BroughtBack.{brought_back-fresh, brought_back-suspected}
-use Rattle.cc_laws_run.specs.Running.{IsRunning, IsFreshNow}
+use Rattle.cc_laws_marking.proofs.Beside.{hold_native-keeps}
+use Rattle.cc_laws_run.specs.Running.{IsRunning, IsFreshNow, IsMarkingNow}
 use Rattle.cc_laws_run.specs.Doomed.{IsSuspectedNow, candidates_now}
 use Rattle.cc_laws_run.proofs.Listing.{AreListed, AreListed-census, AreListed-freed, native-listed}
 use Rattle.cc_laws_run.proofs.NamesAfter.{NamesAfter, hold_native-names}
@@ -180,6 +182,13 @@ module _ (m : Machine) (s : State) (d w : ℕ) (r : IsRunning m s) (i : IsTrue (
   fresh-now None f = tt
   fresh-now (Some t) f = brought_back-fresh [] m.heap t d back r.sound place there f
 
+  -- a marking that goes on does so as it should
+  marking-now : (marking : Option NewMarks) → IsMarkingNow m.heap marking m.snapshot → IsMarkingNow held.heap marking m.snapshot
+  marking-now None is = tt
+  marking-now (Some marks) is =
+      let keeps = hold_native-keeps m.heap d back in
+      record { under = keeps.under marks is.under; so_far = keeps.so_far marks is.so_far; alone = is.alone }
+
   -- the ended names agree with the heaps
   ends : EndedIn held.heap (ended_after s.ended held.events)
   ends = ended-after m.heap held.heap s.ended held.events
@@ -203,6 +212,7 @@ module _ (m : Machine) (s : State) (d w : ℕ) (r : IsRunning m s) (i : IsTrue (
     sound = sound;
     colours = hold-invariant m.heap d back r.sound r.colours place there;
     fresh = fresh-now m.snapshot r.fresh;
+    marking = marking-now m.marking r.marking;
     well_made = subst IsWellMade (ap (λ x. set_register s.graph (N d) x) alike ∙ sym graph-is) (hold-well m.heap s.graph d back r.sound r.well_made r.stands place is_given);
     stands = subst (StandsFor held.heap) (ap (λ x. set_register s.graph (N d) x) alike ∙ sym graph-is) (hold-stands m.heap s.graph d back r.sound r.well_made r.stands place is_given);
     listed = AreListed-census (after_events s.listed held.events) (native_names held.heap) (script_names held.heap) left;

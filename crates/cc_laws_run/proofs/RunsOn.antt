@@ -1,5 +1,5 @@
 -- A MACHINE THAT RUNS GOES ON RUNNING after what is said and after each command of the mutator; the empty machine runs.
-use Rattle.std.proofs.Common.{◌≡◌, Bool, List, [], Option, Some, None, refl, sym, ◌∙◌, subst, arith, ap}
+use Rattle.std.proofs.Common.{◌≡◌, Bool, List, [], Option, Some, None, option_map, refl, sym, ◌∙◌, subst, arith, ap}
 use Rattle.std.specs.Prelude.{IsTrue}
 use Rattle.cc_names.specs.Allowance.{Allowance}
 use Rattle.cc_model.specs.declared.command.Command.{Command}
@@ -19,7 +19,7 @@ use Rattle.cc_model.specs.Colours.{HasColourInvariant}
 use Rattle.cc_model.specs.WellFormed.{IsWellFormed, native_names, script_names}
 use Rattle.cc_model.specs.Effects.{effects}
 use Rattle.cc_model.specs.Slots.{Slots}
-use Rattle.cc_model.specs.Marking.{NewMarks}
+use Rattle.cc_model.specs.Marking.{NewMarks, marking_after}
 use Rattle.cc_model.specs.Snapshot.{Snapshot}
 use Rattle.cc_model.specs.Listed.{listed}
 use Rattle.cc_model.specs.Lawful.{State, start, next}
@@ -30,10 +30,12 @@ use Rattle.cc_laws_heap.proofs.Taken.{IsTaken, IsTaken-from}
 use Rattle.cc_laws_heap.proofs.CommandsSound.{effects-sound}
 use Rattle.cc_laws_heap.proofs.Coloured.{AreColoured-from_view, HasColourInvariant-from}
 use Rattle.cc_laws_heap.proofs.CommandsColours.{effects-coloured}
+use Rattle.cc_laws_heap.proofs.CommandsMarking.{effects-marking}
+use Rattle.cc_laws_heap.proofs.EdgesBut.{effects-scanned}
 use Rattle.cc_laws_heap.proofs.GraphCommands.{step-well, empty-well}
 use Rattle.cc_laws_heap.proofs.CommandsStand.{command-stands, empty-stands}
 use Rattle.cc_laws_snapshot.proofs.CommandsGentle.{effects-fresh}
-use Rattle.cc_laws_run.specs.Running.{IsRunning, IsFreshNow}
+use Rattle.cc_laws_run.specs.Running.{IsRunning, IsFreshNow, IsMarkingNow}
 use Rattle.cc_laws_heap.proofs.RepliesAlike.{deed_of-alike, objects-stand}
 use Rattle.cc_laws_run.proofs.EndedAfter.{ended-after}
 use Rattle.cc_laws_run.proofs.EndedDeeds.{effects-end}
@@ -64,6 +66,7 @@ empty-runs limits memory = record {
   colours = empty-coloured limits;
   fresh = tt;
   well_made = empty-well limits;
+  marking = tt;
   stands = empty-stands limits;
   listed = refl;
   weak = refl;
@@ -82,6 +85,17 @@ effects-fresh_now : (h : Heap) (c : Command) (snapshot : Option Snapshot) → Is
     IsFreshNow h snapshot → IsFreshNow (effects h c).heap snapshot
 effects-fresh_now h c None s r t f = tt
 effects-fresh_now h c (Some snapshot) s r t f = effects-fresh h snapshot c s f r t
+
+-- a marking that goes on does so as it should, with the marks after what the command exposes
+effects-marking_now : (h : Heap) (c : Command) (marking : Option NewMarks) (snapshot : Option Snapshot) → IsSound [] h → IsTrue (in_range c) →
+    IsTaken (objects_of h) c → IsMarkingNow h marking snapshot →
+    IsMarkingNow (effects h c).heap (option_map (marking_after h (deed_of (objects_of h) c)) marking) snapshot
+effects-marking_now h c None snapshot s r t is = tt
+effects-marking_now h c (Some marks) snapshot s r t is = record {
+  under = effects-marking h marks c s is.under r t;
+  so_far = effects-scanned h marks c s is.under is.so_far r t;
+  alone = is.alone;
+}
 
 -- the weak registers of the graph after a deed
 weak-done : (g : Graph) (d : Deed) → (done_to g d).weak_registers ≡ weak_after g.weak_registers d
@@ -103,9 +117,10 @@ weak-steps m s c r e =
 -- a command that is done leaves a machine that runs, whatever stands beside the heaps
 done-runs : (m : Machine) (s : State) (c : Command) (weak : Slots) (marking : Option NewMarks) (memory : List Bool) → IsRunning m s → IsTrue (in_range c) →
     refusal_of (objects_of m.heap) c ≡ None → class_of c ≡ does → weak ≡ (step s.graph c).weak_registers →
+    IsMarkingNow (effects m.heap c).heap marking m.snapshot →
     IsRunning (record m { heap = (effects m.heap c).heap; weak = weak; marking = marking; memory = memory })
     (next s (taken c) (with_effects m (reply_if_taken (objects_of m.heap) c) (effects m.heap c)).answer)
-done-runs m s c weak marking memory r i e d noted =
+done-runs m s c weak marking memory r i e d noted marked =
     let t : IsTaken (objects_of m.heap) c = IsTaken-from (objects_of m.heap) c e in
     let sound : IsSound [] (effects m.heap c).heap = effects-sound m.heap c r.sound i t in
     let names = effects-names m.heap c r.sound i t in
@@ -115,6 +130,7 @@ done-runs m s c weak marking memory r i e d noted =
       colours = HasColourInvariant-from (effects m.heap c).heap sound.well_formed
           (effects-coloured m.heap c r.sound (AreColoured-from_view m.heap r.sound.well_formed r.colours) i t);
       fresh = effects-fresh_now m.heap c m.snapshot r.sound i t r.fresh;
+      marking = marked;
       well_made = subst (λ g. IsWellMade g) (sym (graph_after-taken s.ended s.graph (objects_of m.heap) c d)) (step-well s.graph r.well_made c i);
       stands = subst (λ g. StandsFor (effects m.heap c).heap g) (sym (graph_after-taken s.ended s.graph (objects_of m.heap) c d))
           (command-stands m.heap s.graph c r.sound r.well_made r.stands i e);
@@ -132,7 +148,8 @@ pub mutate-runs : (m : Machine) (s : State) (c : Command) → IsRunning m s → 
 mutate-runs m s c r i d = mutate-cases m c (λ (u : Turn). IsRunning u.machine (next s (taken c) u.answer))
     (λ refusal e. subst (λ z. IsRunning m z) (sym (next-refused s c refusal d (refusals-agree m s c r ∙ e))) r)
     (λ e f. subst (λ z. IsRunning (record m { memory = later_answers m.memory }) z) (sym (next-unmet s c)) (with_memory-runs m s (later_answers m.memory) r))
-    (λ e memory. let beside : Machine = beside_deed m (deed_of (objects_of m.heap) c) in done-runs m s c beside.weak beside.marking memory r i e d (weak-steps m s c r e))
+    (λ e memory. let beside : Machine = beside_deed m (deed_of (objects_of m.heap) c) in done-runs m s c beside.weak beside.marking memory r i e d (weak-steps m s c r e)
+    (effects-marking_now m.heap c m.marking m.snapshot r.sound i (IsTaken-from (objects_of m.heap) c e) r.marking))
 
 -- WHAT IS SAID leaves a machine that runs.
 pub say-runs : (m : Machine) (s : State) (c : Command) (q : Saying) → IsRunning m s → class_of c ≡ says q →

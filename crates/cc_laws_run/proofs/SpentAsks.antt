@@ -18,7 +18,7 @@ use Rattle.cc_model.specs.Given.{is_usable_native, is_usable}
 use Rattle.cc_model.specs.Effects.{effects, hold_native}
 use Rattle.cc_model.specs.Sweep.{collect_scripts}
 use Rattle.cc_model.specs.Lawful.{State, next}
-use Rattle.cc_model.specs.Collecting.{Machine, no_units, finish_running, gc}
+use Rattle.cc_model.specs.Collecting.{Machine, finish_running, without_marking, gc}
 use Rattle.cc_model.specs.Run.{Turn, mutate, do_ask, machine_after, do_class, run_units, noted, read_weak}
 use Rattle.cc_laws_heap.specs.Sound.{IsSound}
 use Rattle.cc_laws_heap.proofs.Taken.{IsTaken-from}
@@ -27,28 +27,25 @@ use Rattle.cc_laws_run.specs.Doomed.{KeepsReflectors}
 use Rattle.cc_laws_run.specs.Spent.{IsSpent}
 use Rattle.cc_laws_run.specs.Running.{IsRunning, ask_in_range}
 use Rattle.cc_laws_run.proofs.Forgetting.{forget-spends}
-use Rattle.cc_laws_run.proofs.Spoken.{spoken-as}
 use Rattle.cc_laws_run.proofs.CommandCases.{mutate-cases, say-leaves}
 use Rattle.cc_laws_heap.proofs.Natives.{native_at-there, native_at-number}
 use Rattle.cc_laws_run.proofs.TouchedParts.{IsUntouched}
 use Rattle.cc_laws_run.proofs.TouchedSteps.{leaves-refl}
 use Rattle.cc_laws_run.proofs.TouchedCommands.{command-leaves, leaves-hold_native}
-use Rattle.cc_laws_run.proofs.CollectionsLawful.{running-on}
 use Rattle.cc_laws_run.proofs.PlainLawful.{any-runs}
 use Rattle.cc_laws_run.proofs.SpentViews.{spent-less, spent-left}
 use Rattle.cc_laws_run.proofs.SpentGone.{collect_scripts-less, collected-gone}
-use Rattle.cc_laws_run.proofs.HoldingUnits.{HoldsOn, finish-holds, run_units-holds}
-use Rattle.cc_laws_run.proofs.SpentUnits.{Spending, each-spends}
+use Rattle.cc_laws_run.proofs.SpentMarks.{SpendsAt, finish_running-spends, run_units-spend, mark-spends}
 
 -- What is spent
 
--- where names are spent, a machine that runs spends them
-spending-on : (m : Machine) (s : State) (ds : List Name) → IsRunning m s → IsSpent m.heap ds → HoldsOn s.graph (Spending ds) (no_units m)
-spending-on m s ds r d = record { names = s.listed; runs = running-on m s r; holds = d }
+-- where names are spent, the heaps of a machine that runs are sound
+spending-on : (m : Machine) (s : State) (ds : List Name) → IsRunning m s → IsSpent m.heap ds → SpendsAt ds m.heap
+spending-on m s ds r d = record { sound = r.sound; spent = d }
 
--- a running collection ended leaves them spent
-finish-spends : (m : Machine) (s : State) (ds : List Name) → IsRunning m s → IsSpent m.heap ds → HoldsOn s.graph (Spending ds) (finish_running m)
-finish-spends m s ds r d = finish-holds s.graph r.well_made (Spending ds) (each-spends s.graph ds) m (spending-on m s ds r d)
+-- a running collection ended leaves them spent, whether a marking goes on that is dropped or not
+finish-spends : (m : Machine) (s : State) (ds : List Name) → IsRunning m s → IsSpent m.heap ds → SpendsAt ds (finish_running (without_marking m)).machine.heap
+finish-spends m s ds r d = finish_running-spends ds (without_marking m) (spending-on m s ds r d)
 
 -- and a script collection leaves them so
 pub collected-spent : (h : Heap) (ds : List Name) → IsSound [] h → IsSpent h ds → IsSpent (collect_scripts h).heap ds
@@ -57,13 +54,13 @@ collected-spent h ds sound d = spent-less ds h (collect_scripts h).heap (collect
 -- `gc` leaves them spent
 gc-spends : (m : Machine) (s : State) (ds : List Name) → IsRunning m s → IsSpent m.heap ds → IsSpent (gc m).machine.heap ds
 unfolding gc
-gc-spends m s ds r d = let t = finish-spends m s ds r d in collected-spent (finish_running m).machine.heap ds t.runs.sound t.holds
+gc-spends m s ds r d = let t = finish-spends m s ds r d in collected-spent (finish_running (without_marking m)).machine.heap ds t.sound t.spent
 
 -- `gc` TAKES AWAY WHAT IS SPENT.
 pub gc-gone : (m : Machine) (s : State) (x : Name) (ds : List Name) → IsRunning m s → IsSpent m.heap ds → Among x ds →
     ¬ (Among x (names_there (gc m).machine.heap))
 unfolding gc
-gc-gone m s x ds r d i = let t = finish-spends m s ds r d in collected-gone ds (finish_running m).machine.heap t.runs.sound t.holds x i
+gc-gone m s x ds r d i = let t = finish-spends m s ds r d in collected-gone ds (finish_running (without_marking m)).machine.heap t.sound t.spent x i
 
 -- a command that is done leaves them spent
 effects-spend : (h : Heap) (c : Command) (ds : List Name) → IsWellFormed h → IsWellFormed (effects h c).heap → KeepsReflectors ds → IsSpent h ds →
@@ -82,10 +79,9 @@ mutate-spends m c ds sound i keeps d = mutate-cases m c (λ (u : Turn). IsSpent 
     (λ e f. d)
     (λ e memory. effects-spend m.heap c ds sound.well_formed (effects-sound m.heap c sound i (IsTaken-from (objects_of m.heap) c e)).well_formed keeps d)
 
--- units leave them spent
+-- units leave them spent, and the end of a marking before them
 units-spend : (m : Machine) (s : State) (u : Running) (ds : List Name) → IsRunning m s → IsSpent m.heap ds → IsSpent (run_units m u).machine.heap ds
-units-spend m s u ds r d =
-    (run_units-holds s.graph r.well_made (Spending ds) (each-spends s.graph ds) (λ h o es p e. e) u m (spending-on m s ds r d)).holds
+units-spend m s u ds r d = (run_units-spend ds m u r.marking (spending-on m s ds r d)).spent
 
 -- no weak register gives what is spent: it was unlinked
 noted-unspent : (m : Machine) (w : ℕ) (ds : List Name) → IsSpent m.heap ds → IsUntouched ds (noted m w)
@@ -128,7 +124,7 @@ class-spends m s c ds r i keeps d (says q) e = say-leaves m q (λ n. IsSpent n.h
 class-spends m s c ds r i keeps d does e = mutate-spends m c ds r.sound i keeps d
 class-spends m s c ds r i keeps d (runs u) e = units-spend m s u ds r d
 class-spends m s c ds r i keeps d (collects_scripts whole) e = gc-spends m s ds r d
-class-spends m s c ds r i keeps d (collects_scripts (so_many n)) e = absurd (spoken-as c i (collects_scripts (so_many n)) e)
+class-spends m s c ds r i keeps d (collects_scripts (so_many n)) e = (mark-spends ds m n r.marking (spending-on m s ds r d)).spent
 class-spends m s c ds r i keeps d forgets e = forget-spends m.heap ds d
 class-spends m s c ds r i keeps d (reads_weak n w) e = read_weak-spends m s c n w ds r i d e
 

@@ -119,7 +119,7 @@ end-spends h s ds sound fresh all d =
 -- One unit
 
 -- a unit keeps what is spent
-unit-spends : (h : Heap) (o : Option Snapshot) (ds : List Name) (memory : Bool) → IsSound [] h → IsSpent h ds → IsSpent (unit h o memory).heap ds
+pub unit-spends : (h : Heap) (o : Option Snapshot) (ds : List Name) (memory : Bool) → IsSound [] h → IsSpent h ds → IsSpent (unit h o memory).heap ds
 unit-spends h o ds memory sound d = unit-cases h o memory (λ u. IsSpent u.heap ds) (given o) (by_snapshot o)
   where
     given : (o : Option Snapshot) → IsSpent (heap_given_back h o) ds

@@ -143,7 +143,7 @@ module _ (g : Graph) (well : IsWellMade g) (c : Command) (moves : (runs_units c 
           let k = t.natives_alone (Freed x) i in (
             is_listed x k.0 k.1 (t.were_there k.0 (subst (Among k.0) t.told (Among-flat_map freed_in (Freed x) k.0 o.events i (own_number x k.0 k.1)))),
             take_away-unreached h g ks sound are.there well stands apart x i,
-            subst (λ y. (is_native y || is_gc c) ≡ true) (sym k.1) refl,
+            subst (λ y. (is_native y || (runs_units c || is_gc c)) ≡ true) (sym k.1) refl,
           )
       may (Unlinked x) i =
           let k = t.natives_alone (Unlinked x) i in

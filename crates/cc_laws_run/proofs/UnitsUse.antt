@@ -3,13 +3,11 @@ use Rattle.std.proofs.Common.{◌≡◌, ℕ, suc, ◌+◌, Bool, true, false, n
 use Rattle.std.proofs.lemmas.List.{append_assoc}
 use Rattle.cc_lists.proofs.Counting.{count_by-append, count_by-cons}
 use Rattle.cc_model.specs.declared.item.Event.{Event}
-use Rattle.cc_model.specs.Mutating.{Running, so_many, whole}
 use Rattle.cc_model.specs.Heap.{Heap}
 use Rattle.cc_model.specs.Sweep.{collect_scripts}
 use Rattle.cc_model.specs.Snapshot.{Snapshot}
 use Rattle.cc_model.specs.End.{Progress, went_on, at_end, refused, UnitDone, unit, may_be_refused, abandoned, granted}
-use Rattle.cc_model.specs.Collecting.{Machine, next_answer, later_answers, UnitsDone, no_units, one_unit, units_done, enough_units, to_the_end, finish_running, slice, unless_stopped, collect, then_scripts, gc, units_came}
-use Rattle.cc_model.specs.Run.{run_units}
+use Rattle.cc_model.specs.Collecting.{Machine, next_answer, later_answers, UnitsDone, no_units, one_unit, units_done, enough_units, to_the_end, finish_running, slice_cycles, unless_stopped, collect_cycles, then_scripts, without_marking, gc, units_came}
 use Rattle.cc_laws_run.specs.Memory.{with_memory, noes}
 use Rattle.cc_laws_run.proofs.Unabandoned.{abandonments, TellsNone, abandonments-append, take_away-none, collect_scripts-none}
 
@@ -135,9 +133,9 @@ pub units-use : (n : ℕ) (d : UnitsDone) → UnitsUse (λ memory. units_done n 
 units-use n d = units_from-use n d.machine d.events d.progress
 
 -- so do those of a slice
-slice-use : (n : ℕ) (m : Machine) → UnitsUse (λ memory. slice n (with_memory m memory)) (no_units m) (slice n m)
-unfolding slice
-slice-use n m = units-use n (no_units m)
+pub slice_cycles-use : (n : ℕ) (m : Machine) → UnitsUse (λ memory. slice_cycles n (with_memory m memory)) (no_units m) (slice_cycles n m)
+unfolding slice_cycles
+slice_cycles-use n m = units-use n (no_units m)
 
 -- those until the collection ends
 to_the_end-use : (d : UnitsDone) → UnitsUse (λ memory. to_the_end (done_with d memory)) d (to_the_end d)
@@ -163,24 +161,19 @@ unless_stopped-use m es at_end =
     record { used = u.used; any = u.any; said_no = u.said_no; told = u.told; ample = u.ample }
 
 -- those of a whole collection
-collect-use : (m : Machine) → UnitsUse (λ memory. collect (with_memory m memory)) (no_units m) (collect m)
-unfolding collect
-collect-use m =
+pub collect_cycles-use : (m : Machine) → UnitsUse (λ memory. collect_cycles (with_memory m memory)) (no_units m) (collect_cycles m)
+unfolding collect_cycles
+collect_cycles-use m =
     let d = finish_running m in
     uses-then (λ memory. finish_running (with_memory m memory)) unless_stopped (no_units m) d (unless_stopped d)
     (finish_running-use m) (unless_stopped-use d.machine d.events d.progress)
-
--- so do a number of units, or those of a whole collection
-pub run_units-use : (u : Running) (m : Machine) → UnitsUse (λ memory. run_units (with_memory m memory) u) (no_units m) (run_units m u)
-run_units-use (so_many n) m = slice-use n m
-run_units-use whole m = collect-use m
 
 -- the units of `gc`: its script collection uses none
 pub gc-use : (m : Machine) → UnitsUse (λ memory. gc (with_memory m memory)) (no_units m) (gc m)
 unfolding gc
 gc-use m =
-    let u = finish_running-use m in
-    let d = finish_running m in
+    let u = finish_running-use (without_marking m) in
+    let d = finish_running (without_marking m) in
     record {
       used = u.used;
       any = λ more. ap then_scripts (u.any more);

@@ -15,7 +15,7 @@ use Rattle.cc_model.specs.Units.{is_untraversed}
 use Rattle.cc_model.specs.Fresh.{node, IsLiving, IsTraversed, IsFresh}
 use Rattle.cc_model.specs.Suspected.{IsCovered, unreached_scripts}
 use Rattle.cc_model.specs.Lawful.{start}
-use Rattle.cc_model.specs.Collecting.{Machine}
+use Rattle.cc_model.specs.Collecting.{Machine, finish_marking, slice_cycles, collect_cycles}
 use Rattle.cc_model.specs.Run.{plain_run}
 use Rattle.cc_model.proofs.Opened.{all_of_a_run}
 use Rattle.cc_laws_heap.specs.Sound.{IsSound}
@@ -73,7 +73,7 @@ half_collected-sound = (left_by-runs half_collected_script).sound
 
 -- This is the snapshot of the collection that runs.
 pub half_collected-snapshot : half_collected.snapshot ≡ Some half_collected_snapshot
-unfolding all_of_a_run
+unfolding all_of_a_run slice_cycles finish_marking
 half_collected-snapshot = refl
 
 -- It is fresh.
@@ -90,7 +90,7 @@ half_collected-traversed x m = grind (arith, traversed-untraversed)
 
 -- Its native is white.
 pub half_collected-white : IsWhite (view half_collected.heap) half_collected_snapshot (native 1)
-unfolding all_of_a_run
+unfolding all_of_a_run slice_cycles finish_marking
 half_collected-white = inl refl
 
 -- An unreached native that is suspected
@@ -119,16 +119,16 @@ dropped-suspected = left_by-suspected dropped_script
 
 -- The second native is in them.
 pub dropped-living : IsLiving dropped_view (native 2)
-unfolding all_of_a_run
+unfolding all_of_a_run collect_cycles finish_marking
 dropped-living = (1, inr (inl refl))
 
 -- It is not reached.
 pub dropped-unreached : ¬ (ReachedIn dropped_view (native 2))
-unfolding all_of_a_run
+unfolding all_of_a_run collect_cycles finish_marking
 dropped-unreached = iff_false (closure-decides same_name same_name-exact (view_rules dropped_view) (native 2)) refl
 
 -- It is covered.
 pub dropped-covered : IsCovered dropped_view (native 2)
-unfolding all_of_a_run
+unfolding all_of_a_run collect_cycles finish_marking
 dropped-covered =
     (closure-decides same_name same_name-exact (system (dropped_view.purple ++ unreached_scripts dropped_view) dropped_view.edges []) (native 2)).0 refl

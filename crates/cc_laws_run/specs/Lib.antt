@@ -8,3 +8,4 @@ pub mod Missing
 pub mod Spent
 pub mod Premises
 pub mod UnitsTaken
+pub mod Whites

@@ -16,6 +16,7 @@
 //! - `specs/Spent.antt`: what it has unlinked (`IsSpent`), for `unlinked_are_gone_after_gc` alone;
 //! - `specs/UnitsTaken.antt`: how many units a collection has taken (`units_taken`), for `collections_take_a_unit_a_node`
 //!   alone;
+//! - `specs/Whites.antt`: what was white when a marking began, for `runs_free_what_was_white` alone;
 //! - `specs/Premises.antt`: what a script leaves (`IsLeftByAScript`), for the laws that say that premises can be met.
 #![tactic(auto)]
 
@@ -30,6 +31,7 @@ mod runs;
 mod spent;
 mod turns;
 mod units;
+mod whites;
 
 pub use collections::collections_are_lawful;
 pub use doomed::commands_keep_doomed;
@@ -42,3 +44,4 @@ pub use runs::{ended_stay_unreached, runs_after_gc_miss_nothing, runs_forget_not
 pub use spent::unlinked_are_gone_after_gc;
 pub use turns::commands_are_lawful;
 pub use units::collections_take_a_unit_a_node;
+pub use whites::runs_free_what_was_white;

@@ -19,7 +19,7 @@ use Rattle.cc_laws_told.proofs.Counted.{length-filter_le, taken-few}
 use Rattle.cc_laws_told.proofs.Few.{IsFew}
 
 -- what is freed and told alone
-freed-tells : (h : Heap) (xs : List Name) (o : Outcome) → FreesNames h xs o → IsSound [] o.heap → IsFew 0 h o.events o.heap
+pub freed-tells : (h : Heap) (xs : List Name) (o : Outcome) → FreesNames h xs o → IsSound [] o.heap → IsFew 0 h o.events o.heap
 freed-tells h xs o f s = record {
   told = omega (
     arith,

@@ -2,7 +2,7 @@
 //! unlinks it, and that a collection was given up. So whoever is told can take the room for it before.
 //!
 //! The function has an empty body and is a law that its clauses state, over the definitions of `cc_model`, over `IsSound` of
-//! `cc_laws_heap`, and over `specs/Told.antt`.
+//! `cc_laws_heap`, over `IsMarkingNow` of `cc_laws_run`, and over `specs/Told.antt`.
 #![tactic(auto)]
 
 mod told;

@@ -7,8 +7,8 @@ returns-clause-slice c = slice-gives_up
 pub returns-clause-collect : goal.returns-clause-collect
 returns-clause-collect c = collect-gives_up
 
-pub returns-clause-gc : goal.returns-clause-gc
-returns-clause-gc c = finish-gives_up
+pub returns-clause-finished : goal.returns-clause-finished
+returns-clause-finished c = finish-gives_up
 
 pub returns-clause-suspects : goal.returns-clause-suspects
 returns-clause-suspects c = given_up-suspects
