@@ -1,5 +1,5 @@
 //! Rounds of marking and sweeping.
-ghost use Rattle.std.specs.Prelude.{◌≡◌, ℕ, List, []};
+ghost use Rattle.std.specs.Prelude.{◌≡◌, ℕ, List, [], None};
 ghost use Rattle.cc_model.specs.Colours.{HasColours, HasColourInvariant, marked};
 ghost use Rattle.cc_model.specs.Suspected.{IsSuspected};
 ghost use Rattle.cc_model.specs.Sweep.{collect_scripts as collected, sweep, sweeps};
@@ -35,6 +35,8 @@ fn round<N: Notices>(heaps: &mut Heaps, out: &mut N) -> bool
 /// No native that nothing reaches is forgotten, where no collection runs: references lead to it from a suspect, or from a
 /// script object that nothing reaches either, if that was so of each before. So the next collection can find it. Takes no
 /// memory.
+///
+/// A marking in slices that went on is dropped (`marking`): what it had yet to scan may be gone.
 pub fn collect_scripts<N: Notices>(heaps: &mut Heaps, out: &mut N)
     requires order { (owned : List ℕ) × IsInOrder owned heaps.old }
     ensures heap { heaps.new.heap ≡ (collected heaps.old.heap).heap }
@@ -46,7 +48,9 @@ pub fn collect_scripts<N: Notices>(heaps: &mut Heaps, out: &mut N)
     ensures colours { HasColours heaps.new.heap }
     ensures invariant { HasColourInvariant (view heaps.new.heap) }
     ensures kept { KeepsHeaps [] [] heaps.old heaps.new }
+    ensures marking { heaps.new.marking ≡ None }
 {
     // sweeping may take away what alone held other objects, so the rounds go on until one sweeps nothing
     'rounds: while round(heaps, out) {}
+    heaps.drop_new();
 }

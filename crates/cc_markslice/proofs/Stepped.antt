@@ -3,13 +3,13 @@ use Rattle.std.specs.Prelude.{IfSome, option_map}
 use Rattle.std.proofs.Common.{◌≡◌, ◌<◌, ℕ, Bool, true, false, not, List, [], None, Some, map, sym, ◌∙◌, ap, subst, arith}
 use Rattle.cc_lists.specs.Members.{Among}
 use Rattle.cc_model.specs.Heap.{Heap}
-use Rattle.cc_model.specs.Marking.{NewMarks, scanned, is_scanned, ended_marks}
+use Rattle.cc_model.specs.Marking.{NewMarks, scanned, is_scanned, ended_marks, scans_left}
 use Rattle.cc_model.specs.Suspected.{IsSuspected}
 use Rattle.cc_model.specs.Telling.{Telling, TellsEvents}
 use Rattle.cc_model.specs.View.{view}
 use Rattle.cc_model.specs.WellFormed.{native_names, script_names}
 use Rattle.cc_laws_heap.specs.Sound.{IsSound}
-use Rattle.cc_laws_heap.specs.UnderMarking.{IsUnderMarking, scans_left}
+use Rattle.cc_laws_heap.specs.UnderMarking.{IsUnderMarking}
 use Rattle.cc_laws_heap.proofs.ScansLeft.{scanned-less}
 use Rattle.cc_laws_marking.proofs.Face.{ended-suspected}
 use Rattle.cc_counted.specs.Counts.{key_left}

@@ -4,8 +4,8 @@ use Rattle.cc_model.specs.declared.command.Command.{Command}
 use Rattle.cc_model.specs.Deeds.{deed_of}
 use Rattle.cc_model.specs.Heap.{objects_of}
 use Rattle.cc_model.specs.Effects.{effects}
-use Rattle.cc_model.specs.Marking.{NewMarks, marking_after}
-use Rattle.cc_laws_heap.specs.UnderMarking.{IsUnderMarking, IsScannedSoFar, scans_left}
+use Rattle.cc_model.specs.Marking.{NewMarks, marking_after, scans_left}
+use Rattle.cc_laws_heap.specs.UnderMarking.{IsUnderMarking, IsScannedSoFar}
 use Rattle.cc_heaps.specs.Keyed.{Keyed}
 use Rattle.cc_heaps.specs.NewMarks.{AreListed, marks_of}
 

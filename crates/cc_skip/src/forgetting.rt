@@ -6,6 +6,7 @@ ghost use Rattle.cc_model.specs.Skipping.{IsSkippable, forgotten};
 ghost use Rattle.cc_model.specs.View.{view};
 ghost use Rattle.cc_heaps.specs.Keyed.{IsInOrder, changed_to};
 ghost use Rattle.cc_heaps.specs.Keeping.{KeepsAll};
+ghost use Rattle.cc_heaps.specs.Marks.{KeepsMarks};
 ghost use Rattle.cc_heaps.specs.Standing.{StillStands};
 ghost use Rattle.cc_heaps.specs.Walking.{unwalked};
 
@@ -16,7 +17,8 @@ use cc_heaps::Heaps;
 /// reflectors, delegates of proxies and natives of reflectors loses the mark. Entries of weak maps are left aside, so what is
 /// reached by them alone stays a suspect. How many lost it.
 ///
-/// Each keeps its place in the buffer, and nothing else changes. So this may be called between any two slices of a collection.
+/// Each keeps its place in the buffer, and nothing else changes. So this may be called between any two slices of a collection, and
+/// between any two steps of a script marking, whose marks stay.
 /// Takes no memory, and time in step with what is reached.
 pub fn forget(heaps: &mut Heaps) -> u32
     requires order { (owned : List ℕ) × IsInOrder owned heaps.old }
@@ -25,6 +27,7 @@ pub fn forget(heaps: &mut Heaps) -> u32
     ensures count { result + length (view heaps.new.heap).purple ≡ length (view heaps.old.heap).purple }
     ensures places { (view heaps.new.heap).buffer ≡ (view heaps.old.heap).buffer }
     ensures kept { KeepsAll heaps.old heaps.new }
+    ensures marks { KeepsMarks heaps.old heaps.new }
     ensures stands { StillStands heaps.old.heap heaps.new.heap }
 {
     heaps.walk_clear();

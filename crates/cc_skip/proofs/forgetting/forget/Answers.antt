@@ -1,4 +1,4 @@
-use Rattle.std.proofs.Common.{◌≡◌, length, sym, ◌∙◌, ap, subst, arith}
+use Rattle.std.proofs.Common.{◌≡◌, length, refl, sym, ◌∙◌, ap, subst, arith}
 use Rattle.std.specs.Prelude.{◌↔◌}
 use Rattle.cc_lists.specs.Members.{Among}
 use Rattle.cc_names.specs.Names.{native}
@@ -8,8 +8,11 @@ use Rattle.cc_model.specs.StandsFor.{StandsFor}
 use Rattle.cc_model.specs.View.{view}
 use Rattle.cc_model.specs.WellFormed.{native_names, script_names}
 use Rattle.cc_laws_snapshot.proofs.Face.{forgotten-exactly, forgotten-names, forgotten-stands, forgotten-taken}
+use Rattle.cc_names.specs.declared.kind.Walked.TheVariants.{Out}
+use Rattle.cc_script.specs.Objects.{with_walked}
 use Rattle.cc_heaps.specs.Keyed.{Keyed, changed_to}
 use Rattle.cc_heaps.specs.Walking.{unwalked}
+use Rattle.cc_heaps.proofs.MarksKept.{marks-mapped}
 use Rattle.cc_skip.proofs.Entering.{kept-over}
 use Rattle.cc_skip.proofs.Marks.{kept-forgotten}
 use Rattle.cc_skip.proofs.States.{unwalked-again}
@@ -65,3 +68,9 @@ returns-clause-kept c =
 
 pub returns-clause-stands : goal.returns-clause-stands
 returns-clause-stands c g made stands = subst (λ (h : Heap). StandsFor h g) (sym (heap-is c)) (forgotten-stands c.args.heaps.now.heap g stands)
+
+-- a marking in slices stays as it is: script objects keep their new marks
+pub returns-clause-marks : goal.returns-clause-marks
+returns-clause-marks c =
+    let e = returns-clause-forgotten c in
+    marks-mapped c.args.heaps.now c.walk_clear-2.new.self (with_walked Out) (ap (λ (u : Keyed). u.marking) e) (ap (λ (u : Keyed). u.scripts) e) (λ o. refl) (λ o. refl) (λ o. refl)
