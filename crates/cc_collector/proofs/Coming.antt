@@ -1,159 +1,200 @@
--- WHAT SLICES, COLLECTIONS AND `gc` COME TO, by what their units did and told.
-use Rattle.std.proofs.Common.{◌≡◌, ◌≢◌, ℕ, ◌+◌, ◌<◌, Bool, true, List, [], ◌++◌, Option, None, is_some, refl, sym, ap, ◌∙◌, subst, arith}
+-- WHAT SLICES AND COLLECTIONS COME TO, by what finished a marking before, and by what their units did and told.
+use Rattle.std.specs.Prelude.{OnOk, OnErr}
+use Rattle.std.proofs.Common.{◌≡◌, ◌≢◌, ℕ, ◌+◌, ◌<◌, true, false, List, [], ◌++◌, Bool, Option, None, Result, Ok, Err, is_some, refl, sym, ap, ◌∙◌, subst, arith}
 use Rattle.cc_lists.proofs.Held.{is_some-none}
 use Rattle.cc_model.specs.declared.item.Event.{Event}
 use Rattle.cc_model.specs.Telling.{Telling, TellsEvents}
-use Rattle.cc_model.specs.Heap.{Heap}
+use Rattle.cc_model.specs.WellFormed.{IsWellFormed}
 use Rattle.cc_model.specs.End.{Progress, went_on, at_end, refused}
-use Rattle.cc_model.specs.Sweep.{collect_scripts}
-use Rattle.cc_model.specs.Collecting.{Machine, UnitsDone, slice, collect, gc, then_scripts, units_came}
+use Rattle.cc_model.specs.Collecting.{Machine, UnitsDone, no_units, units_came, slice_cycles, collect_cycles, finish_marking, behind, slice, collect}
 use Rattle.cc_model.proofs.Tellings.{TellsEvents-trans}
 use Rattle.cc_laws_run.specs.Memory.{with_memory}
 use Rattle.cc_heaps.specs.Keyed.{Keyed}
 use Rattle.cc_builder.specs.Building.{Built}
-use Rattle.cc_gc.specs.Sparing.{SparesWhatIsReached}
-use Rattle.cc_collector.specs.Kept.{RunsIn, machine_of}
-use Rattle.cc_collector.specs.Collected.{counted_one, SparesInEachGraph, LedTo, IsSliced, IsCollected, IsSwept}
-use Rattle.cc_collector.specs.Units.{HasGoneOn, HasStopped, Keeps, HasDoneUnit, HasDoneAll, HasFinished}
-use Rattle.cc_collector.proofs.Rows.{IsUnit-silent, ComeTo, ComeTo-went_on, ComeTo-stopped, HasStopped-from, collect-alone, collect-refused, collect-both, gc-alone, gc-after}
+use Rattle.cc_collector.specs.Kept.{RunsAlone, machine_with}
+use Rattle.cc_collector.specs.Collected.{counted_one, units_counted, LedTo, IsSliced, IsCollected, IsSliceGivenUp, IsCollectGivenUp}
+use Rattle.cc_collector.specs.Units.{HasGoneOn, HasStopped, Keeps, HasDoneUnit, HasDoneAll, HasFinished, HasSpared, HasFinishedMarking}
+use Rattle.cc_collector.proofs.Rows.{IsUnit-silent, ComeTo, ComeTo-went_on, ComeTo-stopped, HasStopped-from, collect-alone, collect-refused, collect-both}
 use Rattle.cc_collector.proofs.Keeping.{Keeps-then}
-use Rattle.cc_collector.proofs.Spared.{slice-spares, collect-spares, gc-spares}
-use Rattle.cc_collector.proofs.UnitsSpare.{UnitsSpare, slice-units, collect-units, gc-units}
+use Rattle.cc_collector.proofs.Sparing.{spares-graphs, spared-then}
+use Rattle.cc_collector.proofs.UnitsSpare.{slice-units, collect-units, spared-units}
+use Rattle.cc_collector.proofs.GivingUp.{sliced-given_up, collected-given_up}
 
 -- a unit that goes on tells nothing
 pub still-told : (v : Keyed) (c : Option Built) (w : Keyed) (d : Option Built) (t t₁ t₂ : Telling) → TellsEvents t t₁ [] → HasDoneUnit v c w d went_on t₁ t₂ → TellsEvents t t₂ []
 still-told v c w d t t₁ t₂ told u =
-    subst (TellsEvents t t₂) (IsUnit-silent (machine_of v.heap c) (machine_of w.heap d) u.events went_on u.unit refl) (TellsEvents-trans t t₁ t₂ [] u.events told u.told)
+    subst (TellsEvents t t₂) (IsUnit-silent (machine_with v c) (machine_with w d) u.events went_on u.unit refl) (TellsEvents-trans t t₁ t₂ [] u.events told u.told)
 
--- what units came to, said in other words
-led-by : (d : UnitsDone) (old new : Machine) (events : List Event) (p : Progress) (t t₁ : Telling) → d ≡ units_came (with_memory new []) events p → SparesInEachGraph old.heap d.events →
-    UnitsSpare old.heap d → TellsEvents t t₁ events → LedTo d old new p t t₁
-led-by d old new events p t t₁ is spares unreached told = grind arith
+-- WHAT UNITS CAME TO leads from one machine to another.
+pub led-to : (v : Keyed) (c : Option Built) (w : Keyed) (d : Option Built) (u : UnitsDone) (memory : List Bool) (events : List Event) (p : Progress) (t t₁ : Telling) →
+    u ≡ units_came (with_memory (machine_with w d) memory) events p → IsWellFormed v.heap → TellsEvents t t₁ events → HasSpared v c w d events →
+    LedTo u (machine_with v c) (machine_with w d) p t t₁
+led-to v c w d u memory events p t t₁ is well told s =
+    subst (λ (e : UnitsDone). LedTo e (machine_with v c) (machine_with w d) p t t₁) (sym is) (record {
+      same = record { heap = refl; weak = refl; marking = refl; snapshot = refl };
+      came_to = refl;
+      told = told;
+      spares = spares-graphs v.heap w.heap events well s.spares;
+      unreached = s.spares;
+    })
 
 -- a running collection has a snapshot
-some-runs : (h : Heap) (c : Option Built) → is_some c ≡ true → is_some (machine_of h c).snapshot ≡ true
-some-runs h c e = grind arith
+pub some-runs : (v : Keyed) (c : Option Built) → is_some c ≡ true → is_some (machine_with v c).snapshot ≡ true
+some-runs v c e = grind arith
 
--- Slices
+-- Units to the end
+pub all-done : (v : Keyed) (c : Option Built) (k : ℕ) (m : Keyed) (b : Option Built) (w : Keyed) (d : Option Built) (p : Progress) (t t₁ t₂ : Telling) → p ≢ went_on →
+    HasGoneOn k (machine_with v c) (machine_with m b) → TellsEvents t t₁ [] → Keeps v c m b → HasDoneUnit m b w d p t₁ t₂ → HasDoneAll v c w p t t₂
+all-done v c k m b w d p t t₁ t₂ stopped g told keeps u = record {
+  events = u.events;
+  stopped = subst (λ (e : Option Built). HasStopped (machine_with v c) (machine_with w e) u.events p) (u.over stopped)
+      (HasStopped-from k (machine_with v c) (machine_with m b) (machine_with w d) u.events p g u.unit stopped);
+  told = TellsEvents-trans t t₁ t₂ [] u.events told u.told;
+  keeps = subst (Keeps v c w) (u.over stopped) (Keeps-then v c m b w d keeps u.keeps);
+}
 
-module _ (v : Keyed) (c : Option Built) (r : RunsIn v c) where
-  come-sliced : (n : ℕ) (w : Keyed) (d : Option Built) (events : List Event) (p : Progress) (counted steps : ℕ) (t t₁ : Telling) →
-      ComeTo n (machine_of v.heap c) (machine_of w.heap d) events p counted → TellsEvents t t₁ events →
-      IsSliced n (machine_of v.heap c) (machine_of w.heap d) p steps (steps + counted) t t₁
-  come-sliced n w d events p counted steps t t₁ come told = record {
-    memory = come.memory;
-    led = led-by (slice n (with_memory (machine_of v.heap c) come.memory)) (machine_of v.heap c) (machine_of w.heap d) events p t t₁ come.is (slice-spares v c r come.memory n) (slice-units v c r come.memory n) told;
-    counted = ap (λ (k : ℕ). steps + k) (sym come.counts);
-  }
+-- ALL THAT A SLICE PROMISES, whatever it came to
+pub record HasSliced (n : ℕ) (v : Keyed) (c : Option Built) (w : Keyed) (d : Option Built) (p : Progress) (steps steps_now : ℕ) (t t₁ : Telling) : Type 0 where
+  pub sliced : IsSliced n (machine_with v c) (machine_with w d) p steps steps_now t t₁
+  pub given_up : p ≡ refused → IsSliceGivenUp (machine_with v c) w.heap
+  pub events : List Event
+  pub told : TellsEvents t t₁ events
+  pub spared : HasSpared v c w d events
+  pub runs : RunsAlone w d
+
+-- all that a collection promises
+pub record HasCollected (v : Keyed) (c : Option Built) (w : Keyed) (d : Option Built) (p : Progress) (t t₁ : Telling) : Type 0 where
+  pub collected : IsCollected (machine_with v c) (machine_with w d) p t t₁
+  pub given_up : p ≡ refused → IsCollectGivenUp (machine_with v c) w.heap
+  pub events : List Event
+  pub told : TellsEvents t t₁ events
+  pub spared : HasSpared v c w d events
+  pub runs : RunsAlone w d
+
+-- and by the result of the call
+pub record HasCollectedBy {T E : Type 0} (result : Result T E) (v : Keyed) (c : Option Built) (w : Keyed) (d : Option Built) (t t₁ : Telling) : Type 0 where
+  pub progress : Progress
+  pub done : OnOk result (progress ≡ at_end)
+  pub stopped : OnErr result (progress ≡ refused)
+  pub is : HasCollected v c w d progress t t₁
+
+-- After a marking was finished, if any
+
+module _ (v : Keyed) (c : Option Built) (m : Keyed) (t t₁ : Telling) (well : IsWellFormed v.heap) (f : HasFinishedMarking v c m t t₁) where
+  -- what runs behind it
+  led-behind : (run : Machine → UnitsDone) (memory : List Bool) (now : Machine) (events : List Event) (p : Progress) →
+      run (with_memory (machine_with m c) memory) ≡ units_came now events p →
+      let first = finish_marking (with_memory (machine_with v c) memory) in behind first (run first.machine) ≡ units_came now (f.events ++ events) p
+  led-behind run memory now events p is =
+      ap (λ (d : UnitsDone). behind d (run d.machine)) (f.finished memory) ∙ ap (λ (d : UnitsDone). record d { events = f.events ++ d.events }) is
+
+  -- Slices
+
+  come-sliced : (n : ℕ) (w : Keyed) (d : Option Built) (events : List Event) (p : Progress) (counted steps : ℕ) (t₂ : Telling) →
+      ComeTo n (machine_with m c) (machine_with w d) events p counted → TellsEvents t₁ t₂ events → Keeps m c w d → HasSliced n v c w d p steps (steps + counted) t t₂
+  unfolding slice
+  come-sliced n w d events p counted steps t₂ come told keeps =
+      let now : Machine = with_memory (machine_with w d) [] in
+      let is : slice n (with_memory (machine_with v c) come.memory) ≡ units_came now (f.events ++ events) p = led-behind (slice_cycles n) come.memory now events p come.is in
+      let spared : HasSpared v c w d (f.events ++ events) = spared-then v c m c w d f.events events f.runs.order.sound.well_formed keeps.runs.order.sound.well_formed f.spared
+      (spared-units m c w d (slice_cycles n (with_memory (machine_with m c) come.memory)) [] events p come.is (slice-units m c f.runs come.memory n) keeps) in
+      let told_all = TellsEvents-trans t t₁ t₂ f.events events f.told told in
+      record {
+        sliced = record {
+          memory = come.memory;
+          led = led-to v c w d (slice n (with_memory (machine_with v c) come.memory)) [] (f.events ++ events) p t t₂ is well told_all spared;
+          counted = ap (λ (k : ℕ). steps + k) (sym come.counts ∙ ap (λ (e : UnitsDone). units_counted n (no_units e.machine)) (sym (f.finished come.memory)));
+        };
+        given_up = λ e. sliced-given_up v c m t t₁ f n come.memory now (f.events ++ events) p is e;
+        events = f.events ++ events;
+        told = told_all;
+        spared = spared;
+        runs = keeps.runs;
+      }
 
   -- all units went on
-  pub sliced-went_on : (n : ℕ) (w : Keyed) (d : Option Built) (steps steps_now : ℕ) (t t₁ : Telling) → HasGoneOn n (machine_of v.heap c) (machine_of w.heap d) →
-      TellsEvents t t₁ [] → steps_now ≡ steps + n → IsSliced n (machine_of v.heap c) (machine_of w.heap d) went_on steps steps_now t t₁
-  sliced-went_on n w d steps steps_now t t₁ g told counted =
-      subst (λ (k : ℕ). IsSliced n (machine_of v.heap c) (machine_of w.heap d) went_on steps k t t₁) (sym counted)
-      (come-sliced n w d [] went_on n steps t t₁ (ComeTo-went_on n (machine_of v.heap c) (machine_of w.heap d) g) told)
+  pub sliced-went_on : (n : ℕ) (w : Keyed) (d : Option Built) (steps steps_now : ℕ) (t₂ : Telling) → HasGoneOn n (machine_with m c) (machine_with w d) →
+      TellsEvents t₁ t₂ [] → Keeps m c w d → steps_now ≡ steps + n → HasSliced n v c w d went_on steps steps_now t t₂
+  sliced-went_on n w d steps steps_now t₂ g told keeps counted =
+      subst (λ (k : ℕ). HasSliced n v c w d went_on steps k t t₂) (sym counted)
+      (come-sliced n w d [] went_on n steps t₂ (ComeTo-went_on n (machine_with m c) (machine_with w d) g) told keeps)
 
   -- one of them stopped
-  pub sliced-stopped : (n k : ℕ) (m : Keyed) (b : Option Built) (w : Keyed) (d : Option Built) (p : Progress) (steps steps_now : ℕ) (t t₁ t₂ : Telling) → k < n → p ≢ went_on →
-      HasGoneOn k (machine_of v.heap c) (machine_of m.heap b) → TellsEvents t t₁ [] → HasDoneUnit m b w d p t₁ t₂ → steps_now ≡ steps + k + counted_one p →
-      IsSliced n (machine_of v.heap c) (machine_of w.heap d) p steps steps_now t t₂
-  sliced-stopped n k m b w d p steps steps_now t t₁ t₂ less stopped g told u counted =
+  pub sliced-stopped : (n k : ℕ) (u : Keyed) (b : Option Built) (w : Keyed) (d : Option Built) (p : Progress) (steps steps_now : ℕ) (t₂ t₃ : Telling) → k < n → p ≢ went_on →
+      HasGoneOn k (machine_with m c) (machine_with u b) → TellsEvents t₁ t₂ [] → Keeps m c u b → HasDoneUnit u b w d p t₂ t₃ → steps_now ≡ steps + k + counted_one p →
+      HasSliced n v c w d p steps steps_now t t₃
+  sliced-stopped n k u b w d p steps steps_now t₂ t₃ less stopped g told keeps one counted =
       let sum : steps + (k + counted_one p) ≡ steps_now = omega (arith, counted) in
-      subst (λ (j : ℕ). IsSliced n (machine_of v.heap c) (machine_of w.heap d) p steps j t t₂) sum
-      (come-sliced n w d u.events p (k + counted_one p) steps t t₂
-      (ComeTo-stopped n k (machine_of v.heap c) (machine_of m.heap b) (machine_of w.heap d) u.events p g u.unit stopped less)
-      (TellsEvents-trans t t₁ t₂ [] u.events told u.told))
-
-  -- Units to the end
-
-  pub all-done : (k : ℕ) (m : Keyed) (b : Option Built) (w : Keyed) (d : Option Built) (p : Progress) (t t₁ t₂ : Telling) → p ≢ went_on →
-      HasGoneOn k (machine_of v.heap c) (machine_of m.heap b) → TellsEvents t t₁ [] → Keeps v c m b → HasDoneUnit m b w d p t₁ t₂ → HasDoneAll v c w p t t₂
-  all-done k m b w d p t t₁ t₂ stopped g told keeps u = record {
-    events = u.events;
-    stopped = subst (λ (e : Option Built). HasStopped (machine_of v.heap c) (machine_of w.heap e) u.events p) (u.over stopped)
-        (HasStopped-from k (machine_of v.heap c) (machine_of m.heap b) (machine_of w.heap d) u.events p g u.unit stopped);
-    told = TellsEvents-trans t t₁ t₂ [] u.events told u.told;
-    keeps = subst (Keeps v c w) (u.over stopped) (Keeps-then v c m b w d keeps u.keeps);
-  }
+      subst (λ (j : ℕ). HasSliced n v c w d p steps j t t₃) sum
+      (come-sliced n w d one.events p (k + counted_one p) steps t₃
+      (ComeTo-stopped n k (machine_with m c) (machine_with u b) (machine_with w d) one.events p g one.unit stopped less)
+      (TellsEvents-trans t₁ t₂ t₃ [] one.events told one.told) (Keeps-then m c u b w d keeps one.keeps))
 
   -- Collections
 
-  -- where none runs
-  collected-alone : (w : Keyed) (p : Progress) (t t₁ : Telling) → c ≡ None → HasDoneAll v c w p t t₁ → IsCollected (machine_of v.heap c) (machine_of w.heap None) p t t₁
-  collected-alone w p t t₁ none a = record {
-    memory = a.stopped.memory [];
-    led = led-by (collect (with_memory (machine_of v.heap c) (a.stopped.memory []))) (machine_of v.heap c) (machine_of w.heap None) a.events p t t₁
-        (collect-alone (machine_of v.heap c) (machine_of w.heap None) a.events p a.stopped (ap (λ (d : Option Built). (machine_of v.heap d).snapshot) none))
-        (collect-spares v c r (a.stopped.memory [])) (collect-units v c r (a.stopped.memory [])) a.told;
-  }
+  come-collected : (memory : List Bool) (w : Keyed) (events : List Event) (p : Progress) (t₂ : Telling) →
+      collect_cycles (with_memory (machine_with m c) memory) ≡ units_came (with_memory (machine_with w None) []) events p → TellsEvents t₁ t₂ events → Keeps m c w None →
+      HasCollected v c w None p t t₂
+  unfolding collect
+  come-collected memory w events p t₂ come told keeps =
+      let now : Machine = with_memory (machine_with w None) [] in
+      let is : collect (with_memory (machine_with v c) memory) ≡ units_came now (f.events ++ events) p = led-behind collect_cycles memory now events p come in
+      let spared : HasSpared v c w None (f.events ++ events) = spared-then v c m c w None f.events events f.runs.order.sound.well_formed keeps.runs.order.sound.well_formed f.spared
+      (spared-units m c w None (collect_cycles (with_memory (machine_with m c) memory)) [] events p come (collect-units m c f.runs memory) keeps) in
+      let told_all = TellsEvents-trans t t₁ t₂ f.events events f.told told in
+      record {
+        collected = record {
+          memory = memory;
+          led = led-to v c w None (collect (with_memory (machine_with v c) memory)) [] (f.events ++ events) p t t₂ is well told_all spared;
+        };
+        given_up = λ e. collected-given_up v c m t t₁ f memory now (f.events ++ events) p is e;
+        events = f.events ++ events;
+        told = told_all;
+        spared = spared;
+        runs = keeps.runs;
+      }
 
   -- where the end of the running one is refused
-  pub collected-refused : (w : Keyed) (t t₁ : Telling) → is_some c ≡ true → HasDoneAll v c w refused t t₁ → IsCollected (machine_of v.heap c) (machine_of w.heap None) refused t t₁
-  collected-refused w t t₁ some a = record {
-    memory = a.stopped.memory [];
-    led = led-by (collect (with_memory (machine_of v.heap c) (a.stopped.memory []))) (machine_of v.heap c) (machine_of w.heap None) a.events refused t t₁
-        (collect-refused (machine_of v.heap c) (machine_of w.heap None) a.events a.stopped (some-runs v.heap c some))
-        (collect-spares v c r (a.stopped.memory [])) (collect-units v c r (a.stopped.memory [])) a.told;
-  }
-
-  -- and after a running one
-  collected-both : (m w : Keyed) (p : Progress) (t t₁ t₂ : Telling) → is_some c ≡ true → HasDoneAll v c m at_end t t₁ → HasDoneAll m None w p t₁ t₂ →
-      IsCollected (machine_of v.heap c) (machine_of w.heap None) p t t₂
-  collected-both m w p t t₁ t₂ some a b = record {
-    memory = a.stopped.memory (b.stopped.memory []);
-    led = led-by (collect (with_memory (machine_of v.heap c) (a.stopped.memory (b.stopped.memory [])))) (machine_of v.heap c) (machine_of w.heap None) (a.events ++ b.events) p t t₂
-        (collect-both (machine_of v.heap c) (machine_of m.heap None) (machine_of w.heap None) a.events b.events p a.stopped b.stopped (some-runs v.heap c some))
-        (collect-spares v c r (a.stopped.memory (b.stopped.memory []))) (collect-units v c r (a.stopped.memory (b.stopped.memory []))) (TellsEvents-trans t t₁ t₂ a.events b.events a.told b.told);
-  }
-
-  -- so it is after a running one was finished, if any
-  pub collected : (m w : Keyed) (p : Progress) (t t₁ t₂ : Telling) → HasFinished v c m t t₁ → HasDoneAll m None w p t₁ t₂ → IsCollected (machine_of v.heap c) (machine_of w.heap None) p t t₂
-  collected m w p t t₁ t₂ f b = grind (arith, is_some-none, collected-alone, collected-both, f.idle, f.ran)
-
-  -- `gc`
-
-  -- it comes to this, and tells this
-  swept-by : (w : Keyed) (memory : List Bool) (d : UnitsDone) (t t₁ : Telling) → gc (with_memory (machine_of v.heap c) memory) ≡ then_scripts d → d.machine.snapshot ≡ None →
-      d.machine.weak ≡ (machine_of w.heap None).weak → d.machine.marking ≡ None →
-      w.heap ≡ (collect_scripts d.machine.heap).heap → TellsEvents t t₁ (d.events ++ (collect_scripts d.machine.heap).events) → IsSwept (machine_of v.heap c) (machine_of w.heap None) t t₁
-  swept-by w memory d t t₁ is none weak marking heap told = record {
-    memory = memory;
-    led = record {
-      same = record {
-        heap = ap (λ (e : UnitsDone). e.machine.heap) is ∙ sym heap;
-        weak = ap (λ (e : UnitsDone). e.machine.weak) is ∙ weak;
-        marking = ap (λ (e : UnitsDone). e.machine.marking) is ∙ marking;
-        snapshot = ap (λ (e : UnitsDone). e.machine.snapshot) is ∙ none;
-      };
-      came_to = refl;
-      told = subst (TellsEvents t t₁) (sym (ap (λ (e : UnitsDone). e.events) is)) told;
-      spares = gc-spares v c r memory;
-      unreached = subst (λ (k : Heap). SparesWhatIsReached v.heap k (gc (with_memory (machine_of v.heap c) memory)).events)
-          (ap (λ (e : UnitsDone). e.machine.heap) is ∙ sym heap) (gc-units v c r memory).spares;
-    };
-  }
-
-  -- after a running collection, whatever that came to
-  swept-after : (m w : Keyed) (p : Progress) (t t₁ t₂ : Telling) → is_some c ≡ true → HasDoneAll v c m p t t₁ → w.heap ≡ (collect_scripts m.heap).heap →
-      TellsEvents t₁ t₂ (collect_scripts m.heap).events → IsSwept (machine_of v.heap c) (machine_of w.heap None) t t₂
-  swept-after m w p t t₁ t₂ some a heap told =
-      swept-by w (a.stopped.memory []) (units_came (machine_of m.heap None) a.events p) t t₂
-      (gc-after (machine_of v.heap c) (machine_of m.heap None) a.events p a.stopped (some-runs v.heap c some)) refl refl refl heap
-      (TellsEvents-trans t t₁ t₂ a.events (collect_scripts m.heap).events a.told told)
+  pub collected-refused : (w : Keyed) (t₂ : Telling) → is_some c ≡ true → HasDoneAll m c w refused t₁ t₂ → HasCollected v c w None refused t t₂
+  collected-refused w t₂ some a = come-collected (a.stopped.memory []) w a.events refused t₂
+      (collect-refused (machine_with m c) (machine_with w None) a.events a.stopped (some-runs m c some)) a.told a.keeps
 
   -- where none runs
-  swept-alone : (w : Keyed) (t t₁ : Telling) → c ≡ None → w.heap ≡ (collect_scripts v.heap).heap → TellsEvents t t₁ (collect_scripts v.heap).events →
-      IsSwept (machine_of v.heap c) (machine_of w.heap None) t t₁
-  swept-alone w t t₁ none heap told =
-      let idle : (machine_of v.heap c).snapshot ≡ None = ap (λ (d : Option Built). (machine_of v.heap d).snapshot) none in
-      swept-by w [] (units_came (machine_of v.heap c) [] went_on) t t₁ (gc-alone (machine_of v.heap c) idle) idle refl refl heap told
+  collected-alone : (w : Keyed) (p : Progress) (t₂ : Telling) → c ≡ None → HasDoneAll m c w p t₁ t₂ → HasCollected v c w None p t t₂
+  collected-alone w p t₂ none a = come-collected (a.stopped.memory []) w a.events p t₂
+      (collect-alone (machine_with m c) (machine_with w None) a.events p a.stopped (ap (λ (d : Option Built). (machine_with m d).snapshot) none)) a.told a.keeps
 
-  -- so it is after a running one was finished, if any,
-  pub swept : (m w : Keyed) (t t₁ t₂ : Telling) → HasFinished v c m t t₁ → w.heap ≡ (collect_scripts m.heap).heap → TellsEvents t₁ t₂ (collect_scripts m.heap).events →
-      IsSwept (machine_of v.heap c) (machine_of w.heap None) t t₂
-  swept m w t t₁ t₂ f heap told = grind (arith, swept-alone, is_some-none, swept-after, f.idle, f.ran)
+  -- after a running one
+  collected-both : (u w : Keyed) (p : Progress) (t₂ t₃ : Telling) → is_some c ≡ true → HasDoneAll m c u at_end t₁ t₂ → HasDoneAll u None w p t₂ t₃ → HasCollected v c w None p t t₃
+  collected-both u w p t₂ t₃ some a b = come-collected (a.stopped.memory (b.stopped.memory [])) w (a.events ++ b.events) p t₃
+      (collect-both (machine_with m c) (machine_with u None) (machine_with w None) a.events b.events p a.stopped b.stopped (some-runs m c some))
+      (TellsEvents-trans t₁ t₂ t₃ a.events b.events a.told b.told) (Keeps-then m c u None w None a.keeps b.keeps)
 
-  -- and after its end was refused
-  pub swept-refused : (m w : Keyed) (t t₁ t₂ : Telling) → is_some c ≡ true → HasDoneAll v c m refused t t₁ → w.heap ≡ (collect_scripts m.heap).heap →
-      TellsEvents t₁ t₂ (collect_scripts m.heap).events → IsSwept (machine_of v.heap c) (machine_of w.heap None) t t₂
-  swept-refused m w t t₁ t₂ some a heap told = swept-after m w refused t t₁ t₂ some a heap told
+  -- so it is after a running one was finished, if any
+  pub collected : (u w : Keyed) (p : Progress) (t₂ t₃ : Telling) → HasFinished m c u t₁ t₂ → HasDoneAll u None w p t₂ t₃ → HasCollected v c w None p t t₃
+  collected u w p t₂ t₃ g b = go (is_some c) refl
+    where
+      go : (some : Bool) → is_some c ≡ some → HasCollected v c w None p t t₃
+      go true e = collected-both u w p t₂ t₃ e (g.ran e) b
+      go false e =
+          let none : c ≡ None = is_some-none c e in
+          let idle = g.idle e in
+          collected-alone w p t₃ none
+          (subst (λ (d : Option Built). HasDoneAll m d w p t₁ t₃) (sym none)
+          (subst (λ (h : Keyed). HasDoneAll h None w p t₁ t₃) idle.0 (subst (λ (s : Telling). HasDoneAll u None w p s t₃) idle.1 b)))
+
+  -- whatever the result was
+  pub collected-by : {T E : Type 0} (result : Result T E) (u : Keyed) (b : Option Built) (w : Keyed) (d : Option Built) (t₂ t₃ : Telling) → b ≡ None → d ≡ None → HasFinished m c u t₁ t₂ →
+      OnOk result (HasDoneAll u b w at_end t₂ t₃) → OnErr result (HasDoneAll u b w refused t₂ t₃) → HasCollectedBy result v c w d t t₃
+  collected-by (Ok x) u b w d t₂ t₃ none over g ok err = record {
+    progress = at_end;
+    done = refl;
+    stopped = tt;
+    is = subst (λ (e : Option Built). HasCollected v c w e at_end t t₃) (sym over) (collected u w at_end t₂ t₃ g (subst (λ (e : Option Built). HasDoneAll u e w at_end t₂ t₃) none ok));
+  }
+  collected-by (Err x) u b w d t₂ t₃ none over g ok err = record {
+    progress = refused;
+    done = tt;
+    stopped = refl;
+    is = subst (λ (e : Option Built). HasCollected v c w e refused t t₃) (sym over) (collected u w refused t₂ t₃ g (subst (λ (e : Option Built). HasDoneAll u e w refused t₂ t₃) none err));
+  }

@@ -10,33 +10,31 @@ use Rattle.cc_model.specs.Heap.{Heap, HeapNative, HeapScript}
 use Rattle.cc_model.specs.WellFormed.{native_names, script_names}
 use Rattle.cc_model.specs.View.{view}
 use Rattle.cc_model.specs.Suspected.{IsSuspected}
-use Rattle.cc_model.specs.Sweep.{collect_scripts}
 use Rattle.cc_model.specs.Snapshot.{Snapshot, white_natives}
 use Rattle.cc_model.specs.Units.{begun, with_empty_buffer, first_untraversed}
 use Rattle.cc_model.specs.End.{went_on, at_end, refused, unit, may_be_refused, take_away, give_back, granted, abandoned, node_or_end, going_on, unit_came}
 use Rattle.cc_model.proofs.Tellings.{Tells-nil}
 use Rattle.cc_laws_heap.specs.Apart.{AreApart}
 use Rattle.cc_laws_heap.specs.Ending.{TakesAway}
-use Rattle.cc_laws_heap.specs.Rounds.{is_not_among, FreesNames}
-use Rattle.cc_laws_heap.proofs.Face.{collect_scripts-frees, take_away-takes}
+use Rattle.cc_laws_heap.proofs.Face.{take_away-takes}
 use Rattle.cc_laws_snapshot.proofs.Face.{give_back-buffer, white_natives-apart, white_natives-there}
 use Rattle.cc_laws_run.specs.Running.{IsFreshNow}
 use Rattle.cc_laws_run.proofs.Face.{traversed-none}
 use Rattle.cc_graph.specs.Shown.{Shown}
 use Rattle.cc_heaps.specs.Keyed.{Keyed, changed_to, left_with}
-use Rattle.cc_heaps.specs.Changes.{KeepsKeys}
+use Rattle.cc_heaps.specs.NewMarks.{marks_of}
 use Rattle.cc_heaps.specs.Standing.{StillStands}
 use Rattle.cc_heaps.proofs.KeysKept.{KeepsKeys-same, KeepsKeys-changed, KeepsKeys-left}
 use Rattle.cc_heaps.proofs.Kept.{kept-alone}
 use Rattle.cc_builder.specs.Building.{Built, IsNodeUnit, snapshot_of}
 use Rattle.cc_unlink.specs.Whites.{whites_of, AreWhiteIn}
-use Rattle.cc_collector.specs.Kept.{RunsIn, GoesOn, running_snapshot}
+use Rattle.cc_collector.specs.Kept.{Kept, RunsAlone, RunsIn, GoesOn, running_snapshot}
 use Rattle.cc_collector.specs.Units.{Keeps, HasDoneUnit}
 
 -- Units one after the other
 
 -- nothing done
-pub Keeps-nothing : (v : Keyed) (c : Option Built) → RunsIn v c → Keeps v c v c
+pub Keeps-nothing : (v : Keyed) (c : Option Built) → RunsAlone v c → Keeps v c v c
 Keeps-nothing v c r = search (kept-alone, KeepsKeys-same)
 
 -- one after the other
@@ -61,28 +59,12 @@ Keeps-then v c w d u e a b = record {
   };
 }
 
--- and a script collection after it keeps the keys
-pub KeepsKeys-swept : (v : Keyed) (c : Option Built) (w u : Keyed) → Keeps v c w None → u.heap ≡ (collect_scripts w.heap).heap → KeepsKeys w u → KeepsKeys v u
-KeepsKeys-swept v c w u a heap keys = record {
-  natives = λ key k at m. keys.natives key k (a.kept.keys.natives key k at (natives_left (native k) m)) m;
-  scripts = λ key x at m. keys.scripts key x (a.kept.keys.scripts key x at (scripts_left x m)) m;
-}
-  where
-    xs : List Name
-    xs = (collect_scripts-frees w.heap a.runs.order.sound).0
-
-    frees : FreesNames w.heap xs (collect_scripts w.heap)
-    frees = (collect_scripts-frees w.heap a.runs.order.sound).1
-
-    natives_left : (x : Name) → Among x (native_names u.heap) → Among x (native_names w.heap)
-    natives_left x m = Among-filtered (is_not_among xs) x (native_names w.heap) (subst (Among x) (ap native_names heap ∙ frees.natives) m)
-
-    scripts_left : (x : Name) → Among x (script_names u.heap) → Among x (script_names w.heap)
-    scripts_left x m = Among-filtered (is_not_among xs) x (script_names w.heap) (subst (Among x) (ap script_names heap ∙ frees.scripts) m)
-
 -- the snapshot of the running collection is fresh
-pub RunsIn-fresh : (v : Keyed) (c : Option Built) → RunsIn v c → IsFreshNow v.heap (running_snapshot c)
-RunsIn-fresh v c r = grind arith
+pub RunsAlone-fresh : (v : Keyed) (c : Option Built) → RunsAlone v c → IsFreshNow v.heap (running_snapshot c)
+RunsAlone-fresh v c r = grind arith
+
+pub RunsIn-fresh : (v : Keyed) (k : Kept) → RunsIn v k → IsFreshNow v.heap (running_snapshot k.running)
+RunsIn-fresh v k r = grind arith
 
 -- Each unit
 
@@ -102,7 +84,7 @@ same-scripts : (v w : Keyed) (h : Heap) → w ≡ changed_to v h → script_name
 same-scripts v w h e same x m = subst (Among x) (ap (λ (k : Keyed). script_names k.heap) e ∙ same) m
 
 -- A BEGIN
-pub begin-done : (v w : Keyed) (b : Built) (t : Telling) → RunsIn v None → w ≡ changed_to v (with_empty_buffer v.heap) → snapshot_of b ≡ begun v.heap → RunsIn w (Some b) →
+pub begin-done : (v w : Keyed) (b : Built) (t : Telling) → RunsAlone v None → w ≡ changed_to v (with_empty_buffer v.heap) → snapshot_of b ≡ begun v.heap → RunsAlone w (Some b) →
     StillStands v.heap w.heap → (IsSuspected (view v.heap) [] → IsSuspected (view w.heap) (snapshot_of b).candidates) → HasDoneUnit v None w (Some b) went_on t t
 begin-done v w b t r e s runs stands suspected = record {
   events = [];
@@ -110,7 +92,7 @@ begin-done v w b t r e s runs stands suspected = record {
     memory = true;
     is = unit-granted v.heap None ∙ (ap (λ (h : Heap). going_on h (begun v.heap)) (sym (ap (λ (k : Keyed). k.heap) e)) ∙ ap (going_on w.heap) (sym s));
     weak = refl;
-    marking = refl;
+    marking = ap (λ (k : Keyed). marks_of k) e;
   };
   told = Tells-nil t;
   keeps = record {
@@ -129,7 +111,7 @@ begin-done v w b t r e s runs stands suspected = record {
 }
 
 -- a begin that is refused
-pub begin-refused : (v : Keyed) (t t₁ : Telling) → RunsIn v None → may_be_refused v.heap None ≡ true → TellsEvents t t₁ (Abandoned ∷ []) → HasDoneUnit v None v None refused t t₁
+pub begin-refused : (v : Keyed) (t t₁ : Telling) → RunsAlone v None → may_be_refused v.heap None ≡ true → TellsEvents t t₁ (Abandoned ∷ []) → HasDoneUnit v None v None refused t t₁
 begin-refused v t t₁ r asks told = record {
   events = Abandoned ∷ [];
   unit = record { memory = false; is = unit-refused v.heap None asks; weak = refl; marking = refl };
@@ -140,7 +122,7 @@ begin-refused v t t₁ r asks told = record {
 }
 
 -- ONE NODE
-pub node-done : (v : Keyed) (b d : Built) (t : Telling) → RunsIn v (Some b) → IsNodeUnit v.heap (snapshot_of b) (snapshot_of d) → GoesOn v d → (snapshot_of d).candidates ≡ (snapshot_of b).candidates →
+pub node-done : (v : Keyed) (b d : Built) (t : Telling) → RunsAlone v (Some b) → IsNodeUnit v.heap (snapshot_of b) (snapshot_of d) → GoesOn v d → (snapshot_of d).candidates ≡ (snapshot_of b).candidates →
     d.next ≡ b.next + 1 → HasDoneUnit v (Some b) v (Some d) went_on t t
 node-done v b d t r u goes candidates next = record {
   events = [];
@@ -164,12 +146,12 @@ node-done v b d t r u goes candidates next = record {
   over = λ f. absurd (f refl);
 }
   where
-    runs : RunsIn v (Some d)
-    runs = record { order = r.order; colours = r.colours; goes_on = goes }
+    runs : RunsAlone v (Some d)
+    runs = record { order = r.order; colours = r.colours; goes_on = goes; unmarked = r.unmarked }
 
 -- A NODE THAT IS REFUSED
-pub node-refused : (v w : Keyed) (b : Built) (ks : List ℕ) (t t₁ : Telling) → RunsIn v (Some b) → may_be_refused v.heap (Some (snapshot_of b)) ≡ true →
-    ks ≡ (snapshot_of b).candidates → w ≡ changed_to v (give_back ks v.heap) → RunsIn w None → StillStands v.heap w.heap →
+pub node-refused : (v w : Keyed) (b : Built) (ks : List ℕ) (t t₁ : Telling) → RunsAlone v (Some b) → may_be_refused v.heap (Some (snapshot_of b)) ≡ true →
+    ks ≡ (snapshot_of b).candidates → w ≡ changed_to v (give_back ks v.heap) → RunsAlone w None → StillStands v.heap w.heap →
     (IsSuspected (view v.heap) ks → IsSuspected (view w.heap) []) → TellsEvents t t₁ (Abandoned ∷ []) → HasDoneUnit v (Some b) w None refused t t₁
 node-refused v w b ks t t₁ r asks candidates e runs stands suspected told = record {
   events = Abandoned ∷ [];
@@ -178,7 +160,7 @@ node-refused v w b ks t t₁ r asks candidates e runs stands suspected told = re
     is = unit-refused v.heap (Some (snapshot_of b)) asks
         ∙ ap (λ (h : Heap). unit_came h None (Abandoned ∷ []) refused) (ap (λ (js : List ℕ). give_back js v.heap) (sym candidates) ∙ sym (ap (λ (k : Keyed). k.heap) e));
     weak = refl;
-    marking = refl;
+    marking = ap (λ (k : Keyed). marks_of k) e;
   };
   told = told;
   keeps = record {
@@ -194,7 +176,7 @@ node-refused v w b ks t t₁ r asks candidates e runs stands suspected told = re
 }
 
 -- THE END: the white natives of the graph are those of the snapshot, which is traversed
-module _ (v : Keyed) (b : Built) (g : Shown) (r : RunsIn v (Some b)) (traversed : first_untraversed (snapshot_of b).nodes ≡ None)
+module _ (v : Keyed) (b : Built) (g : Shown) (r : RunsAlone v (Some b)) (traversed : first_untraversed (snapshot_of b).nodes ≡ None)
     (whites : whites_of g v.heap ≡ white_natives v.heap (snapshot_of b)) where
   -- they are white in a fresh snapshot,
   pub are-white : AreWhiteIn g v.heap (snapshot_of b)
@@ -204,7 +186,7 @@ module _ (v : Keyed) (b : Built) (g : Shown) (r : RunsIn v (Some b)) (traversed 
   pub are-apart : AreApart v.heap (whites_of g v.heap)
   are-apart = subst (AreApart v.heap) (sym whites) (white_natives-apart v.heap (snapshot_of b) r.order.sound r.goes_on.fresh are-white.traversed)
 
-  pub end-done : (w : Keyed) (t t₁ : Telling) → w ≡ left_with v (take_away (whites_of g v.heap) v.heap).heap → RunsIn w None → StillStands v.heap w.heap →
+  pub end-done : (w : Keyed) (t t₁ : Telling) → w ≡ left_with v (take_away (whites_of g v.heap) v.heap).heap → RunsAlone w None → StillStands v.heap w.heap →
       (IsSuspected (view v.heap) (snapshot_of b).candidates → IsSuspected (view w.heap) []) → TellsEvents t t₁ (take_away (whites_of g v.heap) v.heap).events →
       HasDoneUnit v (Some b) w None at_end t t₁
   end-done w t t₁ e runs stands suspected told = record {
@@ -216,7 +198,7 @@ module _ (v : Keyed) (b : Built) (g : Shown) (r : RunsIn v (Some b)) (traversed 
           ∙ (ap (λ (ks : List ℕ). unit_came (take_away ks v.heap).heap None (take_away ks v.heap).events at_end) (sym whites)
           ∙ ap (λ (h : Heap). unit_came h None (take_away (whites_of g v.heap) v.heap).events at_end) (sym heap)));
       weak = refl;
-      marking = refl;
+      marking = ap (λ (k : Keyed). marks_of k) e;
     };
     told = told;
     keeps = record {

@@ -1,10 +1,14 @@
 pub mod Rows
 pub mod Keeping
+pub mod Sparing
+pub mod Marking
 pub mod Spared
 pub mod EndSpares
 pub mod UnitsSpare
-pub mod Coming
 pub mod GivingUp
+pub mod Coming
+pub mod MakingWay
+pub mod MarkingOn
 pub mod Settling
 pub mod NothingLeft
 pub mod NoneBack

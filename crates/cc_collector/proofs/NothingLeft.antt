@@ -4,22 +4,24 @@ use Rattle.cc_lists.proofs.ListWrites.{map-unchanged}
 use Rattle.cc_names.specs.declared.name.Name.{Name}
 use Rattle.cc_model.specs.Telling.{Telling}
 use Rattle.cc_model.specs.Heap.{Heap, Buffered, silently}
-use Rattle.cc_model.specs.Colours.{marked, HasColours}
+use Rattle.cc_model.specs.Colours.{marked, HasColours, HasColourInvariant}
+use Rattle.cc_model.specs.View.{view}
+use Rattle.cc_laws_heap.specs.Sound.{IsSound}
+use Rattle.cc_laws_run.specs.Running.{IsFreshNow}
 use Rattle.cc_model.specs.Sweep.{unmarked, without_dead_entries, sweep_each, sweep, rounds, collect_scripts}
 use Rattle.cc_model.specs.Snapshot.{Snapshot}
 use Rattle.cc_model.specs.Units.{first_untraversed}
 use Rattle.cc_model.specs.End.{Progress, went_on, at_end, refused, abandoned, node_or_end, granted, unit}
-use Rattle.cc_model.specs.Collecting.{Machine, UnitsDone, no_units, next_answer, one_unit, enough_units, to_the_end, collect, gc}
+use Rattle.cc_model.specs.Collecting.{Machine, UnitsDone, no_units, next_answer, one_unit, enough_units, to_the_end, finish_running, collect, without_marking, gc}
 use Rattle.cc_laws_heap.proofs.Face.{as_marked, collect_scripts-colours, collect_scripts-unmarked, with_buffer}
 use Rattle.cc_laws_snapshot.proofs.Face.{give_back-buffer, given_back}
 use Rattle.cc_laws_run.specs.Memory.{with_memory}
-use Rattle.cc_laws_run.proofs.Face.{collect-none, unit-cases, units_done-keep}
+use Rattle.cc_laws_run.proofs.Face.{collect-none, gc-unmarked, unit-cases, units_done-keep}
 use Rattle.cc_heaps.specs.Keyed.{Keyed}
-use Rattle.cc_builder.specs.Building.{Built}
-use Rattle.cc_collector.specs.Kept.{RunsIn, machine_of}
+use Rattle.cc_collector.specs.Kept.{Kept, RunsIn, machine_of}
 use Rattle.cc_collector.specs.Settled.{IsUnsettled}
 use Rattle.cc_collector.proofs.Keeping.{RunsIn-fresh}
-use Rattle.cc_collector.proofs.UnitsSpare.{gc-swept}
+use Rattle.cc_collector.proofs.UnitsSpare.{finish-spare}
 
 -- Script collections that free nothing
 
@@ -80,22 +82,28 @@ units-wait m = units_done-keep (λ d. IsWaiting m.heap d.machine.heap d.progress
         apart f = cc
 
 -- A COLLECTION THAT IS REFUSED changes the buffer alone, where none ran.
-collect-waits : (m : Machine) → m.snapshot ≡ None → (collect m).progress ≡ refused → (bs : List Buffered) × ((collect m).machine.heap ≡ with_buffer m.heap bs)
-collect-waits m none = grind (arith, with_buffer, collect-none, units-wait)
+collect-waits : (m : Machine) → m.snapshot ≡ None → m.marking ≡ None → (collect m).progress ≡ refused → (bs : List Buffered) × ((collect m).machine.heap ≡ with_buffer m.heap bs)
+collect-waits m none unmarked = grind (arith, with_buffer, collect-none, units-wait)
+
+-- `gc` is a script collection of what those units leave that end a running collection, and none runs then.
+gc-swept : (m : Machine) → IsSound [] m.heap → HasColourInvariant (view m.heap) → IsFreshNow m.heap m.snapshot →
+    (h : Heap) × ((gc m).machine.heap ≡ (collect_scripts h).heap) × ((gc m).machine.snapshot ≡ None)
+unfolding gc
+gc-swept m sound colours fresh = ((finish_running (without_marking m)).machine.heap, refl, (finish-spare (without_marking m) sound colours fresh).1)
 
 -- RIGHT AFTER `gc` IT LEAVES NOTHING that a script collection would free.
-pub unsettled-silent : (v : Keyed) (c : Option Built) (new : Machine) (t t₁ : Telling) → RunsIn v c → IsUnsettled (machine_of v.heap c) new t t₁ →
-    (collect_scripts new.heap).events ≡ []
-unsettled-silent v c new t t₁ r s =
+pub unsettled-silent : (v : Keyed) (k : Kept) (new : Machine) (t t₁ : Telling) → RunsIn v k → IsUnsettled (machine_of v k) new t t₁ → (collect_scripts new.heap).events ≡ []
+unsettled-silent v k new t t₁ r s =
     subst (λ h. (collect_scripts h).events ≡ [])
     (ap (λ h. with_buffer h waits.0) (sym swept.1 ∙ s.swept.led.same.heap) ∙ (sym waits.1 ∙ s.collected.led.same.heap))
     (silent-after swept.0 waits.0)
   where
     before : Machine
-    before = with_memory (machine_of v.heap c) s.swept.memory
+    before = with_memory (machine_of v k) s.swept.memory
 
     swept : (h : Heap) × ((gc before).machine.heap ≡ (collect_scripts h).heap) × ((gc before).machine.snapshot ≡ None)
-    swept = gc-swept before r.order.sound r.colours (RunsIn-fresh v c r)
+    swept = gc-swept before r.order.sound r.colours (RunsIn-fresh v k r)
 
     waits : (bs : List Buffered) × ((collect (with_memory s.first s.collected.memory)).machine.heap ≡ with_buffer s.first.heap bs)
-    waits = collect-waits (with_memory s.first s.collected.memory) (sym s.swept.led.same.snapshot ∙ swept.2) s.collected.led.came_to
+    waits = collect-waits (with_memory s.first s.collected.memory) (sym s.swept.led.same.snapshot ∙ swept.2)
+        (sym s.swept.led.same.marking ∙ gc-unmarked before) s.collected.led.came_to

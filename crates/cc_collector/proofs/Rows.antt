@@ -6,7 +6,7 @@ use Rattle.cc_model.specs.declared.item.Event.{Event}
 use Rattle.cc_model.specs.Snapshot.{Snapshot}
 use Rattle.cc_model.specs.Units.{first_untraversed}
 use Rattle.cc_model.specs.End.{Progress, went_on, at_end, refused, UnitDone, unit, may_be_refused, granted, node_or_end}
-use Rattle.cc_model.specs.Collecting.{Machine, UnitsDone, no_units, one_unit, units_done, next_answer, slice, collect, gc, to_the_end, enough_units, finish_running, then_scripts, units_came}
+use Rattle.cc_model.specs.Collecting.{Machine, UnitsDone, no_units, one_unit, units_done, next_answer, slice_cycles, collect_cycles, to_the_end, enough_units, finish_running, units_came}
 use Rattle.cc_model.proofs.UnitsEnd.{units_done-done, units_done-to_the_end}
 use Rattle.cc_laws_run.specs.Memory.{with_memory}
 use Rattle.cc_laws_run.proofs.Face.{unit-cases}
@@ -109,12 +109,12 @@ HasStopped-from k before mid now events p g u stopped = record {
 -- for some answers of memory so many units come to this, and so many of them count
 pub record ComeTo (n : ℕ) (before now : Machine) (events : List Event) (p : Progress) (counted : ℕ) : Type 0 where
   pub memory : List Bool
-  pub is : slice n (with_memory before memory) ≡ units_came (with_memory now []) events p
+  pub is : slice_cycles n (with_memory before memory) ≡ units_came (with_memory now []) events p
   pub counts : units_counted n (no_units (with_memory before memory)) ≡ counted
 
 -- all of them went on
 pub ComeTo-went_on : (n : ℕ) (before now : Machine) → HasGoneOn n before now → ComeTo n before now [] went_on n
-unfolding slice units_done
+unfolding slice_cycles units_done
 ComeTo-went_on n before now g = record {
   memory = g.memory [];
   is = subst (λ (j : ℕ). units_done j (no_units (with_memory before (g.memory []))) ≡ no_units (with_memory now [])) all (g.later [] 0);
@@ -127,7 +127,7 @@ ComeTo-went_on n before now g = record {
 -- one of them stopped
 pub ComeTo-stopped : (n k : ℕ) (before mid now : Machine) (events : List Event) (p : Progress) → HasGoneOn k before mid → IsUnit mid now events p → p ≢ went_on → k < n →
     ComeTo n before now events p (k + counted_one p)
-unfolding slice units_done
+unfolding slice_cycles units_done
 ComeTo-stopped n k before mid now events p g u stopped less = record {
   memory = memory;
   is = subst (λ (j : ℕ). units_done j (no_units (with_memory before memory)) ≡ units_came (with_memory now []) events p) all
@@ -195,37 +195,32 @@ to_the_end-later before now es events p s rest =
     append-nothing (x ∷ xs) = ap (λ ys. x ∷ ys) (append-nothing xs)
 
 -- where no collection runs, none is ended
-finish-none : (m : Machine) → m.snapshot ≡ None → finish_running m ≡ no_units m
+pub finish-none : (m : Machine) → m.snapshot ≡ None → finish_running m ≡ no_units m
 finish-none m e = ap (λ (o : Option Snapshot). elim (is_some o) [ true ↦ to_the_end (no_units m) | false ↦ no_units m ]) e
 
 -- a running one is
 finish-running : (m : Machine) → is_some m.snapshot ≡ true → finish_running m ≡ to_the_end (no_units m)
 finish-running m e = ap (λ (b : Bool). elim b [ true ↦ to_the_end (no_units m) | false ↦ no_units m ]) e
 
+-- and comes to the same
+pub finish-stopped : (before now : Machine) (events : List Event) (p : Progress) (s : HasStopped before now events p) (rest : List Bool) → is_some before.snapshot ≡ true →
+    finish_running (with_memory before (s.memory rest)) ≡ units_came (with_memory now rest) events p
+finish-stopped before now events p s rest runs = finish-running (with_memory before (s.memory rest)) runs ∙ to_the_end-stopped before now events p s rest
+
 -- A COLLECTION where none runs
 pub collect-alone : (before now : Machine) (events : List Event) (p : Progress) (s : HasStopped before now events p) → before.snapshot ≡ None →
-    collect (with_memory before (s.memory [])) ≡ units_came (with_memory now []) events p
-unfolding collect
+    collect_cycles (with_memory before (s.memory [])) ≡ units_came (with_memory now []) events p
+unfolding collect_cycles
 collect-alone before now events p s none = search (finish-none, to_the_end-stopped)
 
 -- where ending the running one is refused, no other begins
 pub collect-refused : (before now : Machine) (events : List Event) (s : HasStopped before now events refused) → is_some before.snapshot ≡ true →
-    collect (with_memory before (s.memory [])) ≡ units_came (with_memory now []) events refused
-unfolding collect
+    collect_cycles (with_memory before (s.memory [])) ≡ units_came (with_memory now []) events refused
+unfolding collect_cycles
 collect-refused before now events s runs = search (finish-running, to_the_end-stopped)
 
 -- after a running one
 pub collect-both : (before mid now : Machine) (first second : List Event) (p : Progress) (s : HasStopped before mid first at_end) (t : HasStopped mid now second p) →
-    is_some before.snapshot ≡ true → collect (with_memory before (s.memory (t.memory []))) ≡ units_came (with_memory now []) (first ++ second) p
-unfolding collect
+    is_some before.snapshot ≡ true → collect_cycles (with_memory before (s.memory (t.memory []))) ≡ units_came (with_memory now []) (first ++ second) p
+unfolding collect_cycles
 collect-both before mid now first second p s t runs = search (finish-running, to_the_end-stopped, to_the_end-later)
-
--- `gc`
-pub gc-alone : (before : Machine) → before.snapshot ≡ None → gc (with_memory before []) ≡ then_scripts (no_units (with_memory before []))
-unfolding gc
-gc-alone before none = ap then_scripts (finish-none (with_memory before []) none)
-
-pub gc-after : (before now : Machine) (events : List Event) (p : Progress) (s : HasStopped before now events p) → is_some before.snapshot ≡ true →
-    gc (with_memory before (s.memory [])) ≡ then_scripts (units_came (with_memory now []) events p)
-unfolding gc
-gc-after before now events p s runs = ap then_scripts (finish-running (with_memory before (s.memory [])) runs ∙ to_the_end-stopped before now events p s [])

@@ -1,35 +1,29 @@
 -- SETTLED HEAPS have exactly what the registers reach.
-use Rattle.std.proofs.Common.{◌≡◌, ◌≢◌, ◌++◌, [], Option, None, refl, sym, ◌∙◌, subst}
-use Rattle.cc_lists.specs.Members.{Among}
-use Rattle.cc_lists.proofs.Members.{Among-map_cases, Among-left, Among-right}
-use Rattle.cc_names.specs.declared.name.Name.{Name}
-use Rattle.cc_names.specs.Names.{native}
+use Rattle.std.proofs.Common.{◌≡◌, ◌≢◌, ◌++◌, [], None, refl, sym, ◌∙◌, subst}
 use Rattle.cc_model.specs.Telling.{Telling}
-use Rattle.cc_model.specs.Heap.{Heap, HeapNative}
+use Rattle.cc_model.specs.Heap.{Heap}
 use Rattle.cc_model.specs.View.{view}
-use Rattle.cc_model.specs.WellFormed.{IsWellFormed, native_names, script_names, names_there}
+use Rattle.cc_model.specs.WellFormed.{IsWellFormed}
 use Rattle.cc_model.specs.Sweep.{collect_scripts}
 use Rattle.cc_model.specs.Suspected.{IsSuspected}
 use Rattle.cc_model.specs.End.{at_end, refused}
 use Rattle.cc_model.specs.Collecting.{Machine, collect, gc}
 use Rattle.cc_model.proofs.Tellings.{TellsEvents-trans}
 use Rattle.cc_laws_heap.specs.Sound.{IsSound}
-use Rattle.cc_laws_heap.proofs.Face.{collect_scripts-sound, native-there, script_names-named}
-use Rattle.cc_laws_snapshot.proofs.Face.{IsTidy, reached-there, script-place}
+use Rattle.cc_laws_heap.proofs.Face.{collect_scripts-sound}
+use Rattle.cc_laws_snapshot.proofs.Face.{IsTidy, reached-there}
 use Rattle.cc_laws_run.specs.Doomed.{IsSuspectedNow}
 use Rattle.cc_laws_run.specs.Memory.{with_memory}
-use Rattle.cc_laws_run.proofs.Face.{collect-tidy, collected-reached, gc-collects, gc-none}
+use Rattle.cc_laws_run.proofs.Face.{collect-tidy, collected-reached, gc-collects, gc-none, gc-unmarked}
 use Rattle.cc_heaps.specs.Keyed.{Keyed}
-use Rattle.cc_heaps.specs.Changes.{KeepsKeys}
 use Rattle.cc_heaps.specs.Keeping.{KeepsHeaps}
 use Rattle.cc_gc.specs.Sparing.{KeepsWhatIsReached}
-use Rattle.cc_gc.proofs.RoundsLeft.{KeepsKeys-then}
 use Rattle.cc_gc.proofs.Sparing.{spares-then}
-use Rattle.cc_builder.specs.Building.{Built}
-use Rattle.cc_collector.specs.Kept.{RunsIn, machine_of}
+use Rattle.cc_collector.specs.Kept.{Kept, RunsIn, machine_of}
 use Rattle.cc_collector.specs.Collected.{TellsWhatLeaves}
 use Rattle.cc_collector.specs.Settled.{HasWhatIsReached, IsSettled}
 use Rattle.cc_collector.proofs.Keeping.{RunsIn-fresh}
+use Rattle.cc_collector.proofs.Sparing.{kept-then}
 
 -- One call after the other
 
@@ -42,52 +36,27 @@ tells-then h g k t t₁ t₂ a b s r = record {
   unreached = spares-then h g k s.events r.events a b s.unreached r.unreached;
 }
 
--- and keys are kept, for nothing comes back
-pub keys-then : (u v w : Keyed) (t t₁ : Telling) → IsWellFormed v.heap → IsWellFormed w.heap → TellsWhatLeaves v.heap w.heap t t₁ → KeepsKeys u v → KeepsKeys v w →
-    KeepsKeys u w
-keys-then u v w t t₁ well well_now told a b = KeepsKeys-then u v w a b natives scripts
-  where
-    before : (x : Name) → Among x (names_there w.heap) → Among x (names_there v.heap)
-    before x m = ((told.unreached.left x).0 m).0
-
-    natives : (x : Name) → Among x (native_names w.heap) → Among x (native_names v.heap)
-    natives x m =
-        let f = Among-map_cases (λ (n : HeapNative). native n.number) w.heap.natives x m in
-        subst (λ y. Among y (native_names v.heap)) f.2
-        (native-there v.heap f.0.number well (before (native f.0.number) (subst (λ y. Among y (names_there w.heap)) (sym f.2) (Among-left x (native_names w.heap) (script_names w.heap) m))))
-
-    scripts : (x : Name) → Among x (script_names w.heap) → Among x (script_names v.heap)
-    scripts x m = script-place v.heap x (script_names-named w.heap well_now x m) (before x (Among-right x (native_names w.heap) (script_names w.heap) m))
-
--- and all that a collection keeps
-pub kept-then : (u v w : Keyed) (t t₁ : Telling) → IsWellFormed v.heap → IsWellFormed w.heap → TellsWhatLeaves v.heap w.heap t t₁ → KeepsHeaps [] [] u v → KeepsHeaps [] [] v w →
-    KeepsHeaps [] [] u w
-kept-then u v w t t₁ well well_now told a b = record {
-  keys = keys-then u v w t t₁ well well_now told a.keys b.keys;
-  order = λ owned o. b.order owned (a.order owned o);
-  counts = b.counts;
-  colours = λ colours. b.colours (a.colours colours);
-  fresh = tt;
-  suspected = tt;
-  marks = tt;
-}
+-- and all is kept that a collection keeps
+pub all_kept-then : (u v w : Keyed) (t t₁ : Telling) → IsWellFormed v.heap → IsWellFormed w.heap → TellsWhatLeaves v.heap w.heap t t₁ → KeepsHeaps [] [] u v →
+    KeepsHeaps [] [] v w → KeepsHeaps [] [] u w
+all_kept-then u v w t t₁ well well_now told a b = kept-then u v w told.events well well_now told.unreached a b
 
 -- `gc`, a collection that was not refused, and `gc`
 
 -- SO EXACTLY WHAT IS REACHED IS THERE, where no native was forgotten before.
-pub settled-exact : (v : Keyed) (c : Option Built) (new : Machine) (t t₁ : Telling) → RunsIn v c → IsSuspectedNow (machine_of v.heap c) →
-    IsSettled (machine_of v.heap c) new t t₁ → HasWhatIsReached new.heap
-settled-exact v c new t t₁ r suspected s = subst HasWhatIsReached (sym last) (λ x. (
+pub settled-exact : (v : Keyed) (kept : Kept) (new : Machine) (t t₁ : Telling) → RunsIn v kept → IsSuspectedNow (machine_of v kept) →
+    IsSettled (machine_of v kept) new t t₁ → HasWhatIsReached new.heap
+settled-exact v kept new t t₁ r suspected s = subst HasWhatIsReached (sym last) (λ x. (
   collected-reached k sound tidy x,
   reached-there (collect_scripts k).heap (collect_scripts-sound k sound).well_formed x,
 ))
   where
     before : Machine
-    before = with_memory (machine_of v.heap c) s.collected.swept.memory
+    before = with_memory (machine_of v kept) s.collected.swept.memory
 
     -- the first is a script collection of sound heaps in which no native is forgotten
     first : (h : Heap) × IsSound [] h × IsSuspected (view h) [] × ((gc before).machine.heap ≡ (collect_scripts h).heap) × ((gc before).machine.snapshot ≡ None)
-    first = gc-collects before (record { sound = r.order.sound; colours = r.colours; fresh = RunsIn-fresh v c r; suspected = suspected; stopped = λ d. absurd (d refl) })
+    first = gc-collects before (record { sound = r.order.sound; colours = r.colours; fresh = RunsIn-fresh v kept r; suspected = suspected; stopped = λ d. absurd (d refl) })
 
     mid : Machine
     mid = with_memory s.collected.first s.collected.collected.memory
@@ -102,7 +71,7 @@ settled-exact v c new t t₁ r suspected s = subst HasWhatIsReached (sym last) (
     second : ((collect mid).machine.snapshot ≡ None) × IsSound [] (collect mid).machine.heap × IsTidy (collect mid).machine.heap
     second =
         let same = s.collected.swept.led.same in
-        collect-tidy first.0 mid first.1 first.2 (sym same.heap ∙ first.3) (sym same.snapshot ∙ first.4) taken
+        collect-tidy first.0 mid first.1 first.2 (sym same.heap ∙ first.3) (sym same.snapshot ∙ first.4) (sym same.marking ∙ gc-unmarked before) taken
 
     k : Heap
     k = s.second.heap

@@ -1,10 +1,9 @@
--- UNITS OF A COLLECTION SPARE WHAT IS REACHED: those of a slice, of a whole collection, and those that `gc` ends first.
-use Rattle.std.proofs.Common.{◌≡◌, ◌≢◌, ℕ, Bool, true, false, List, [], ◌∷◌, Option, Some, None, is_some, refl, sym, subst, arith}
+-- UNITS OF A COLLECTION SPARE WHAT IS REACHED: those of a slice, of a whole collection, and those that `gc` and `mark` end first.
+use Rattle.std.proofs.Common.{◌≡◌, ◌≢◌, ℕ, Bool, true, false, List, [], ◌∷◌, Option, Some, None, is_some, refl, subst, arith}
 use Rattle.std.proofs.lemmas.Bool.{true≢false}
 use Rattle.cc_names.specs.declared.name.Name.{Name}
 use Rattle.cc_model.specs.declared.item.Event.{Event}
 use Rattle.cc_model.specs.declared.item.Event.TheVariants.{Abandoned}
-use Rattle.cc_model.specs.Telling.{Telling}
 use Rattle.cc_model.specs.Heap.{Heap, Buffered}
 use Rattle.cc_model.specs.View.{view}
 use Rattle.cc_model.specs.WellFormed.{IsWellFormed, names_there}
@@ -12,12 +11,11 @@ use Rattle.cc_model.specs.Colours.{HasColourInvariant}
 use Rattle.cc_model.specs.StandsFor.{shape_at}
 use Rattle.cc_model.specs.Snapshot.{Snapshot}
 use Rattle.cc_model.specs.Units.{first_untraversed}
-use Rattle.cc_model.specs.Sweep.{collect_scripts}
 use Rattle.cc_model.specs.End.{Progress, went_on, at_end, refused, UnitDone, abandoned, node_or_end, granted, unit, give_back}
-use Rattle.cc_model.specs.Collecting.{Machine, UnitsDone, no_units, next_answer, one_unit, units_done, enough_units, to_the_end, finish_running, slice, starting_anew, collect, gc}
+use Rattle.cc_model.specs.Collecting.{Machine, UnitsDone, no_units, units_came, next_answer, one_unit, units_done, enough_units, to_the_end, finish_running, slice_cycles, starting_anew, collect_cycles}
 use Rattle.cc_model.proofs.UnitsEnd.{to_the_end-stops}
 use Rattle.cc_laws_heap.specs.Sound.{IsSound}
-use Rattle.cc_laws_heap.proofs.Face.{HasColourInvariant-buffer, IsBuffer, IsSound-buffer, collect_scripts-invariant, collect_scripts-sound, with_buffer}
+use Rattle.cc_laws_heap.proofs.Face.{HasColourInvariant-buffer, IsBuffer, IsSound-buffer, with_buffer}
 use Rattle.cc_laws_snapshot.proofs.Face.{after_node-fresh, begun-fresh, give_back-buffer, given_back, given_back-buffer, reached-there, taking_white-colours, taking_white-sound, white_natives-there, white_natives-unreached}
 use Rattle.cc_laws_run.specs.Running.{IsFreshNow}
 use Rattle.cc_laws_run.proofs.Face.{traversed-none, unit-cases, units_done-keep, with_empty_buffer-sound}
@@ -26,10 +24,9 @@ use Rattle.cc_heaps.specs.Keyed.{Keyed}
 use Rattle.cc_builder.specs.Building.{Built}
 use Rattle.cc_gc.specs.Sparing.{KeepsWhatIsReached, SparesWhatIsReached}
 use Rattle.cc_gc.proofs.Sparing.{keeps-same, keeps-then, spares-nothing, spares-then}
-use Rattle.cc_gc.proofs.RoundsSpare.{collect_scripts-keeps, collect_scripts-spares}
-use Rattle.cc_collector.specs.Kept.{RunsIn, machine_of}
-use Rattle.cc_collector.specs.Collected.{LedTo, IsSliced, IsCollected, IsSwept, TellsWhatLeaves}
-use Rattle.cc_collector.proofs.Keeping.{RunsIn-fresh}
+use Rattle.cc_collector.specs.Kept.{RunsAlone, machine_with}
+use Rattle.cc_collector.specs.Units.{HasSpared, Keeps}
+use Rattle.cc_collector.proofs.Keeping.{RunsAlone-fresh}
 use Rattle.cc_collector.proofs.EndSpares.{take_away-keeps_reached, take_away-spares}
 
 -- Another buffer
@@ -138,12 +135,12 @@ module _ (m : Machine) (sound : IsSound [] m.heap) (colours : HasColourInvariant
   no_units-spare = grind (arith, keeps-same, spares-nothing)
 
   -- THOSE OF A SLICE
-  pub slice-spare : (n : ℕ) → UnitsSpare m.heap (slice n m)
-  unfolding slice
+  pub slice-spare : (n : ℕ) → UnitsSpare m.heap (slice_cycles n m)
+  unfolding slice_cycles
   slice-spare n = units_done-spare m.heap n (no_units m) no_units-spare
 
   -- those that end a running collection, and none runs then
-  finish-spare : UnitsSpare m.heap (finish_running m) × ((finish_running m).machine.snapshot ≡ None)
+  pub finish-spare : UnitsSpare m.heap (finish_running m) × ((finish_running m).machine.snapshot ≡ None)
   finish-spare = go (is_some m.snapshot) refl
     where
       finished : Bool → UnitsDone
@@ -161,8 +158,8 @@ module _ (m : Machine) (sound : IsSound [] m.heap) (colours : HasColourInvariant
       go false e = (no_units-spare, none m.snapshot e)
 
   -- THOSE OF A WHOLE COLLECTION
-  pub collect-spare : UnitsSpare m.heap (collect m)
-  unfolding collect
+  pub collect-spare : UnitsSpare m.heap (collect_cycles m)
+  unfolding collect_cycles
   collect-spare = go (finish_running m).progress
     where
       d : UnitsDone
@@ -191,77 +188,29 @@ module _ (m : Machine) (sound : IsSound [] m.heap) (colours : HasColourInvariant
       go went_on = units_done-spare m.heap (enough_units (starting_anew d).machine) (starting_anew d) anew
       go at_end = units_done-spare m.heap (enough_units (starting_anew d).machine) (starting_anew d) anew
 
-  -- `gc` is a script collection of what these leave, and no collection runs then
-  pub gc-swept : (h : Heap) × ((gc m).machine.heap ≡ (collect_scripts h).heap) × ((gc m).machine.snapshot ≡ None)
-  unfolding gc
-  gc-swept = ((finish_running m).machine.heap, refl, finish-spare.1)
-
-  -- AND THE SCRIPT COLLECTION AFTER THOSE THAT END A RUNNING ONE
-  pub gc-spare : UnitsSpare m.heap (gc m)
-  unfolding gc
-  gc-spare =
-      let d : UnitsDone = finish_running m in
-      let first : UnitsSpare m.heap d = finish-spare.0 in
-      let h : Heap = d.machine.heap in
-      let k : Heap = (collect_scripts h).heap in
-      record {
-        sound = collect_scripts-sound h first.sound;
-        colours = collect_scripts-invariant h first.sound;
-        fresh = subst (IsFreshNow k) (sym finish-spare.1) tt;
-        stopped = first.stopped;
-        keeps = keeps-then m.heap h k first.keeps (collect_scripts-keeps h first.sound);
-        spares = spares-then m.heap h k d.events (collect_scripts h).events first.keeps (collect_scripts-keeps h first.sound) first.spares (collect_scripts-spares h first.sound);
-      }
-
 -- Collectors
 
-module _ (v : Keyed) (c : Option Built) (r : RunsIn v c) (memory : List Bool) where
+module _ (v : Keyed) (c : Option Built) (r : RunsAlone v c) (memory : List Bool) where
   -- the units of a collector that runs
   abbrev start : Machine
-  start = with_memory (machine_of v.heap c) memory
+  start = with_memory (machine_with v c) memory
 
-  pub slice-units : (n : ℕ) → UnitsSpare v.heap (slice n (with_memory (machine_of v.heap c) memory))
-  slice-units n = slice-spare start r.order.sound r.colours (RunsIn-fresh v c r) n
+  pub slice-units : (n : ℕ) → UnitsSpare v.heap (slice_cycles n (with_memory (machine_with v c) memory))
+  slice-units n = slice-spare start r.order.sound r.colours (RunsAlone-fresh v c r) n
 
-  pub collect-units : UnitsSpare v.heap (collect (with_memory (machine_of v.heap c) memory))
-  collect-units = collect-spare start r.order.sound r.colours (RunsIn-fresh v c r)
+  pub collect-units : UnitsSpare v.heap (collect_cycles (with_memory (machine_with v c) memory))
+  collect-units = collect-spare start r.order.sound r.colours (RunsAlone-fresh v c r)
 
-  pub gc-units : UnitsSpare v.heap (gc (with_memory (machine_of v.heap c) memory))
-  gc-units = gc-spare start r.order.sound r.colours (RunsIn-fresh v c r)
+  pub finish-units : UnitsSpare v.heap (finish_running (with_memory (machine_with v c) memory))
+  finish-units = (finish-spare start r.order.sound r.colours (RunsAlone-fresh v c r)).0
 
--- what units led to keeps what is reached, where the units do
-led-keeps : (d : UnitsDone) (old new : Machine) (p : Progress) (t t₁ : Telling) → UnitsSpare old.heap d → LedTo d old new p t t₁ → KeepsWhatIsReached old.heap new.heap
-led-keeps d old new p t t₁ u l = subst (KeepsWhatIsReached old.heap) l.same.heap u.keeps
-
--- what they told was told
-led-tells : (d : UnitsDone) (old new : Machine) (p : Progress) (t t₁ : Telling) → LedTo d old new p t t₁ → TellsWhatLeaves old.heap new.heap t t₁
-led-tells d old new p t t₁ l = record { events = d.events; told = l.told; unreached = l.unreached }
-
-module _ (v : Keyed) (c : Option Built) (r : RunsIn v c) (new : Machine) (t t₁ : Telling) where
-  -- A SLICE KEEPS WHAT IS REACHED,
-  pub sliced-keeps : (n : ℕ) (p : Progress) (steps steps_now : ℕ) → IsSliced n (machine_of v.heap c) new p steps steps_now t t₁ → KeepsWhatIsReached v.heap new.heap
-  sliced-keeps n p steps steps_now s =
-      led-keeps (slice n (with_memory (machine_of v.heap c) s.memory)) (machine_of v.heap c) new p t t₁ (slice-units v c r s.memory n) s.led
-
-  -- so does a collection,
-  pub collected-keeps : (p : Progress) → IsCollected (machine_of v.heap c) new p t t₁ → KeepsWhatIsReached v.heap new.heap
-  collected-keeps p s = led-keeps (collect (with_memory (machine_of v.heap c) s.memory)) (machine_of v.heap c) new p t t₁ (collect-units v c r s.memory) s.led
-
-  -- and `gc`.
-  pub swept-keeps : IsSwept (machine_of v.heap c) new t t₁ → KeepsWhatIsReached v.heap new.heap
-  swept-keeps s =
-      let d : UnitsDone = gc (with_memory (machine_of v.heap c) s.memory) in
-      led-keeps d (machine_of v.heap c) new d.progress t t₁ (gc-units v c r s.memory) s.led
-
--- A SLICE TELLS WHAT LEAVES,
-pub sliced-tells : (n : ℕ) (old new : Machine) (p : Progress) (steps steps_now : ℕ) (t t₁ : Telling) → IsSliced n old new p steps steps_now t t₁ →
-    TellsWhatLeaves old.heap new.heap t t₁
-sliced-tells n old new p steps steps_now t t₁ s = led-tells (slice n (with_memory old s.memory)) old new p t t₁ s.led
-
--- so does a collection,
-pub collected-tells : (old new : Machine) (p : Progress) (t t₁ : Telling) → IsCollected old new p t t₁ → TellsWhatLeaves old.heap new.heap t t₁
-collected-tells old new p t t₁ s = led-tells (collect (with_memory old s.memory)) old new p t t₁ s.led
-
--- and `gc`.
-pub swept-tells : (old new : Machine) (t t₁ : Telling) → IsSwept old new t t₁ → TellsWhatLeaves old.heap new.heap t t₁
-swept-tells old new t t₁ s = led-tells (gc (with_memory old s.memory)) old new (gc (with_memory old s.memory)).progress t t₁ s.led
+-- what units led to spares what is reached, where the units do
+pub spared-units : (v : Keyed) (c : Option Built) (w : Keyed) (d : Option Built) (u : UnitsDone) (memory : List Bool) (events : List Event) (p : Progress) →
+    u ≡ units_came (with_memory (machine_with w d) memory) events p → UnitsSpare v.heap u → Keeps v c w d → HasSpared v c w d events
+spared-units v c w d u memory events p is unit k = let s = subst (UnitsSpare v.heap) is unit in record {
+  keeps = s.keeps;
+  spares = s.spares;
+  stands = k.stands;
+  suspected = k.suspected;
+  kept = k.kept;
+}

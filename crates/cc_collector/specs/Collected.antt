@@ -1,4 +1,4 @@
--- WHAT UNITS, COLLECTIONS AND `gc` COME TO, as the plain run does them for some answers of memory.
+-- WHAT UNITS, COLLECTIONS, `gc` AND MARKINGS COME TO, as the plain run does them for some answers of memory.
 use Rattle.std.specs.Prelude.{◌≡◌, ℕ, zero, suc, ◌+◌, Bool, ◌⊎◌, List, Result, Ok, Err}
 use Rattle.cc_lists.specs.Members.{Among}
 use Rattle.cc_names.specs.declared.name.Name.{Name}
@@ -12,7 +12,7 @@ use Rattle.cc_model.specs.Reached.{Reached}
 use Rattle.cc_model.specs.StandsFor.{StandsFor}
 use Rattle.cc_model.specs.Heap.{Heap}
 use Rattle.cc_model.specs.End.{Progress, went_on, at_end, refused}
-use Rattle.cc_model.specs.Collecting.{Machine, UnitsDone, no_units, one_unit, finish_running, slice, collect, gc}
+use Rattle.cc_model.specs.Collecting.{Machine, UnitsDone, no_units, one_unit, one_marked, finish_running, finish_marking, starting_anew, slice, collect, gc, mark}
 use Rattle.cc_laws_run.specs.GivenUp.{IsGivenUp}
 use Rattle.cc_laws_run.specs.Memory.{SameMachine, with_memory}
 use Rattle.cc_gc.specs.Sparing.{SparesWhatIsReached}
@@ -54,13 +54,13 @@ pub record LedTo (d : UnitsDone) (old new : Machine) (progress : Progress) (befo
   pub spares : SparesInEachGraph old.heap d.events
   pub unreached : SparesWhatIsReached old.heap new.heap d.events
 
--- A SLICE of so many units; the counter is raised by as many as count
+-- A SLICE of so many units; the counter is raised by as many as count, those aside that end a marking
 pub record IsSliced (units : ℕ) (old new : Machine) (progress : Progress) (steps steps_now : ℕ) (before after : Telling) : Type 0 where
   pub memory : List Bool
   pub led : LedTo (slice units (with_memory old memory)) old new progress before after
-  pub counted : steps_now ≡ steps + units_counted units (no_units (with_memory old memory))
+  pub counted : steps_now ≡ steps + units_counted units (no_units (finish_marking (with_memory old memory)).machine)
 
--- A COLLECTION, before which a running one was ended
+-- A COLLECTION, before which a marking or a running one was ended
 pub record IsCollected (old new : Machine) (progress : Progress) (before after : Telling) : Type 0 where
   pub memory : List Bool
   pub led : LedTo (collect (with_memory old memory)) old new progress before after
@@ -69,11 +69,31 @@ pub record IsCollected (old new : Machine) (progress : Progress) (before after :
 abbrev pub IsLaterGivenUp : UnitsDone → Heap → Type 0
 IsLaterGivenUp ended h = (¬ (ended.progress ≡ refused)) × IsGivenUp ended.machine.heap ended.machine.snapshot h
 
--- A COLLECTION GIVEN UP left these heaps: the one that ran, or that later one, for some answers of memory
-abbrev pub IsCollectGivenUp : Machine → Heap → Type 0
-IsCollectGivenUp old h = IsGivenUp old.heap old.snapshot h ⊎ ((memory : List Bool) × IsLaterGivenUp (finish_running (with_memory old memory)) h)
+-- A COLLECTION GIVEN UP left these heaps, behind the end of a marking that went on
+abbrev pub IsSliceGivenUp : Machine → Heap → Type 0
+IsSliceGivenUp old h = IsGivenUp (finish_marking old).machine.heap old.snapshot h
 
--- `gc`, which ended a running collection first, whatever that came to
+-- the one that ran, or that later one, for some answers of memory
+abbrev pub IsCollectGivenUp : Machine → Heap → Type 0
+IsCollectGivenUp old h = IsSliceGivenUp old h ⊎ ((memory : List Bool) × IsLaterGivenUp (finish_running (with_memory (finish_marking old).machine memory)) h)
+
+-- how many of n units of a marking are done: until one ends it
+abbrev pub marks_counted : ℕ → UnitsDone → ℕ
+marks_counted zero d = 0
+marks_counted (suc n) d = elim d.progress [
+  | went_on ↦ suc (marks_counted n (one_marked d.machine d.events))
+  | at_end ↦ 0
+  | refused ↦ 0
+]
+
+-- UNITS OF A MARKING, so many at most, which ended a running collection first, whatever that came to; the counter is raised by as many
+-- as were done
+pub record IsMarkedOn (units : ℕ) (old new : Machine) (ended : Ended) (steps steps_now : ℕ) (before after : Telling) : Type 0 where
+  pub memory : List Bool
+  pub led : LedTo (mark units (with_memory old memory)) old new (progress_of (Ok ended)) before after
+  pub counted : steps_now ≡ steps + marks_counted units (starting_anew (finish_running (with_memory old memory)))
+
+-- `gc`, which dropped a marking and ended a running collection first, whatever that came to
 pub record IsSwept (old new : Machine) (before after : Telling) : Type 0 where
   pub memory : List Bool
   pub led : LedTo (gc (with_memory old memory)) old new (gc (with_memory old memory)).progress before after

@@ -18,7 +18,7 @@ ghost use Rattle.cc_heaps.specs.HasKey.{HasKey};
 ghost use Rattle.cc_builder.specs.Beginning.{IsUnseen};
 ghost use Rattle.cc_builder.specs.Building.{IsBuilt, snapshot_of};
 ghost use Rattle.cc_unlink.specs.Whites.{whites_of};
-ghost use Rattle.cc_collector.specs.Kept.{RunsIn};
+ghost use Rattle.cc_collector.specs.Kept.{RunsAlone};
 ghost use Rattle.cc_collector.specs.Collected.{progress_of};
 ghost use Rattle.cc_collector.specs.Units.{HasDoneUnit};
 ghost use Rattle.cc_collector.specs.Sites.{KeepsRoom, Leaves, StandsIn};
@@ -82,7 +82,7 @@ impl Site {
         heaps: &mut Heaps,
         out: &mut N,
     ) -> Result<Ended, NoMemory>
-        requires runs { RunsIn heaps.old self.old.running }
+        requires runs { RunsAlone heaps.old self.old.running }
         ensures done { HasDoneUnit heaps.old self.old.running heaps.new self.new.running (progress_of result) (N.telling out.old) (N.telling out.new) }
         ensures room { KeepsRoom self.old self.new (progress_of result) }
     {
@@ -128,7 +128,7 @@ impl Site {
     #[inline(never)]
     fn end_running<N: Notices>(&mut self, heaps: &mut Heaps, out: &mut N)
         requires running { is_some self.old.running ≡ true }
-        requires runs { RunsIn heaps.old self.old.running }
+        requires runs { RunsAlone heaps.old self.old.running }
         requires traversed { IfSome self.old.running (λ b. first_untraversed (snapshot_of b).nodes ≡ None) }
         requires behind { IfSome self.old.running (λ b. b.next ≡ length b.graph.nodes) }
         ensures done { HasDoneUnit heaps.old self.old.running heaps.new self.new.running at_end (N.telling out.old) (N.telling out.new) }
@@ -143,7 +143,7 @@ impl Site {
     /// Begins a collection in the room that waits, or in a new one where none does.
     #[inline(never)]
     fn begin<N: Notices>(&mut self, heaps: &mut Heaps, out: &mut N) -> Result<Ended, NoMemory>
-        requires runs { RunsIn heaps.old None }
+        requires runs { RunsAlone heaps.old None }
         requires idle { self.old.running ≡ None }
         ensures done { HasDoneUnit heaps.old None heaps.new self.new.running (progress_of result) (N.telling out.old) (N.telling out.new) }
         ensures stands { IfSome self.old.room (λ room. IfSome self.new.running (StandsIn room)) }
@@ -167,7 +167,7 @@ impl Site {
 
     /// Ends a collection, all of whose nodes are traversed or gone. Its room stays.
     fn end<N: Notices>(&mut self, build: Build, heaps: &mut Heaps, out: &mut N)
-        requires runs { RunsIn heaps.old (Some build) }
+        requires runs { RunsAlone heaps.old (Some build) }
         requires idle { self.old.running ≡ None }
         requires traversed { first_untraversed (snapshot_of build).nodes ≡ None }
         requires behind { build.next ≡ length build.graph.nodes }

@@ -1,10 +1,10 @@
-use Rattle.std.proofs.Common.{◌+◌, Ok, subst, ap, arith}
+use Rattle.std.proofs.Common.{◌+◌, Ok, refl, subst, ap, ◌∙◌, arith}
 use Rattle.cc_lists.proofs.KnownBytes.{on_err_of}
 use Rattle.cc_model.proofs.Tellings.{Tells-nil}
 use Rattle.cc_model.specs.End.{Progress, went_on}
 use Rattle.cc_collector.specs.declared.collector.Ended.{Ended}
 use Rattle.cc_collector.specs.Collected.{progress_of}
-use Rattle.cc_collector.specs.Kept.{machine_of}
+use Rattle.cc_collector.specs.Kept.{machine_with}
 use Rattle.cc_collector.specs.Units.{HasDoneUnit}
 use Rattle.cc_collector.proofs.Rows.{HasGoneOn-none, HasGoneOn-more}
 use Rattle.cc_collector.proofs.Keeping.{Keeps-nothing, Keeps-then}
@@ -13,9 +13,10 @@ use Rattle.cc_collector.proofs.collector.Collector.go_to_end.Goals as goal
 
 pub units-init : goal.units-init
 units-init g c = record {
-  so_far = (0, HasGoneOn-none (machine_of c.args.heaps.now.heap c.args.self.now));
+  so_far = (0, HasGoneOn-none (machine_with c.args.heaps.now c.args.self.now.running));
   told = Tells-nil (g.N.Notices.telling c.args.out.now);
-  keeps = Keeps-nothing c.args.heaps.now c.args.self.now c.requires;
+  marking = refl;
+  keeps = Keeps-nothing c.args.heaps.now c.args.self.now.running c.requires;
 }
 
 pub returns-in_err-unit-clause-refused : goal.returns-in_err-unit-clause-refused
@@ -29,15 +30,16 @@ units-preserved g c =
     let telling = g.N.Notices.telling in
     let i = c.units.invariant in
     let v = c.args.heaps.now in
-    let u : HasDoneUnit c.units.heaps c.units.self c.unit.new.heaps c.unit.new.self went_on (telling c.units.out) (telling c.unit.new.out) =
-    subst (λ (p : Progress). HasDoneUnit c.units.heaps c.units.self c.unit.new.heaps c.unit.new.self p (telling c.units.out) (telling c.unit.new.out))
-    (ap (λ (e : Ended). progress_of (Ok e)) c.in-No.is) c.in_ok-unit.ensures in
+    let u : HasDoneUnit c.units.heaps c.units.self.running c.unit.new.heaps c.unit.new.self.running went_on (telling c.units.out) (telling c.unit.new.out) =
+    subst (λ (p : Progress). HasDoneUnit c.units.heaps c.units.self.running c.unit.new.heaps c.unit.new.self.running p (telling c.units.out) (telling c.unit.new.out))
+    (ap (λ (e : Ended). progress_of (Ok e)) c.in-No.is) c.in_ok-unit.ensures.done in
     record {
       so_far = (
         i.so_far.0 + 1,
-        HasGoneOn-more i.so_far.0 (machine_of v.heap c.args.self.now) (machine_of c.units.heaps.heap c.units.self) (machine_of c.unit.new.heaps.heap c.unit.new.self)
+        HasGoneOn-more i.so_far.0 (machine_with v c.args.self.now.running) (machine_with c.units.heaps c.units.self.running) (machine_with c.unit.new.heaps c.unit.new.self.running)
             u.events i.so_far.1 u.unit,
       );
-      told = still-told c.units.heaps c.units.self c.unit.new.heaps c.unit.new.self (telling c.args.out.now) (telling c.units.out) (telling c.unit.new.out) i.told u;
-      keeps = Keeps-then v c.args.self.now c.units.heaps c.units.self c.unit.new.heaps c.unit.new.self i.keeps u.keeps;
+      told = still-told c.units.heaps c.units.self.running c.unit.new.heaps c.unit.new.self.running (telling c.args.out.now) (telling c.units.out) (telling c.unit.new.out) i.told u;
+      marking = c.unit.ensures.marking ∙ i.marking;
+      keeps = Keeps-then v c.args.self.now.running c.units.heaps c.units.self.running c.unit.new.heaps c.unit.new.self.running i.keeps u.keeps;
     }

@@ -1,6 +1,6 @@
 use Rattle.cc_lists.proofs.KnownBytes.{on_err_of}
 use Rattle.cc_gc.proofs.Sparing.{keeps-then}
-use Rattle.cc_collector.proofs.Settling.{tells-then, kept-then, settled-exact}
+use Rattle.cc_collector.proofs.Settling.{all_kept-then, tells-then, settled-exact}
 use Rattle.cc_collector.proofs.NothingLeft.{unsettled-silent}
 use Rattle.cc_collector.proofs.collector.Collector.settle.Goals as goal
 
@@ -17,7 +17,7 @@ pub returns-in_err-whole-clause-suspected : goal.returns-in_err-whole-clause-sus
 returns-in_err-whole-clause-suspected g c = λ s. c.whole.ensures.suspected (c.gc.ensures.suspected s)
 
 pub returns-in_err-whole-clause-kept : goal.returns-in_err-whole-clause-kept
-returns-in_err-whole-clause-kept g c = search (kept-then)
+returns-in_err-whole-clause-kept g c = search (all_kept-then)
 
 -- All is done
 
@@ -37,4 +37,4 @@ pub returns-clause-suspected : goal.returns-clause-suspected
 returns-clause-suspected g c = λ s. c.gc-2.ensures.suspected (c.whole.ensures.suspected (c.gc.ensures.suspected s))
 
 pub returns-clause-kept : goal.returns-clause-kept
-returns-clause-kept g c = search (kept-then)
+returns-clause-kept g c = search (all_kept-then)

@@ -1,5 +1,6 @@
 use Rattle.std.proofs.Common.{[], Option, Some, sym, ◌∙◌, ap, subst}
 use Rattle.cc_model.specs.End.{at_end}
+use Rattle.cc_heaps.specs.Keyed.{Keyed}
 use Rattle.cc_builder.specs.Building.{Built, snapshot_of}
 use Rattle.cc_collector.specs.Units.{HasDoneUnit}
 use Rattle.cc_collector.specs.Sites.{Place}
@@ -19,7 +20,7 @@ returns-clause-done g c =
     let ended = c.collect_white-graph.ensures.ended in
     subst (λ (d : Option Built). HasDoneUnit v (Some b) w d at_end t t₁) (sym (ap (λ (p : Place). p.running) c.self.view_is ∙ c.requires.idle))
     (end-done v b c.blackened.result r traversed whites w t t₁ ended.heap
-    (record { order = ended.kept.order [] r.order; colours = ended.kept.colours r.colours; goes_on = tt })
+    (record { order = ended.kept.order [] r.order; colours = ended.kept.colours r.colours; goes_on = tt; unmarked = ap (λ (k : Keyed). k.marking) ended.heap ∙ r.unmarked })
     (ended.stands (are-apart v b c.blackened.result r traversed whites))
     (ended.suspected (snapshot_of b) (are-white v b c.blackened.result r traversed whites))
     ended.told)

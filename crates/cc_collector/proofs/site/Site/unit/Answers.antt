@@ -1,9 +1,10 @@
 use Rattle.std.proofs.Common.{◌≡◌, ◌≢◌, ◌∙◌, Option, Some, sym, ap, subst, arith}
 use Rattle.cc_model.specs.End.{refused}
+use Rattle.cc_heaps.specs.Keyed.{Keyed}
 use Rattle.cc_builder.specs.declared.build.Step.{Step}
 use Rattle.cc_builder.specs.declared.build.Step.TheVariants.{Traversed, Gone, Complete}
 use Rattle.cc_builder.specs.Building.{Built, snapshot_of}
-use Rattle.cc_collector.specs.Kept.{RunsIn}
+use Rattle.cc_collector.specs.Kept.{RunsAlone}
 use Rattle.cc_collector.specs.Sites.{Place}
 use Rattle.cc_collector.specs.Units.{HasDoneUnit}
 use Rattle.cc_collector.proofs.Keeping.{node-done, node-refused}
@@ -28,9 +29,9 @@ returns-in_default-clause-done g c =
     let e = c.abandon_running.ensures in
     subst (λ (d : Option Built). HasDoneUnit v d w c.abandon_running.new.self.running refused t t₁) (sym runs)
     (subst (λ (d : Option Built). HasDoneUnit v (Some b) w d refused t t₁) (sym (ap (λ (p : Place). p.running) e.over))
-    (node-refused v w b (snapshot_of s).candidates t t₁ (subst (RunsIn v) runs c.requires.runs) c.in_default.ensures.refused
+    (node-refused v w b (snapshot_of s).candidates t t₁ (subst (RunsAlone v) runs c.requires.runs) c.in_default.ensures.refused
     c.step-stepped.ensures.candidates e.heap
-    (record { order = e.unseen.order; colours = e.unseen.colours c.requires.runs.colours; goes_on = tt })
+    (record { order = e.unseen.order; colours = e.unseen.colours c.requires.runs.colours; goes_on = tt; unmarked = ap (λ (k : Keyed). k.marking) e.heap ∙ c.requires.runs.unmarked })
     e.unseen.stands e.suspected e.told))
 
 pub returns-in-Traversed-clause-done : goal.returns-in-Traversed-clause-done
