@@ -2,7 +2,7 @@
 ghost use Rattle.std.specs.Prelude.{◌≡◌, ◌||◌, IsTrue, List};
 ghost use Rattle.cc_names.specs.declared.name.Name.{Name as TheName};
 ghost use Rattle.cc_model.specs.Graph as graph;
-ghost use Rattle.cc_model.specs.Lawful.{is_gc, may_free, may_unlink, may_want_memory, runs_allowed, runs_units, state_of, step_with};
+ghost use Rattle.cc_model.specs.Lawful.{collects, is_gc, may_free, may_unlink, may_want_memory, runs_allowed, runs_units, state_of, step_with};
 ghost use Rattle.cc_model.specs.Mutating.{reads_weakly};
 ghost use Rattle.cc_check.specs.Standing.{lists};
 
@@ -31,22 +31,29 @@ pub(crate) fn runs_units(command: Command) -> bool
     }
 }
 
-/// Whether it may free an object: a script collection any, another command a native alone.
+/// Whether it collects: units of a collection, script objects at once, or units of a marking of them.
+fn collects(command: Command) -> bool
+    ensures { result ≡ collects command }
+{
+    runs_units(command) || is_gc(command)
+}
+
+/// Whether it may free an object: a command that collects any, another a native alone.
 pub(crate) fn may_free(command: Command, name: Name) -> bool
     ensures { result ≡ may_free command name }
 {
     match name {
         Name::Native(_) => true,
-        _ => is_gc(command),
+        _ => collects(command),
     }
 }
 
-/// Whether it may unlink an object: a collection natives, another command none.
+/// Whether it may unlink an object: a command that collects natives, another none.
 pub(crate) fn may_unlink(command: Command, name: Name) -> bool
     ensures { result ≡ may_unlink command name }
 {
     match name {
-        Name::Native(_) => runs_units(command) || is_gc(command),
+        Name::Native(_) => collects(command),
         _ => false,
     }
 }

@@ -5,7 +5,7 @@ use Rattle.cc_names.specs.declared.register.Reg.TheVariants.{N, S}
 use Rattle.cc_model.specs.declared.command.Command.{Command}
 use Rattle.cc_model.specs.declared.dialect.Dialect.{Dialect}
 use Rattle.cc_model.specs.declared.dialect.Dialect.TheVariants.{Start, One, Two}
-use Rattle.cc_model.specs.Forms.{Form, census_form, collect_form, copy_native_form, copy_script_form, deref_form, drop_native_form, drop_script_form, drop_weak_form, expose_form, forget_form, gc_form, get_entry_form, get_native_form, get_script_form, move_form, native_form, preserve_form, proxy_form, put_none_form, put_script_form, script_form, set_entry_form, set_native_form, set_none_form, set_script_form, slice_form, take_form, unset_entry_form, unwrap_form, version_form, weak_form, weak_map_form, why_form, wrap_form}
+use Rattle.cc_model.specs.Forms.{Form, census_form, collect_form, copy_native_form, copy_script_form, deref_form, drop_native_form, drop_script_form, drop_weak_form, expose_form, forget_form, gc_form, get_entry_form, get_native_form, get_script_form, mark_form, move_form, native_form, preserve_form, proxy_form, put_none_form, put_script_form, script_form, set_entry_form, set_native_form, set_none_form, set_script_form, slice_form, take_form, unset_entry_form, unwrap_form, version_form, weak_form, weak_map_form, why_form, wrap_form}
 use Rattle.cc_model.specs.Tokens.{native_register, script_register}
 
 -- what the first form that reads these tokens makes of them
@@ -37,4 +37,4 @@ heap_forms = slice_form ∷ collect_form ∷ gc_form ∷ census_form ∷ []
 abbrev pub own_forms : Dialect → List Form
 own_forms Start = version_form ∷ []
 own_forms One = []
-own_forms Two = move_form Two ∷ why_form ∷ forget_form ∷ weak_form Two ∷ deref_form Two ∷ drop_weak_form ∷ []
+own_forms Two = move_form Two ∷ why_form ∷ forget_form ∷ mark_form ∷ weak_form Two ∷ deref_form Two ∷ drop_weak_form ∷ []

@@ -3,7 +3,7 @@
 ghost use Rattle.std.specs.Prelude.{◌≡◌, ◌<◌, [], ◌∷◌, length, IsTrue, IfSome};
 ghost use Rattle.cc_model.specs.Lines.{without_return};
 ghost use Rattle.cc_model.specs.Tokens.{tokens_of};
-ghost use Rattle.cc_model.specs.Forms.{census_form, collect_form, copy_native_form, copy_script_form, deref_form, drop_native_form, drop_script_form, drop_weak_form, expose_form, forget_form, forms_of, gc_form, get_entry_form, get_native_form, get_script_form, move_form, native_form, preserve_form, proxy_form, put_none_form, put_script_form, script_form, set_entry_form, set_native_form, set_none_form, set_script_form, slice_form, take_form, unset_entry_form, unwrap_form, version_form, weak_form, weak_map_form, why_form, wrap_form};
+ghost use Rattle.cc_model.specs.Forms.{census_form, collect_form, copy_native_form, copy_script_form, deref_form, drop_native_form, drop_script_form, drop_weak_form, expose_form, forget_form, forms_of, gc_form, get_entry_form, get_native_form, get_script_form, mark_form, move_form, native_form, preserve_form, proxy_form, put_none_form, put_script_form, script_form, set_entry_form, set_native_form, set_none_form, set_script_form, slice_form, take_form, unset_entry_form, unwrap_form, version_form, weak_form, weak_map_form, why_form, wrap_form};
 ghost use Rattle.cc_model.specs.Ranges.{in_range};
 ghost use Rattle.cc_model.specs.Asks.{command_in, command_of};
 ghost use Rattle.cc_reader.specs.Words.{first_read, heap_forms, own_forms, reflector_forms, register_forms, slot_forms};
@@ -241,6 +241,15 @@ fn read_forget(after: &[u8]) -> Option<Command>
     }
 }
 
+/// The command of the word `mark`, by the tokens that stand behind it. None where they are in no form of it.
+fn read_mark(after: &[u8]) -> Option<Command>
+    ensures form { result ≡ first_read (mark_form ∷ []) (tokens_of after.now) }
+    ensures in_range { IfSome result (λ c. IsTrue (in_range c)) }
+{
+    let units = one_token(after)?;
+    Some(Command::Mark(units_number(units)?))
+}
+
 /// The command of the word `weak`, by the tokens that stand behind it. None where they are in no form of it.
 fn read_weak(after: &[u8], dialect: Dialect) -> Option<Command>
     ensures form { result ≡ first_read (weak_form dialect ∷ []) (tokens_of after.now) }
@@ -440,6 +449,8 @@ fn read_of_dialect(word: &[u8], after: &[u8], dialect: Dialect) -> Option<Comman
                 read_why(after)
             } else if word == b"forget".as_slice() {
                 read_forget(after)
+            } else if word == b"mark".as_slice() {
+                read_mark(after)
             } else if word == b"weak".as_slice() {
                 read_weak(after, dialect)
             } else if word == b"deref".as_slice() {

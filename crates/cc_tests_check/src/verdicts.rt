@@ -6,6 +6,7 @@ mod part_1;
 mod part_10;
 mod part_11;
 mod part_12;
+mod part_13;
 mod part_2;
 mod part_3;
 mod part_4;

@@ -95,12 +95,30 @@ const OF_WEAK_REGISTERS: &[Row] = &[
     ("copy w0 w1", None),
 ];
 
-/// No line asks this yet.
-const OF_NONE: &[Row] = &[("mark 1", None)];
+/// Units of a marking are asked for with their number, as those of a slice.
+const OF_MARKINGS: &[Row] = &[
+    ("mark 1", Some(Command::Mark(1))),
+    (" mark  1000000 \r", Some(Command::Mark(1_000_000))),
+    ("slice 1000000", Some(Command::Slice(1_000_000))),
+    ("mark", None),
+    ("mark 0", None),
+    ("mark 1000001", None),
+    ("mark 4294967297", None),
+    ("mark 01", None),
+    ("mark -1", None),
+    ("mark 1n", None),
+    ("mark n0", None),
+    ("mark none", None),
+    ("mark 1 1", None),
+    ("mark\t1", None),
+    ("marks 1", None),
+    ("Mark 1", None),
+];
 
 /// Words of version 2 alone.
 const NOT_OF_VERSION_1: &[Row] = &[
     ("forget", None),
+    ("mark 1", None),
     ("weak w0 n0", None),
     ("deref n0 w0", None),
     ("drop w0", None),
@@ -146,8 +164,7 @@ fn lines_ask_what_their_dialect_says(rt: HostRuntime) {
     assert!(rt; ask(Dialect::One, &[(" version  2 \r", None)]));
     assert!(rt; ask(Dialect::Two, OF_VERSION_2));
     assert!(rt; ask(Dialect::Two, OF_PATHS));
-    assert!(rt; ask(Dialect::One, OF_NONE));
-    assert!(rt; ask(Dialect::Two, OF_NONE));
+    assert!(rt; ask(Dialect::Two, OF_MARKINGS));
     assert!(rt; ask(Dialect::Start, NOT_OF_VERSION_1));
     assert!(rt; ask(Dialect::One, NOT_OF_VERSION_1));
     assert!(rt; ask(Dialect::Two, OF_WEAK_REGISTERS));

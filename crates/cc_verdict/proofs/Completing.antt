@@ -19,7 +19,7 @@ use Rattle.cc_model.specs.Answers.{Answer, items_of, no_answer, replying}
 use Rattle.cc_model.specs.Asks.{Ask, bad, long, taken}
 use Rattle.cc_model.specs.Derivations.{is_led_to, leads_made}
 use Rattle.cc_model.specs.Graph.{Graph}
-use Rattle.cc_model.specs.Lawful.{AnswersAsk, State, census_of, is_gc, is_refused, runs_units}
+use Rattle.cc_model.specs.Lawful.{AnswersAsk, State, census_of, collects, is_gc, is_refused, runs_units}
 use Rattle.cc_model.specs.Listed.{after_events, after_reply}
 use Rattle.cc_model.specs.Quiet.{CensusIsQuiet, ListsReached, Row, after_all, after_collect, after_gc, is_done, nothing_yet, row_after}
 use Rattle.cc_model.specs.WellMade.{IsWellMade}
@@ -84,7 +84,9 @@ waste-may : (h : Hearing) (y : Name) → IsWellMade h.graph → is_gc h.command 
 waste-may h y w gc waste =
     let p = and_parts (has same_name h.told.names y) (not (is_led_to (leads_made h.graph) y)) waste in
     record {
-      kind = and_from (is_native y || is_gc h.command) (is_gc h.command || not h.told.abandoned) (or_right (is_native y) (is_gc h.command) gc) (or_left (is_gc h.command) (not h.told.abandoned) gc);
+      kind = and_from (is_native y || collects h.command) (is_gc h.command || not h.told.abandoned)
+          (or_right (is_native y) (collects h.command) (or_right (runs_units h.command) (is_gc h.command) gc))
+          (or_left (is_gc h.command) (not h.told.abandoned) gc);
       garbage = (has-among same_name same_name-exact h.told.names y p.0, λ r. false≢true (sym (ap not (reached-led h.graph w y r)) ∙ p.1));
     }
 

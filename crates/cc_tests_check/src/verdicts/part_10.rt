@@ -6,6 +6,39 @@ use crate::example::{Example, are_judged};
 use cc_check::Verdict;
 
 const EXAMPLES: [Example; 20] = [
+    // An object does not follow from itself.
+    Example {
+        name: "follows_from_itself",
+        natives: 1000000,
+        scripts: 1000000,
+        bytes: 4294967295,
+        script: b"version 2\nnative n0 1\nset n0 0 n0\ndrop n0\nwhy #1\n",
+        transcript: b"= ok\n= #1\n= ok\n= ok\n: #1 #1\n= ok\n",
+        verdict: Verdict::Unlawful,
+        told: b"line 5, answer to line 5 (why #1): the answer ends here: = none\n",
+    },
+    // The value of an entry follows from its map and its key, in this order.
+    Example {
+        name: "key_is_told_for_the_map",
+        natives: 1000000,
+        scripts: 1000000,
+        bytes: 4294967295,
+        script: b"version 2\nweakmap s0\nscript s1 0\nscript s2 0\nwset s0 s1 s2\ndrop s2\nwhy @3\n",
+        transcript: b"= ok\n= @1\n= @2\n= @3\n= ok\n= ok\n: @1 s0\n: @2 s1\n: @3 @2 @1\n= ok\n",
+        verdict: Verdict::Unlawful,
+        told: b"line 9, answer to line 7 (why @3): the step here is : @3 @1 @2\n",
+    },
+    // The value of an entry does not follow from its map alone.
+    Example {
+        name: "value_follows_from_its_map",
+        natives: 1000000,
+        scripts: 1000000,
+        bytes: 4294967295,
+        script: b"version 2\nweakmap s0\nscript s1 0\nscript s2 0\nwset s0 s1 s2\ndrop s2\nwhy @3\n",
+        transcript: b"= ok\n= @1\n= @2\n= @3\n= ok\n= ok\n: @1 s0\n: @3 @1\n= ok\n",
+        verdict: Verdict::Unlawful,
+        told: b"line 8, answer to line 7 (why @3): the step here is : @2 s1\n",
+    },
     // The value of an entry does not follow where no register reaches its key.
     Example {
         name: "value_follows_without_its_key",
@@ -192,39 +225,6 @@ const EXAMPLES: [Example; 20] = [
         transcript: b"= ok\n= #1\n! line\n",
         verdict: Verdict::Unlawful,
         told: b"line 3, answer to line 3 (why #1): the step here is : #1 n0\n",
-    },
-    // Why frees nothing, not even what no register reaches.
-    Example {
-        name: "freed_by_why",
-        natives: 1000000,
-        scripts: 1000000,
-        bytes: 4294967295,
-        script: b"version 2\nnative n0 0\ndrop n0\nnative n1 0\nwhy #2\n",
-        transcript: b"= ok\n= #1\n= ok\n= #2\n- free #1\n: #2 n1\n= ok\n",
-        verdict: Verdict::Unlawful,
-        told: b"line 5, answer to line 5 (why #2): the step here is : #2 n1\n",
-    },
-    // Why frees nothing where it finds nothing.
-    Example {
-        name: "freed_by_why_of_itself",
-        natives: 1000000,
-        scripts: 1000000,
-        bytes: 4294967295,
-        script: b"version 2\nnative n0 0\ndrop n0\nwhy #1\n",
-        transcript: b"= ok\n= #1\n= ok\n- free #1\n= none\n",
-        verdict: Verdict::Unlawful,
-        told: b"line 4, answer to line 4 (why #1): the answer ends here: = none\n",
-    },
-    // Why abandons no collection, also where memory is refused.
-    Example {
-        name: "why_abandons",
-        natives: 1000000,
-        scripts: 1000000,
-        bytes: 4294967295,
-        script: b"version 2\nslice 1\nwhy #1\n",
-        transcript: b"= ok\n= ok\n- abandon\n! nomem\n",
-        verdict: Verdict::Unlawful,
-        told: b"line 3, answer to line 3 (why #1): the answer ends here: = none\n",
     },
 ];
 

@@ -6,6 +6,39 @@ use crate::example::{Example, are_judged};
 use cc_check::Verdict;
 
 const EXAMPLES: [Example; 20] = [
+    // Why frees nothing, not even what no register reaches.
+    Example {
+        name: "freed_by_why",
+        natives: 1000000,
+        scripts: 1000000,
+        bytes: 4294967295,
+        script: b"version 2\nnative n0 0\ndrop n0\nnative n1 0\nwhy #2\n",
+        transcript: b"= ok\n= #1\n= ok\n= #2\n- free #1\n: #2 n1\n= ok\n",
+        verdict: Verdict::Unlawful,
+        told: b"line 5, answer to line 5 (why #2): the step here is : #2 n1\n",
+    },
+    // Why frees nothing where it finds nothing.
+    Example {
+        name: "freed_by_why_of_itself",
+        natives: 1000000,
+        scripts: 1000000,
+        bytes: 4294967295,
+        script: b"version 2\nnative n0 0\ndrop n0\nwhy #1\n",
+        transcript: b"= ok\n= #1\n= ok\n- free #1\n= none\n",
+        verdict: Verdict::Unlawful,
+        told: b"line 4, answer to line 4 (why #1): the answer ends here: = none\n",
+    },
+    // Why abandons no collection, also where memory is refused.
+    Example {
+        name: "why_abandons",
+        natives: 1000000,
+        scripts: 1000000,
+        bytes: 4294967295,
+        script: b"version 2\nslice 1\nwhy #1\n",
+        transcript: b"= ok\n= ok\n- abandon\n! nomem\n",
+        verdict: Verdict::Unlawful,
+        told: b"line 3, answer to line 3 (why #1): the answer ends here: = none\n",
+    },
     // A native that no register reaches is gone after gc, collect and gc.
     Example {
         name: "garbage_is_kept",
@@ -190,39 +223,6 @@ const EXAMPLES: [Example; 20] = [
         bytes: 4294967295,
         script: b"version 2\nnative n0 0\nweak w0 n0\ndrop n0\nderef n1 w0\ncensus\n",
         transcript: b"= ok\n= #1\n= #1\n- free #1\n= ok\n= none\n= census 0\n",
-        verdict: Verdict::Lawful,
-        told: b"lawful\n",
-    },
-    // What no register reaches and what has not ended is given, and is reached again.
-    Example {
-        name: "garbage_is_brought_back",
-        natives: 1000000,
-        scripts: 1000000,
-        bytes: 4294967295,
-        script: b"version 2\nnative n0 1\nset n0 0 n0\nweak w0 n0\ndrop n0\nderef n1 w0\ngc\ncollect\ngc\ncensus\n",
-        transcript: b"= ok\n= #1\n= ok\n= #1\n= ok\n= #1\n= ok\n= ok\n= ok\n+ #1\n= census 1\n",
-        verdict: Verdict::Lawful,
-        told: b"lawful\n",
-    },
-    // A native that was unlinked has ended, though a census lists it still.
-    Example {
-        name: "unlinked_native_is_given_no_more",
-        natives: 1000000,
-        scripts: 1000000,
-        bytes: 4294967295,
-        script: b"version 2\nnative n0 1\nset n0 0 n0\nweak w0 n0\ndrop n0\ncollect\nderef n1 w0\ncensus\n",
-        transcript: b"= ok\n= #1\n= ok\n= #1\n= ok\n- unlink #1\n= ok\n= none\n+ #1\n= census 1\n",
-        verdict: Verdict::Lawful,
-        told: b"lawful\n",
-    },
-    // A weak register that was emptied gives nothing.
-    Example {
-        name: "weak_register_is_emptied",
-        natives: 1000000,
-        scripts: 1000000,
-        bytes: 4294967295,
-        script: b"version 2\nnative n0 0\nweak w0 n0\ndrop w0\nderef n1 w0\n",
-        transcript: b"= ok\n= #1\n= #1\n= ok\n= none\n",
         verdict: Verdict::Lawful,
         told: b"lawful\n",
     },

@@ -39,9 +39,9 @@ const EXAMPLES: [Example; 20] = [
         verdict: Verdict::Unlawful,
         told: b"line 3: nothing is asked any more\n",
     },
-    // Script objects are freed under gc alone.
+    // Script objects are freed by a slice, a collect, a gc or a mark alone.
     Example {
-        name: "script_object_freed_without_gc",
+        name: "script_object_freed_by_what_does_not_collect",
         natives: 1000000,
         scripts: 1000000,
         bytes: 4294967295,

@@ -50,38 +50,60 @@ const EXAMPLES: [Example; 20] = [
         verdict: Verdict::Unlawful,
         told: b"line 2, answer to line 2 (drop s0): @1 is freed, and this command may not free it\n",
     },
-    // A slice frees no script object.
+    // A drop frees no reflector, though it may free the native.
     Example {
-        name: "script_object_is_freed_by_a_slice",
+        name: "reflector_is_freed_by_a_drop",
         natives: 1000000,
         scripts: 1000000,
         bytes: 4294967295,
-        script: b"script s0 0\ndrop s0\nslice 1\n",
-        transcript: b"= @1\n= ok\n- free @1\n= ok\n",
+        script: b"native n0 0\nwrap s0 n0\ndrop s0\ndrop n0\n",
+        transcript: b"= #1\n= ~1\n= ok\n- free #1\n- free ~1\n= ok\n",
         verdict: Verdict::Unlawful,
-        told: b"line 3, answer to line 3 (slice 1): @1 is freed, and this command may not free it\n",
+        told: b"line 5, answer to line 4 (drop n0): ~1 is freed, and this command may not free it\n",
     },
-    // A collect frees no script object.
+    // A put frees no script object, also what its slot held.
     Example {
-        name: "script_object_is_freed_by_a_collect",
+        name: "script_object_is_freed_by_a_put",
         natives: 1000000,
         scripts: 1000000,
         bytes: 4294967295,
-        script: b"script s0 0\ndrop s0\ncollect\n",
-        transcript: b"= @1\n= ok\n- free @1\n= ok\n",
+        script: b"script s0 1\nscript s1 0\nput s0 0 s1\ndrop s1\nput s0 0 none\n",
+        transcript: b"= @1\n= @2\n= ok\n= ok\n- free @2\n= ok\n",
         verdict: Verdict::Unlawful,
-        told: b"line 3, answer to line 3 (collect): @1 is freed, and this command may not free it\n",
+        told: b"line 5, answer to line 5 (put s0 0 none): @2 is freed, and this command may not free it\n",
     },
-    // A collect frees no reflector.
+    // The making of a script object frees none, also what its register held.
     Example {
-        name: "reflector_is_freed_by_a_collect",
+        name: "script_object_is_freed_by_the_making_of_another",
         natives: 1000000,
         scripts: 1000000,
         bytes: 4294967295,
-        script: b"native n0 0\nwrap s0 n0\ndrop s0\ncollect\n",
-        transcript: b"= #1\n= ~1\n= ok\n- free ~1\n= ok\n",
+        script: b"script s0 0\nscript s0 0\n",
+        transcript: b"= @1\n- free @1\n= @2\n",
         verdict: Verdict::Unlawful,
-        told: b"line 4, answer to line 4 (collect): ~1 is freed, and this command may not free it\n",
+        told: b"line 2, answer to line 2 (script s0 0): @1 is freed, and this command may not free it\n",
+    },
+    // A slice may free script objects, but none that a held native has in a slot.
+    Example {
+        name: "script_object_is_freed_by_a_slice_while_a_native_holds_it",
+        natives: 1000000,
+        scripts: 1000000,
+        bytes: 4294967295,
+        script: b"native n0 1\nscript s0 0\nset n0 0 s0\ndrop s0\nslice 1\n",
+        transcript: b"= #1\n= @1\n= ok\n= ok\n- free @1\n= ok\n",
+        verdict: Verdict::Unlawful,
+        told: b"line 5, answer to line 5 (slice 1): @1 is freed, but n0 leads to it: n0 #1, #1 @1\n",
+    },
+    // A collect may free script objects, but no value of a held map and a held key.
+    Example {
+        name: "value_is_freed_by_a_collect_while_map_and_key_are_held",
+        natives: 1000000,
+        scripts: 1000000,
+        bytes: 4294967295,
+        script: b"weakmap s0\nscript s1 0\nwset s0 s0 s1\ndrop s1\ncollect\n",
+        transcript: b"= @1\n= @2\n= ok\n= ok\n- free @2\n= ok\n",
+        verdict: Verdict::Unlawful,
+        told: b"line 5, answer to line 5 (collect): @2 is freed, but s0 leads to it: s0 @1, @1 @1 @2\n",
     },
     // A native that was not made yet may not be unlinked.
     Example {
@@ -203,28 +225,6 @@ const EXAMPLES: [Example; 20] = [
         transcript: b"= #1\n= #2\n= #3\n= ok\n= ok\n= ok\n- unlink #3\n- unlink #2\n- unlink #1\n= ok\n",
         verdict: Verdict::Unlawful,
         told: b"line 9, answer to line 7 (collect): #1 is unlinked, and its number does not rise\n",
-    },
-    // A slice that is refused memory abandons its collection.
-    Example {
-        name: "refused_slice_abandons_nothing",
-        natives: 1000000,
-        scripts: 1000000,
-        bytes: 4294967295,
-        script: b"slice 1\n",
-        transcript: b"! nomem\n",
-        verdict: Verdict::Unlawful,
-        told: b"line 1, answer to line 1 (slice 1): the reply is = ok\n",
-    },
-    // A collect that is refused memory abandons its collection.
-    Example {
-        name: "refused_collect_abandons_nothing",
-        natives: 1000000,
-        scripts: 1000000,
-        bytes: 4294967295,
-        script: b"collect\n",
-        transcript: b"! nomem\n",
-        verdict: Verdict::Unlawful,
-        told: b"line 1, answer to line 1 (collect): the reply is = ok\n",
     },
 ];
 

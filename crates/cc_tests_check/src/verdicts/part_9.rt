@@ -6,6 +6,28 @@ use crate::example::{Example, are_judged};
 use cc_check::Verdict;
 
 const EXAMPLES: [Example; 20] = [
+    // A slice that is refused memory abandons its collection.
+    Example {
+        name: "refused_slice_abandons_nothing",
+        natives: 1000000,
+        scripts: 1000000,
+        bytes: 4294967295,
+        script: b"slice 1\n",
+        transcript: b"! nomem\n",
+        verdict: Verdict::Unlawful,
+        told: b"line 1, answer to line 1 (slice 1): the reply is = ok\n",
+    },
+    // A collect that is refused memory abandons its collection.
+    Example {
+        name: "refused_collect_abandons_nothing",
+        natives: 1000000,
+        scripts: 1000000,
+        bytes: 4294967295,
+        script: b"collect\n",
+        transcript: b"! nomem\n",
+        verdict: Verdict::Unlawful,
+        told: b"line 1, answer to line 1 (collect): the reply is = ok\n",
+    },
     // A slice abandons a collection once at most.
     Example {
         name: "refused_slice_abandons_twice",
@@ -27,6 +49,17 @@ const EXAMPLES: [Example; 20] = [
         transcript: b"= #1\n= ok\n- abandon\n- free #1\n! nomem\n",
         verdict: Verdict::Unlawful,
         told: b"line 4, answer to line 3 (collect): #1 is freed behind an abandonment\n",
+    },
+    // No script object is freed behind the abandonment of a collection that was refused memory.
+    Example {
+        name: "script_object_is_freed_after_the_abandonment",
+        natives: 1000000,
+        scripts: 1000000,
+        bytes: 4294967295,
+        script: b"script s0 0\ndrop s0\nslice 1\n",
+        transcript: b"= @1\n= ok\n- abandon\n- free @1\n! nomem\n",
+        verdict: Verdict::Unlawful,
+        told: b"line 4, answer to line 3 (slice 1): @1 is freed behind an abandonment\n",
     },
     // A slice that abandons its collection was refused memory.
     Example {
@@ -192,39 +225,6 @@ const EXAMPLES: [Example; 20] = [
         transcript: b"= ok\n= #1\n= #2\n= #3\n= ok\n= ok\n= ok\n: #2 n1\n: #3 #2\n= ok\n",
         verdict: Verdict::Unlawful,
         told: b"line 8, answer to line 8 (why #3): the step here is : #1 n0\n",
-    },
-    // An object does not follow from itself.
-    Example {
-        name: "follows_from_itself",
-        natives: 1000000,
-        scripts: 1000000,
-        bytes: 4294967295,
-        script: b"version 2\nnative n0 1\nset n0 0 n0\ndrop n0\nwhy #1\n",
-        transcript: b"= ok\n= #1\n= ok\n= ok\n: #1 #1\n= ok\n",
-        verdict: Verdict::Unlawful,
-        told: b"line 5, answer to line 5 (why #1): the answer ends here: = none\n",
-    },
-    // The value of an entry follows from its map and its key, in this order.
-    Example {
-        name: "key_is_told_for_the_map",
-        natives: 1000000,
-        scripts: 1000000,
-        bytes: 4294967295,
-        script: b"version 2\nweakmap s0\nscript s1 0\nscript s2 0\nwset s0 s1 s2\ndrop s2\nwhy @3\n",
-        transcript: b"= ok\n= @1\n= @2\n= @3\n= ok\n= ok\n: @1 s0\n: @2 s1\n: @3 @2 @1\n= ok\n",
-        verdict: Verdict::Unlawful,
-        told: b"line 9, answer to line 7 (why @3): the step here is : @3 @1 @2\n",
-    },
-    // The value of an entry does not follow from its map alone.
-    Example {
-        name: "value_follows_from_its_map",
-        natives: 1000000,
-        scripts: 1000000,
-        bytes: 4294967295,
-        script: b"version 2\nweakmap s0\nscript s1 0\nscript s2 0\nwset s0 s1 s2\ndrop s2\nwhy @3\n",
-        transcript: b"= ok\n= @1\n= @2\n= @3\n= ok\n= ok\n: @1 s0\n: @3 @1\n= ok\n",
-        verdict: Verdict::Unlawful,
-        told: b"line 8, answer to line 7 (why @3): the step here is : @2 s1\n",
     },
 ];
 
