@@ -9,3 +9,4 @@ mod part_2;
 mod part_3;
 mod part_4;
 mod part_5;
+mod part_6;

@@ -35,3 +35,21 @@ pub brought_back_while_a_begin_is_refused : Works default_limits (refused_at 2) 
     (codes "= ok\n= #1\n= ok\n= #1\n= ok\n- abandon\n! nomem\n= #1\n= ok\n- unlink #1\n- free #1\n= ok\n= none\n")
 unfolding all_of_a_run
 brought_back_while_a_begin_is_refused = record { writes = refl; passes = refl; audited = refl }
+
+-- What is read from a slot while a marking goes on, and taken out of it, is kept; what nothing holds is freed.
+pub object_read_between_units_is_kept : Works default_limits ample input.object_read_between_units_is_kept
+    (codes "= ok\n= @1\n= @2\n= ok\n= ok\n= @3\n= ok\n= ok\n= @2\n= ok\n- free @3\n= ok\n")
+unfolding all_of_a_run
+object_read_between_units_is_kept = record { writes = refl; passes = refl; audited = refl }
+
+-- A slice ends the marking that goes on, outside its units, and frees what has no mark.
+pub slice_ends_a_marking_first : Works default_limits ample input.slice_ends_a_marking_first
+    (codes "= ok\n= @1\n= ok\n= ok\n- free @1\n= ok\n")
+unfolding all_of_a_run
+slice_ends_a_marking_first = record { writes = refl; passes = refl; audited = refl }
+
+-- Two units, that of the beginning and that of the end, are a whole marking where there is nothing to scan.
+pub marking_of_nothing : Works default_limits ample input.marking_of_nothing
+    (codes "= ok\n= ok\n= ok\n= @1\n= ok\n= ok\n- free @1\n= ok\n= ok\n= ok\n= census 0\n")
+unfolding all_of_a_run
+marking_of_nothing = record { writes = refl; passes = refl; audited = refl }

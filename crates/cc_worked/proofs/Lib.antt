@@ -42,4 +42,9 @@ pub mod Examples32
 pub mod Examples33
 pub mod Examples34
 pub mod Examples35
+pub mod Examples36
+pub mod Examples37
+pub mod Examples38
+pub mod Examples39
+pub mod Examples40
 pub mod Examples

@@ -117,6 +117,16 @@ abbrev pub slice_between : Transcript
 slice_between = answered (codes "native n0 0\ndrop n0\ngc\nslice 1\ncollect\ngc\ncensus\n")
     (made (native 1) ∷ ok ∷ ok ∷ ok ∷ ok ∷ ok ∷ lists (native 1 ∷ []) ∷ [])
 
+-- Units of a marking end the row.
+abbrev pub mark_between : Transcript
+mark_between = answered (codes "version 2\nnative n0 0\ndrop n0\ngc\nmark 9\ncollect\ngc\ncensus\n")
+    (ok ∷ made (native 1) ∷ ok ∷ ok ∷ ok ∷ ok ∷ ok ∷ lists (native 1 ∷ []) ∷ [])
+
+-- A mark is no gc.
+abbrev pub mark_in_place_of_the_last_gc : Transcript
+mark_in_place_of_the_last_gc = answered (codes "version 2\nscript s0 0\ndrop s0\ngc\ncollect\nmark 9\ncensus\n")
+    (ok ∷ made (object 1) ∷ ok ∷ ok ∷ ok ∷ ok ∷ lists (object 1 ∷ []) ∷ [])
+
 -- A collect that was refused memory ends the row.
 abbrev pub collect_without_memory : Transcript
 collect_without_memory = answered (codes "native n0 0\ndrop n0\ngc\ncollect\ngc\ncensus\n")

@@ -1109,3 +1109,159 @@ weak_registers_take_no_memory = codes "version 2\nnative n0 1\nweak w0 n0\nderef
 -- A collection that is refused its memory at its begin ends no native, and a weak register gives what it gave.
 abbrev pub brought_back_while_a_begin_is_refused : List ℕ
 brought_back_while_a_begin_is_refused = codes "version 2\nnative n0 1\nset n0 0 n0\nweak w0 n0\ndrop n0\ncollect\nderef n1 w0\ndrop n1\ncollect\nderef n1 w0\n"
+
+-- What is read from a slot while a marking goes on, and taken out of it, is kept; what nothing holds is freed.
+abbrev pub object_read_between_units_is_kept : List ℕ
+object_read_between_units_is_kept = codes "version 2\nscript s0 1\nscript s1 0\nput s0 0 s1\ndrop s1\nscript s2 0\ndrop s2\nmark 1\ntake s1 s0 0\nput s0 0 none\nmark 9\n"
+
+-- A slice ends the marking that goes on, outside its units, and frees what has no mark.
+abbrev pub slice_ends_a_marking_first : List ℕ
+slice_ends_a_marking_first = codes "version 2\nscript s0 0\ndrop s0\nmark 1\nslice 1\n"
+
+-- Two units, that of the beginning and that of the end, are a whole marking where there is nothing to scan.
+abbrev pub marking_of_nothing : List ℕ
+marking_of_nothing = codes "version 2\nmark 1\nmark 1\nscript s0 0\ndrop s0\nmark 1\nmark 1\nmark 2\nmark 1000000\ncensus\n"
+
+-- A marking has a unit for its beginning, one for each object that is scanned, and one for its end.
+abbrev pub units_of_a_marking : List ℕ
+units_of_a_marking = codes "version 2\nscript s0 1\nscript s1 1\nscript s2 0\nput s0 0 s1\ndrop s1\ndrop s2\nmark 3\ncensus\nmark 1\ncensus\n"
+
+-- Units that are left when a marking ends begin no second one.
+abbrev pub no_second_marking_begins : List ℕ
+no_second_marking_begins = codes "version 2\nscript s0 0\ndrop s0\nmark 9\nscript s0 0\ndrop s0\nmark 1\nscript s1 0\ndrop s1\nmark 1\nmark 2\n"
+
+-- A script object that is made while a marking goes on outlives it, and is freed by the next one.
+abbrev pub object_made_during_a_marking_stays : List ℕ
+object_made_during_a_marking_stays = codes "version 2\nmark 1\nscript s0 1\nput s0 0 s0\ndrop s0\nweakmap s0\nproxy s1 s0\ndrop s1\ndrop s0\nmark 9\ncensus\nmark 9\n"
+
+-- A script object that is stored, read and taken out of its slots between units is held by registers at each of them, and kept.
+abbrev pub held_by_registers_alone : List ℕ
+held_by_registers_alone = codes "version 2\nscript s0 1\nscript s1 1\nscript s2 0\nput s0 0 s2\ndrop s2\nmark 1\ntake s3 s0 0\nput s0 0 none\nmark 1\nput s1 0 s3\ndrop s3\nmark 1\ntake s2 s1 0\nput s1 0 none\nmark 1\ncensus\ndrop s2\nmark 9\n"
+
+-- The tail of a chain is stored in an object that was scanned, and is kept with all that it holds.
+abbrev pub tail_moves_in_front_of_the_scan : List ℕ
+tail_moves_in_front_of_the_scan = codes "version 2\nscript s0 2\nscript s1 1\nscript s2 1\nscript s3 1\nscript s4 0\nput s3 0 s4\nput s2 0 s3\nput s1 0 s2\nput s0 0 s1\ndrop s1\ndrop s2\ndrop s3\ndrop s4\nmark 2\ntake s1 s0 0\ntake s2 s1 0\ntake s3 s2 0\nput s2 0 none\nput s0 1 s3\ndrop s1\ndrop s2\ndrop s3\nmark 9\ncensus\nput s0 0 none\nmark 9\n"
+
+-- What the first object of the black list holds is scanned last: with two units it is not marked yet.
+abbrev pub black_list_is_scanned_in_order : List ℕ
+black_list_is_scanned_in_order = codes "version 2\nscript s0 1\nscript s1 1\nscript s2 0\nput s1 0 s2\ndrop s2\nmark 2\nput s1 0 none\nmark 9\n"
+
+-- With a third unit the second object was scanned, and what its slot held stays though it is taken out.
+abbrev pub scanned_before_its_slot_is_emptied : List ℕ
+scanned_before_its_slot_is_emptied = codes "version 2\nscript s0 1\nscript s1 1\nscript s2 0\nput s1 0 s2\ndrop s2\nmark 3\nput s1 0 none\nmark 9\nmark 9\n"
+
+-- A black object is scanned before gray ones: with two units what it held is marked, and stays though it is taken out.
+abbrev pub gray_objects_are_scanned_last : List ℕ
+gray_objects_are_scanned_last = codes "version 2\nnative n0 1\nscript s0 0\nset n0 0 s0\ndrop s0\nscript s1 1\nscript s2 0\nput s1 0 s2\ndrop s2\nmark 2\nput s1 0 none\nmark 9\nmark 9\n"
+
+-- What is black by the old mark and gray by the new one is exposed with all that it holds, so a slot that is emptied afterwards frees nothing.
+abbrev pub gray_by_the_new_mark_is_exposed : List ℕ
+gray_by_the_new_mark_is_exposed = codes "version 2\nnative n0 1\nscript s0 1\nscript s1 0\nput s0 0 s1\nset n0 0 s0\ndrop s0\ndrop s1\nmark 1\nget s0 n0 0\ntake s1 s0 0\nput s0 0 none\nset n0 0 none\nmark 9\ncensus\n"
+
+-- An exposed object leaves the gray list, and goes on no other: one unit more ends the marking.
+abbrev pub exposed_object_is_not_scanned : List ℕ
+exposed_object_is_not_scanned = codes "version 2\nnative n0 1\nscript s0 1\nscript s1 0\nput s0 0 s1\nset n0 0 s0\ndrop s0\ndrop s1\nscript s2 0\ndrop s2\nmark 1\nget s0 n0 0\nmark 1\n"
+
+-- What is gray by the old mark and by the new one is exposed by both: it is kept, and then freed.
+abbrev pub gray_by_both_marks_is_exposed : List ℕ
+gray_by_both_marks_is_exposed = codes "version 2\nnative n0 1\nscript s0 1\nscript s1 0\nput s0 0 s1\nset n0 0 s0\ndrop s0\ndrop s1\ngc\nmark 1\nget s0 n0 0\nset n0 0 none\ndrop s0\nmark 9\ncensus\nmark 9\n"
+
+-- The value of an entry is exposed where it is read, and what it holds with it, though it is black by the old mark and has no new one.
+abbrev pub value_without_a_mark_is_exposed : List ℕ
+value_without_a_mark_is_exposed = codes "version 2\nweakmap s0\nscript s1 0\nscript s2 1\nscript s3 0\nput s2 0 s3\nwset s0 s1 s2\ndrop s2\ndrop s3\nmark 1\nwget s2 s0 s1\ntake s3 s2 0\nput s2 0 none\nwset s0 s1 none\ndrop s2\nmark 9\ncensus\nmark 9\n"
+
+-- What the word exposes is kept by the marking, though its native lets it go.
+abbrev pub expose_exposes_into_new_marks : List ℕ
+expose_exposes_into_new_marks = codes "version 2\nnative n0 1\nscript s0 1\nscript s1 0\nput s0 0 s1\nset n0 0 s0\ndrop s0\ndrop s1\nmark 1\nexpose n0 0\nset n0 0 none\nmark 9\ncensus\nmark 9\n"
+
+-- A script object that is moved from slot to slot between units is kept by the marking with what it holds, and freed by the next one.
+abbrev pub move_exposes_into_new_marks : List ℕ
+move_exposes_into_new_marks = codes "version 2\nnative n0 1\nscript s0 1\nscript s1 0\nput s0 0 s1\nset n0 0 s0\ndrop s0\ndrop s1\nmark 1\nnative n1 1\nmove n1 0 n0 0\nset n1 0 none\nmark 9\ncensus\nmark 9\n"
+
+-- The value of an entry is kept where it was read while a marking went on, though the entry was replaced and taken out.
+abbrev pub entry_gives_into_new_marks : List ℕ
+entry_gives_into_new_marks = codes "version 2\nweakmap s0\nscript s1 0\nscript s2 0\nwset s0 s1 s2\ndrop s2\nscript s3 0\nmark 2\nwget s4 s0 s1\nwset s0 s1 s3\ndrop s3\nmark 1\nwget s5 s0 s1\nwset s0 s1 none\nmark 9\ncensus\ndrop s4\ndrop s5\nmark 9\n"
+
+-- What an entry gave and nobody read goes where the entry is replaced, and the key keeps the new value alone.
+abbrev pub entry_is_replaced_between_units : List ℕ
+entry_is_replaced_between_units = codes "version 2\nweakmap s0\nscript s1 0\nscript s2 0\nscript s3 0\nwset s0 s1 s2\ndrop s2\nmark 1\nwset s0 s1 s3\ndrop s3\nmark 9\ncensus\ndrop s1\nmark 9\n"
+
+-- Values are marked at the end of a marking, one after the other along a chain of entries, and the entries of a dead map give none.
+abbrev pub entries_are_marked_at_the_end : List ℕ
+entries_are_marked_at_the_end = codes "version 2\nweakmap s0\nscript s1 0\nscript s2 1\nscript s3 0\nscript s4 0\nwset s0 s1 s2\nput s2 0 s3\nwset s0 s3 s4\nweakmap s5\nscript s6 0\nwset s5 s1 s6\ndrop s2\ndrop s3\ndrop s4\ndrop s5\ndrop s6\nmark 9\ncensus\ndrop s1\nmark 9\n"
+
+-- The delegate of a proxy is marked where the proxy is scanned, though no register holds it.
+abbrev pub delegate_is_scanned : List ℕ
+delegate_is_scanned = codes "version 2\nweakmap s2\nproxy s1 s2\ncopy s2 s3\nmark 1\nmark 1\nmark 9\ncensus\n"
+
+-- A proxy that is a key stays with its map and its delegate, and the value with it.
+abbrev pub proxy_key_stays_at_the_end : List ℕ
+proxy_key_stays_at_the_end = codes "version 2\nweakmap s0\nscript s3 1\nproxy s1 s3\nscript s2 2\nwset s0 s1 s2\ndrop s1\nmark 3\nmark 3\ndrop s2\ndrop s3\nmark 9\ncensus\n"
+
+-- A reflector that was swept is made anew while a marking goes on, and outlives that.
+abbrev pub reflector_is_wrapped_again : List ℕ
+reflector_is_wrapped_again = codes "version 2\nnative n0 0\nwrap s0 n0\ndrop s0\nmark 9\nmark 1\nwrap s1 n0\ndrop s1\nmark 9\ncensus\nmark 9\n"
+
+-- The reflector that is there is given by wrap, and exposed, though nothing had marked it.
+abbrev pub reflector_without_a_mark_is_wrapped : List ℕ
+reflector_without_a_mark_is_wrapped = codes "version 2\nnative n0 0\nwrap s0 n0\ndrop s0\nmark 1\nwrap s1 n0\ndrop s1\nmark 9\ncensus\nmark 9\n"
+
+-- A marking frees a reflector, and then the native that this alone held.
+abbrev pub marked_reflector_gives_up_its_native : List ℕ
+marked_reflector_gives_up_its_native = codes "version 2\nnative n0 0\nwrap s0 n0\nnative n1 1\nset n1 0 n0\ndrop n0\ndrop s0\nmark 9\nwrap s0 n0\nget n0 n1 0\nwrap s0 n0\ndrop n0\ndrop n1\ndrop s0\ncensus\nmark 9\ncensus\n"
+
+-- A cycle through both heaps is found by a collection behind a marking, as by one behind gc, and by none before.
+abbrev pub colours_of_a_marking_serve_a_collection : List ℕ
+colours_of_a_marking_serve_a_collection = codes "version 2\nnative n0 1\nscript s0 1\nwrap s1 n0\nput s0 0 s1\nset n0 0 s0\ndrop n0\ndrop s0\ndrop s1\ncollect\ncensus\nmark 9\ncollect\ncensus\nmark 9\ncensus\n"
+
+-- Gc drops the marking that goes on, frees what nothing holds, and the next unit begins anew.
+abbrev pub gc_drops_a_marking : List ℕ
+gc_drops_a_marking = codes "version 2\nscript s0 1\nscript s1 0\nput s0 0 s1\ndrop s1\nmark 2\nscript s2 0\ndrop s2\nput s0 0 none\ngc\nscript s3 0\ndrop s3\nmark 1\nmark 9\ncensus\n"
+
+-- A collect ends the marking that goes on, which frees what has no mark, and then a collection is whole.
+abbrev pub collect_ends_a_marking_first : List ℕ
+collect_ends_a_marking_first = codes "version 2\nscript s0 1\nput s0 0 s0\ndrop s0\nnative n0 1\nset n0 0 n0\ndrop n0\nmark 1\ncollect\ncensus\n"
+
+-- A slice of three units is a whole collection of a native that holds itself, whatever is left to scan.
+abbrev pub marking_ends_outside_the_units_of_a_slice : List ℕ
+marking_ends_outside_the_units_of_a_slice = codes "version 2\nnative n0 1\nset n0 0 n0\ndrop n0\nscript s0 1\nscript s1 1\nscript s2 0\nput s1 0 s2\nput s0 0 s1\ndrop s1\ndrop s2\nmark 1\nslice 2\nslice 1\n"
+
+-- A mark ends the collection that runs before its units.
+abbrev pub mark_ends_a_running_collection : List ℕ
+mark_ends_a_running_collection = codes "version 2\nnative n0 1\nset n0 0 n0\ndrop n0\nscript s0 0\ndrop s0\nslice 1\nmark 1\nslice 1\ncensus\n"
+
+-- A mark whose running collection is refused memory abandons it, and does its units all the same.
+abbrev pub mark_with_a_refused_collection : List ℕ
+mark_with_a_refused_collection = codes "version 2\nnative n0 1\nset n0 0 n0\nnative n1 1\nset n1 0 n1\ndrop n0\ndrop n1\nscript s0 0\ndrop s0\nslice 1\nmark 2\ncensus\nmark 2\ncensus\n"
+
+-- Units of a marking are no wish for memory: the third one is that of the second native.
+abbrev pub mark_takes_no_memory : List ℕ
+mark_takes_no_memory = codes "version 2\nnative n0 0\nscript s0 0\ndrop s0\nmark 1\nnative n1 0\nmark 1\nnative n1 0\n"
+
+-- A slice that is refused memory has ended the marking before, and what that freed stays freed.
+abbrev pub slice_ends_a_marking_and_is_refused : List ℕ
+slice_ends_a_marking_and_is_refused = codes "version 2\nnative n0 1\nset n0 0 n0\ndrop n0\nscript s0 0\ndrop s0\nmark 1\nslice 1\ncensus\nslice 9\n"
+
+-- A collect that is refused memory has ended the marking before: a reflector and its native are freed, and a cycle stays.
+abbrev pub collect_ends_a_marking_and_is_refused : List ℕ
+collect_ends_a_marking_and_is_refused = codes "version 2\nnative n0 1\nset n0 0 n0\ndrop n0\nnative n1 0\nwrap s0 n1\ndrop n1\ndrop s0\nmark 2\ncollect\ncensus\ncollect\ncensus\n"
+
+-- A script object that is read from a native that a weak register brought back is exposed, and kept.
+abbrev pub marking_beside_weak_registers : List ℕ
+marking_beside_weak_registers = codes "version 2\nnative n0 2\nset n0 0 n0\nscript s0 1\nscript s1 0\nput s0 0 s1\nset n0 1 s0\nweak w0 n0\ndrop n0\ndrop s0\ndrop s1\nmark 1\nderef n1 w0\nget s0 n1 1\nset n1 1 none\ndrop n1\nmark 9\ncollect\ncensus\ndrop s0\nmark 9\n"
+
+-- A census, a path, a forget and what is refused leave a marking as it is.
+abbrev pub marking_beside_why_and_forget : List ℕ
+marking_beside_why_and_forget = codes "version 2\nnative n0 0\ncopy n1 n0\ndrop n1\nscript s0 1\nscript s1 0\nput s0 0 s1\ndrop s1\nscript s2 0\ndrop s2\nmark 2\ncensus\nwhy @2\nforget\nput s0 1 s0\nmark 0\n% mark 1\nmark 1\nmark 1\ncensus\n"
+
+-- A marking that is dropped by the first gc of a row leaves nothing behind.
+abbrev pub marking_before_a_quiet_census : List ℕ
+marking_before_a_quiet_census = codes "version 2\nnative n0 1\nwrap s0 n0\nset n0 0 s0\nscript s1 1\nput s1 0 s0\ndrop s0\ndrop s1\ndrop n0\nmark 2\ngc\ncollect\ngc\ncensus\nmark 9\n"
+
+-- The word takes a number of units from 1 to 1000000 without zeros in front, and nothing else.
+abbrev pub refused_forms_of_mark : List ℕ
+refused_forms_of_mark = codes "version 2\nmark\nmark 0\nmark 1000001\nmark 01\nmark n0\nmark s0\nmark none\nmark -1\nmark 1 1\nmark 1n\nmarks 1\nMark 1\nmar 1\nmark" ++ replicate 1 9 ++ codes "1\nmark 4294967297\nmark 1000000\n  mark   1  \nmark 1" ++ replicate 1 13 ++ codes "\nmark 1 % units\n"
+
+-- Version 1 has no such word, and neither has the first line.
+abbrev pub mark_is_a_word_of_version_2 : List ℕ
+mark_is_a_word_of_version_2 = codes "mark 1\nversion 2\nscript s0 0\nmark 1\ndrop s0\nmark 9\ngc\n"

@@ -28,6 +28,31 @@ refused_collections_abandon = answered (codes "native n0 0\ndrop n0\nslice 1\nco
 abbrev pub gc_abandons_first : Transcript
 gc_abandons_first = answered (codes "script s0 0\ndrop s0\ngc\n") (made (object 1) ∷ ok ∷ done_after (Abandoned ∷ Freed (object 1) ∷ []) ∷ [])
 
+-- So does a mark.
+abbrev pub mark_abandons_first : Transcript
+mark_abandons_first = answered (codes "version 2\nscript s0 0\ndrop s0\nmark 9\n")
+    (ok ∷ made (object 1) ∷ ok ∷ done_after (Abandoned ∷ Freed (object 1) ∷ []) ∷ [])
+
+-- A slice, a collect, a gc and a mark free script objects.
+abbrev pub script_objects_are_freed_by_what_collects : Transcript
+script_objects_are_freed_by_what_collects = answered (codes "version 2\nscript s0 0\nscript s0 0\nscript s0 0\nscript s0 0\nscript s0 0\nslice 1\ncollect\ngc\nmark 1\n")
+    (ok ∷ made (object 1) ∷ made (object 2) ∷ made (object 3) ∷ made (object 4) ∷ made (object 5) ∷ done_after (Freed (object 4) ∷ []) ∷ done_after (Freed (object 1) ∷ []) ∷ done_after (Freed (object 3) ∷ []) ∷ done_after (Freed (object 2) ∷ []) ∷ [])
+
+-- A slice that is refused memory may have freed script objects and natives before.
+abbrev pub refused_slice_frees_script_objects : Transcript
+refused_slice_frees_script_objects = answered (codes "native n0 0\nwrap s0 n0\ndrop s0\ndrop n0\nslice 1\n")
+    (made (native 1) ∷ made (reflector 1) ∷ ok ∷ ok ∷ replying (Freed (reflector 1) ∷ Freed (native 1) ∷ Abandoned ∷ []) (Refused NoMemory) ∷ [])
+
+-- A reflector that a slice freed is made again, and goes last.
+abbrev pub reflector_freed_by_a_slice_is_made_again : Transcript
+reflector_freed_by_a_slice_is_made_again = answered (codes "native n0 0\nwrap s0 n0\nscript s1 0\ndrop s0\nslice 1\nwrap s0 n0\ncensus\n")
+    (made (native 1) ∷ made (reflector 1) ∷ made (object 1) ∷ ok ∷ done_after (Freed (reflector 1) ∷ []) ∷ made (reflector 1) ∷ lists (native 1 ∷ object 1 ∷ reflector 1 ∷ []) ∷ [])
+
+-- Units of a marking may free a native and unlink another, and may leave what is garbage.
+abbrev pub garbage_stays_behind_a_mark : Transcript
+garbage_stays_behind_a_mark = answered (codes "version 2\nnative n0 0\nnative n1 0\nscript s0 0\ndrop n0\ndrop n1\ndrop s0\nmark 9\nmark 9\n")
+    (ok ∷ made (native 1) ∷ made (native 2) ∷ made (object 1) ∷ ok ∷ ok ∷ ok ∷ done_after (Unlinked (native 2) ∷ Freed (native 1) ∷ []) ∷ ok ∷ [])
+
 -- A collect ends two collections, each of which unlinks by rising number.
 abbrev pub two_collections_end : Transcript
 two_collections_end = answered (codes "native n0 0\nnative n1 0\ndrop n0\ndrop n1\ncollect\n")

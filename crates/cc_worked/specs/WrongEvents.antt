@@ -90,20 +90,45 @@ value_of_a_proxy_key_is_freed_while_map_and_delegate_are_held = answered (codes 
 abbrev pub script_object_is_freed_by_a_drop : Transcript
 script_object_is_freed_by_a_drop = answered (codes "script s0 0\ndrop s0\n") (made (object 1) ∷ done_after (Freed (object 1) ∷ []) ∷ [])
 
--- A slice frees no script object.
-abbrev pub script_object_is_freed_by_a_slice : Transcript
-script_object_is_freed_by_a_slice = answered (codes "script s0 0\ndrop s0\nslice 1\n")
-    (made (object 1) ∷ ok ∷ done_after (Freed (object 1) ∷ []) ∷ [])
+-- A drop frees no reflector, though it may free the native.
+abbrev pub reflector_is_freed_by_a_drop : Transcript
+reflector_is_freed_by_a_drop = answered (codes "native n0 0\nwrap s0 n0\ndrop s0\ndrop n0\n")
+    (made (native 1) ∷ made (reflector 1) ∷ ok ∷ done_after (Freed (native 1) ∷ Freed (reflector 1) ∷ []) ∷ [])
 
--- A collect frees no script object.
-abbrev pub script_object_is_freed_by_a_collect : Transcript
-script_object_is_freed_by_a_collect = answered (codes "script s0 0\ndrop s0\ncollect\n")
-    (made (object 1) ∷ ok ∷ done_after (Freed (object 1) ∷ []) ∷ [])
+-- A put frees no script object.
+abbrev pub script_object_is_freed_by_a_put : Transcript
+script_object_is_freed_by_a_put = answered (codes "script s0 1\nscript s1 0\nput s0 0 s1\ndrop s1\nput s0 0 none\n")
+    (made (object 1) ∷ made (object 2) ∷ ok ∷ ok ∷ done_after (Freed (object 2) ∷ []) ∷ [])
 
--- A collect frees no reflector.
-abbrev pub reflector_is_freed_by_a_collect : Transcript
-reflector_is_freed_by_a_collect = answered (codes "native n0 0\nwrap s0 n0\ndrop s0\ncollect\n")
-    (made (native 1) ∷ made (reflector 1) ∷ ok ∷ done_after (Freed (reflector 1) ∷ []) ∷ [])
+-- The making of another script object frees none.
+abbrev pub script_object_is_freed_by_the_making_of_another : Transcript
+script_object_is_freed_by_the_making_of_another = answered (codes "script s0 0\nscript s0 0\n")
+    (made (object 1) ∷ replying (Freed (object 1) ∷ []) (Named (object 2)) ∷ [])
+
+-- No script object is freed where suspects are forgotten.
+abbrev pub script_object_is_freed_by_forget : Transcript
+script_object_is_freed_by_forget = answered (codes "version 2\nscript s0 0\ndrop s0\nforget\n")
+    (ok ∷ made (object 1) ∷ ok ∷ done_after (Freed (object 1) ∷ []) ∷ [])
+
+-- A slice may free script objects, but none that a held native has in a slot.
+abbrev pub script_object_is_freed_by_a_slice_while_a_native_holds_it : Transcript
+script_object_is_freed_by_a_slice_while_a_native_holds_it = answered (codes "native n0 1\nscript s0 0\nset n0 0 s0\ndrop s0\nslice 1\n")
+    (made (native 1) ∷ made (object 1) ∷ ok ∷ ok ∷ done_after (Freed (object 1) ∷ []) ∷ [])
+
+-- A collect may free script objects, but no value of a held map and a held key.
+abbrev pub value_is_freed_by_a_collect_while_map_and_key_are_held : Transcript
+value_is_freed_by_a_collect_while_map_and_key_are_held = answered (codes "weakmap s0\nscript s1 0\nwset s0 s0 s1\ndrop s1\ncollect\n")
+    (made (object 1) ∷ made (object 2) ∷ ok ∷ ok ∷ done_after (Freed (object 2) ∷ []) ∷ [])
+
+-- Units of a marking may free script objects, but none that a register holds.
+abbrev pub script_object_is_freed_by_mark_while_held : Transcript
+script_object_is_freed_by_mark_while_held = answered (codes "version 2\nscript s0 0\nmark 1\n")
+    (ok ∷ made (object 1) ∷ done_after (Freed (object 1) ∷ []) ∷ [])
+
+-- A script object that was freed by units of a marking is not freed by gc again.
+abbrev pub script_object_freed_by_mark_is_freed_again : Transcript
+script_object_freed_by_mark_is_freed_again = answered (codes "version 2\nscript s0 0\ndrop s0\nmark 9\ngc\n")
+    (ok ∷ made (object 1) ∷ ok ∷ done_after (Freed (object 1) ∷ []) ∷ done_after (Freed (object 1) ∷ []) ∷ [])
 
 -- What was never made is not unlinked.
 abbrev pub unlinked_before_it_was_made : Transcript
@@ -146,6 +171,11 @@ abbrev pub reflector_is_unlinked : Transcript
 reflector_is_unlinked = answered (codes "native n0 0\nwrap s0 n0\ndrop s0\ngc\n")
     (made (native 1) ∷ made (reflector 1) ∷ ok ∷ done_after (Unlinked (reflector 1) ∷ []) ∷ [])
 
+-- Units of a marking unlink no script object either.
+abbrev pub script_object_is_unlinked_by_mark : Transcript
+script_object_is_unlinked_by_mark = answered (codes "version 2\nscript s0 0\ndrop s0\nmark 1\n")
+    (ok ∷ made (object 1) ∷ ok ∷ done_after (Unlinked (object 1) ∷ []) ∷ [])
+
 -- One collection unlinks by rising number.
 abbrev pub unlinked_in_falling_order : Transcript
 unlinked_in_falling_order = answered (codes "native n0 0\nnative n1 0\ndrop n0\ndrop n1\nslice 9\n")
@@ -160,6 +190,11 @@ unlinked_twice = answered (codes "native n0 0\ndrop n0\nslice 9\n")
 abbrev pub unlinked_in_falling_order_by_gc : Transcript
 unlinked_in_falling_order_by_gc = answered (codes "native n0 0\nnative n1 0\ndrop n0\ndrop n1\ngc\n")
     (made (native 1) ∷ made (native 2) ∷ ok ∷ ok ∷ done_after (Unlinked (native 2) ∷ Unlinked (native 1) ∷ []) ∷ [])
+
+-- So does a mark, which ends the one that runs.
+abbrev pub unlinked_in_falling_order_by_mark : Transcript
+unlinked_in_falling_order_by_mark = answered (codes "version 2\nnative n0 0\nnative n1 0\ndrop n0\ndrop n1\nmark 1\n")
+    (ok ∷ made (native 1) ∷ made (native 2) ∷ ok ∷ ok ∷ done_after (Unlinked (native 2) ∷ Unlinked (native 1) ∷ []) ∷ [])
 
 -- A collect ends two collections at most.
 abbrev pub unlinked_in_three_runs : Transcript
@@ -189,6 +224,11 @@ abbrev pub freed_after_the_abandonment : Transcript
 freed_after_the_abandonment = answered (codes "native n0 0\ndrop n0\ncollect\n")
     (made (native 1) ∷ ok ∷ replying (Abandoned ∷ Freed (native 1) ∷ []) (Refused NoMemory) ∷ [])
 
+-- Script objects are freed before it, and none behind it.
+abbrev pub script_object_is_freed_after_the_abandonment : Transcript
+script_object_is_freed_after_the_abandonment = answered (codes "script s0 0\ndrop s0\nslice 1\n")
+    (made (object 1) ∷ ok ∷ replying (Abandoned ∷ Freed (object 1) ∷ []) (Refused NoMemory) ∷ [])
+
 -- A slice that is done abandons nothing.
 abbrev pub slice_abandons_and_is_done : Transcript
 slice_abandons_and_is_done = answered (codes "slice 1\n") (done_after (Abandoned ∷ []) ∷ [])
@@ -204,6 +244,19 @@ gc_abandons_twice = answered (codes "gc\n") (done_after (Abandoned ∷ Abandoned
 -- Gc abandons the collection that runs before it frees anything.
 abbrev pub gc_abandons_late : Transcript
 gc_abandons_late = answered (codes "script s0 0\ndrop s0\ngc\n") (made (object 1) ∷ ok ∷ done_after (Freed (object 1) ∷ Abandoned ∷ []) ∷ [])
+
+-- A mark abandons the one collection that runs.
+abbrev pub mark_abandons_twice : Transcript
+mark_abandons_twice = answered (codes "version 2\nmark 1\n") (ok ∷ done_after (Abandoned ∷ Abandoned ∷ []) ∷ [])
+
+-- A mark abandons the collection that runs before it frees anything.
+abbrev pub mark_abandons_late : Transcript
+mark_abandons_late = answered (codes "version 2\nscript s0 0\ndrop s0\nmark 9\n")
+    (ok ∷ made (object 1) ∷ ok ∷ done_after (Freed (object 1) ∷ Abandoned ∷ []) ∷ [])
+
+-- A mark whose collection was refused memory is done all the same.
+abbrev pub mark_abandons_and_is_refused : Transcript
+mark_abandons_and_is_refused = answered (codes "version 2\nmark 1\n") (ok ∷ replying (Abandoned ∷ []) (Refused NoMemory) ∷ [])
 
 -- No other command abandons a collection.
 abbrev pub drop_abandons : Transcript

@@ -65,6 +65,18 @@ version_two_is_taken_twice = answered (codes "version 2\nversion 2\n") (ok ∷ o
 abbrev pub version_two_is_taken_behind_a_long_line : Transcript
 version_two_is_taken_behind_a_long_line = answered ((replicate 121 97 ++ 10 ∷ []) ++ codes "version 2\n") (refused Long ∷ ok ∷ [])
 
+-- Version 1 has no units of a marking.
+abbrev pub mark_is_taken_in_version_one : Transcript
+mark_is_taken_in_version_one = answered (codes "mark 1\n") (ok ∷ [])
+
+-- Version 2 has them.
+abbrev pub mark_is_refused_in_version_two : Transcript
+mark_is_refused_in_version_two = answered (codes "version 2\nmark 1\n") (ok ∷ refused Line ∷ [])
+
+-- It has no marking of no units.
+abbrev pub mark_of_no_units_is_taken : Transcript
+mark_of_no_units_is_taken = answered (codes "version 2\nmark 0\n") (ok ∷ ok ∷ [])
+
 -- Version 1 has no register 256.
 abbrev pub wide_register_is_taken_in_version_one : Transcript
 wide_register_is_taken_in_version_one = answered (codes "native n256 0\n") (made (native 1) ∷ [])
@@ -208,6 +220,10 @@ expose_wants_memory = answered (codes "native n0 1\nexpose n0 0\n") (made (nativ
 -- Gc takes no memory.
 abbrev pub gc_wants_memory : Transcript
 gc_wants_memory = answered (codes "gc\n") (without_memory ∷ [])
+
+-- Units of a marking take none.
+abbrev pub mark_wants_memory : Transcript
+mark_wants_memory = answered (codes "version 2\nmark 1\n") (ok ∷ without_memory ∷ [])
 
 -- A move takes no memory.
 abbrev pub move_wants_memory : Transcript

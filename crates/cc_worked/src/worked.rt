@@ -3,7 +3,7 @@
 ghost use Rattle.std.specs.Prelude.{◌≡◌, ◌++◌, codes};
 ghost use Rattle.cc_model.specs.Run.{plain_text};
 ghost use Rattle.cc_worked.specs.Examples.{IsLawfulRun, IsQuietRun, ample, default_limits, refused_at};
-ghost use Rattle.cc_worked.specs.Inputs.{cascade_of_two, collect_refused_at_a_node, cycle_through_a_proxy_key, cycle_through_a_reflector, cycle_through_an_entry, cycle_through_an_entry_is_told_once, delegate_read_after_its_mapping_was_noted, entry_does_not_keep_its_key, gc_sweeps_three_rounds, last_register_and_last_slot_move, moved_forth_and_back_between_slices, moved_to_a_native_that_is_yet_to_be_traversed, native_lives_by_a_moved_reflector, native_lives_by_an_exposed_reflector, proxy_key_lives_as_long_as_map_and_delegate, read_between_slices, refusals_and_odd_lines, refused_why_leaves_the_collection, self_cycle_is_collected, self_cycle_outlives_its_register, steps_through_both_heaps, steps_to_a_proxy_key, steps_to_a_value, swept_reflector_follows_from_nothing, touched_between_slices, two_cycle_takes_four_units, value_lives_by_a_moved_key, value_lives_by_its_mapping, why_between_slices, why_of_a_freed_candidate};
+ghost use Rattle.cc_worked.specs.Inputs.{cascade_of_two, collect_ends_a_marking_first, collect_refused_at_a_node, cycle_through_a_proxy_key, cycle_through_a_reflector, cycle_through_an_entry, cycle_through_an_entry_is_told_once, delegate_read_after_its_mapping_was_noted, entry_does_not_keep_its_key, gc_sweeps_three_rounds, gray_by_the_new_mark_is_exposed, last_register_and_last_slot_move, mark_with_a_refused_collection, marking_before_a_quiet_census, moved_forth_and_back_between_slices, moved_to_a_native_that_is_yet_to_be_traversed, native_lives_by_a_moved_reflector, native_lives_by_an_exposed_reflector, object_read_between_units_is_kept, proxy_key_lives_as_long_as_map_and_delegate, proxy_key_stays_at_the_end, read_between_slices, refusals_and_odd_lines, refused_why_leaves_the_collection, self_cycle_is_collected, self_cycle_outlives_its_register, slice_ends_a_marking_and_is_refused, slice_ends_a_marking_first, steps_through_both_heaps, steps_to_a_proxy_key, steps_to_a_value, swept_reflector_follows_from_nothing, tail_moves_in_front_of_the_scan, touched_between_slices, two_cycle_takes_four_units, value_lives_by_a_moved_key, value_lives_by_its_mapping, why_between_slices, why_of_a_freed_candidate};
 
 /// What these examples write.
 pub fn examples_write_their_lines()
@@ -26,6 +26,12 @@ pub fn examples_write_their_lines()
     ensures steps_through_both_heaps { plain_text default_limits ample steps_through_both_heaps
         ≡ codes "= ok\n= #1\n= #2\n= #3\n= @1\n= ~2\n= ok\n= ok\n= ok\n= ok\n= ok\n= ok\n= ok\n: #1 n0\n: @1 #1\n"
         ++ codes ": ~2 @1\n: #2 ~2\n: #3 #2\n= ok\n: #1 n0\n: @1 #1\n= ok\n= ok\n= ok\n: #1 n0\n: @1 #1\n: ~2 @1\n: #2 ~2\n: #3 #2\n= ok\n" }
+    ensures object_read_between_units_is_kept { plain_text default_limits ample object_read_between_units_is_kept
+        ≡ codes "= ok\n= @1\n= @2\n= ok\n= ok\n= @3\n= ok\n= ok\n= @2\n= ok\n- free @3\n= ok\n" }
+    ensures slice_ends_a_marking_first { plain_text default_limits ample slice_ends_a_marking_first
+        ≡ codes "= ok\n= @1\n= ok\n= ok\n- free @1\n= ok\n" }
+    ensures proxy_key_stays_at_the_end { plain_text default_limits ample proxy_key_stays_at_the_end
+        ≡ codes "= ok\n= @1\n= @2\n= @3\n= @4\n= ok\n= ok\n= ok\n= ok\n= ok\n= ok\n- free @2\n- free @3\n- free @4\n= ok\n+ @1\n= census 1\n" }
 {}
 
 /// The plain run of each of these examples is a transcript of an object graph from which nothing is freed.
@@ -60,6 +66,14 @@ pub fn examples_are_lawful()
     ensures why_between_slices { IsLawfulRun default_limits ample why_between_slices }
     ensures why_of_a_freed_candidate { IsLawfulRun default_limits ample why_of_a_freed_candidate }
     ensures refused_why_leaves_the_collection { IsLawfulRun default_limits (refused_at 3) refused_why_leaves_the_collection }
+    ensures object_read_between_units_is_kept { IsLawfulRun default_limits ample object_read_between_units_is_kept }
+    ensures slice_ends_a_marking_first { IsLawfulRun default_limits ample slice_ends_a_marking_first }
+    ensures gray_by_the_new_mark_is_exposed { IsLawfulRun default_limits ample gray_by_the_new_mark_is_exposed }
+    ensures tail_moves_in_front_of_the_scan { IsLawfulRun default_limits ample tail_moves_in_front_of_the_scan }
+    ensures collect_ends_a_marking_first { IsLawfulRun default_limits ample collect_ends_a_marking_first }
+    ensures proxy_key_stays_at_the_end { IsLawfulRun default_limits ample proxy_key_stays_at_the_end }
+    ensures mark_with_a_refused_collection { IsLawfulRun default_limits (refused_at 5) mark_with_a_refused_collection }
+    ensures slice_ends_a_marking_and_is_refused { IsLawfulRun default_limits (refused_at 3) slice_ends_a_marking_and_is_refused }
 {}
 
 /// The censuses of these examples stand behind `gc`, `collect` and `gc`, and list exactly what is reached.
@@ -68,4 +82,5 @@ pub fn examples_are_quiet()
     ensures cycle_through_an_entry { IsQuietRun default_limits ample cycle_through_an_entry }
     ensures delegate_read_after_its_mapping_was_noted { IsQuietRun default_limits ample delegate_read_after_its_mapping_was_noted }
     ensures collect_refused_at_a_node { IsQuietRun default_limits (refused_at 3) collect_refused_at_a_node }
+    ensures marking_before_a_quiet_census { IsQuietRun default_limits ample marking_before_a_quiet_census }
 {}

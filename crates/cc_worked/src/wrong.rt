@@ -3,9 +3,9 @@
 //! transcript is quiet and not lawful.
 
 ghost use Rattle.cc_worked.specs.Transcripts.{IsUnlawfulAtItsEnd};
-ghost use Rattle.cc_worked.specs.WrongReplies.{missing_answer, answer_to_nothing_asked, no_reply, names_listed_by_a_drop, long_line_called_bad, bad_line_called_long, event_under_a_long_line, event_under_a_bad_line, blank_line_is_answered, comment_is_answered, event_under_a_blank_line, version_two_is_refused, version_two_is_taken_twice, version_two_is_taken_behind_a_long_line, wide_register_is_taken_in_version_one, wide_register_is_refused_in_version_two, another_reply, number_used_again, number_left_out, number_taken_without_memory, slot_is_read_as_empty, refused_without_cause, done_in_place_of_a_refusal, refused_for_another_cause, taken_out_entry_is_read, entry_of_another_map_is_taken_out, entry_of_another_key_is_taken_out, slot_of_a_proxy_is_read, proxy_is_taken_for_a_map, moved_native_is_not_named, moved_native_is_read_where_it_was, native_moved_onto_itself_is_lost, copy_of_a_native_wants_memory, copy_of_a_script_object_wants_memory, drop_wants_memory, set_wants_memory, get_wants_memory, put_wants_memory, take_wants_memory, wrap_of_a_listed_reflector_wants_memory, unwrap_wants_memory, preserve_wants_memory, replaced_entry_wants_memory, taken_out_entry_wants_memory, wget_wants_memory, expose_wants_memory, gc_wants_memory, move_wants_memory, version_wants_memory, refused_wrap_wants_memory, refused_wset_wants_memory, refused_proxy_wants_memory, full_in_place_of_want_of_memory, census_leaves_one_out, census_lists_what_was_freed, census_lists_what_was_not_made, census_lists_script_objects_first, census_lists_in_falling_order, census_lists_a_reflector_in_its_old_place, census_lists_a_wrapped_reflector_last, census_lists_a_reflector_twice, census_tells_another_number, census_tells_no_number, freed_by_a_census};
+ghost use Rattle.cc_worked.specs.WrongReplies.{missing_answer, answer_to_nothing_asked, no_reply, names_listed_by_a_drop, long_line_called_bad, bad_line_called_long, event_under_a_long_line, event_under_a_bad_line, blank_line_is_answered, comment_is_answered, event_under_a_blank_line, version_two_is_refused, version_two_is_taken_twice, version_two_is_taken_behind_a_long_line, mark_is_taken_in_version_one, mark_is_refused_in_version_two, mark_of_no_units_is_taken, wide_register_is_taken_in_version_one, wide_register_is_refused_in_version_two, another_reply, number_used_again, number_left_out, number_taken_without_memory, slot_is_read_as_empty, refused_without_cause, done_in_place_of_a_refusal, refused_for_another_cause, taken_out_entry_is_read, entry_of_another_map_is_taken_out, entry_of_another_key_is_taken_out, slot_of_a_proxy_is_read, proxy_is_taken_for_a_map, moved_native_is_not_named, moved_native_is_read_where_it_was, native_moved_onto_itself_is_lost, copy_of_a_native_wants_memory, copy_of_a_script_object_wants_memory, drop_wants_memory, set_wants_memory, get_wants_memory, put_wants_memory, take_wants_memory, wrap_of_a_listed_reflector_wants_memory, unwrap_wants_memory, preserve_wants_memory, replaced_entry_wants_memory, taken_out_entry_wants_memory, wget_wants_memory, expose_wants_memory, gc_wants_memory, mark_wants_memory, move_wants_memory, version_wants_memory, refused_wrap_wants_memory, refused_wset_wants_memory, refused_proxy_wants_memory, full_in_place_of_want_of_memory, census_leaves_one_out, census_lists_what_was_freed, census_lists_what_was_not_made, census_lists_script_objects_first, census_lists_in_falling_order, census_lists_a_reflector_in_its_old_place, census_lists_a_wrapped_reflector_last, census_lists_a_reflector_twice, census_tells_another_number, census_tells_no_number, freed_by_a_census};
 ghost use Rattle.cc_worked.specs.WrongPaths.{steps_in_another_order, members_in_another_order, first_step_is_left_out, last_step_is_left_out, step_of_the_key_is_left_out, all_steps_are_left_out, step_goes_on, step_leads_elsewhere, step_is_told_twice, follows_from_the_second_register, follows_from_the_other_bank, follows_from_the_second_holder, follows_from_itself, key_is_told_for_the_map, value_follows_from_its_map, value_follows_without_its_key, proxy_key_follows_from_its_value, reached_object_follows_from_nothing, path_to_nothing, unreached_object_is_found, swept_reflector_is_found, name_never_made_is_refused, why_answers_with_a_name, path_without_a_reply, path_without_memory, names_listed_by_why, step_told_by_a_drop, step_told_by_a_census, step_under_a_blank_line, step_under_a_bad_line, number_zero_follows_from_nothing, path_in_version_one, path_is_refused_in_version_two, freed_by_why, freed_by_why_of_itself, why_abandons};
-ghost use Rattle.cc_worked.specs.WrongEvents.{freed_by_a_refused_command, freed_without_memory, freed_before_it_was_made, freed_twice, freed_again, freed_while_a_register_holds_it, freed_while_a_slot_holds_it, freed_while_its_reflector_is_held, preserved_reflector_is_freed, reflector_with_an_emptied_slot_is_freed, reflector_that_is_a_key_is_freed, value_is_freed_while_map_and_key_are_held, reflector_that_is_a_delegate_is_freed, delegate_is_freed_while_its_proxy_is_held, proxy_key_is_freed_while_map_and_delegate_are_held, value_of_a_proxy_key_is_freed_while_map_and_delegate_are_held, script_object_is_freed_by_a_drop, script_object_is_freed_by_a_slice, script_object_is_freed_by_a_collect, reflector_is_freed_by_a_collect, unlinked_before_it_was_made, unlinked_after_it_was_freed, unlinked_while_held, unlinked_by_a_drop, unlinked_by_the_making_of_another, moved_native_is_freed, unlinked_by_a_move, script_object_is_unlinked, reflector_is_unlinked, unlinked_in_falling_order, unlinked_twice, unlinked_in_falling_order_by_gc, unlinked_in_three_runs, refused_slice_abandons_nothing, refused_collect_abandons_nothing, refused_slice_abandons_twice, refused_collect_abandons_twice, freed_after_the_abandonment, slice_abandons_and_is_done, collect_abandons_and_is_done, gc_abandons_twice, gc_abandons_late, drop_abandons};
+ghost use Rattle.cc_worked.specs.WrongEvents.{freed_by_a_refused_command, freed_without_memory, freed_before_it_was_made, freed_twice, freed_again, freed_while_a_register_holds_it, freed_while_a_slot_holds_it, freed_while_its_reflector_is_held, preserved_reflector_is_freed, reflector_with_an_emptied_slot_is_freed, reflector_that_is_a_key_is_freed, value_is_freed_while_map_and_key_are_held, reflector_that_is_a_delegate_is_freed, delegate_is_freed_while_its_proxy_is_held, proxy_key_is_freed_while_map_and_delegate_are_held, value_of_a_proxy_key_is_freed_while_map_and_delegate_are_held, script_object_is_freed_by_a_drop, reflector_is_freed_by_a_drop, script_object_is_freed_by_a_put, script_object_is_freed_by_the_making_of_another, script_object_is_freed_by_forget, script_object_is_freed_by_a_slice_while_a_native_holds_it, value_is_freed_by_a_collect_while_map_and_key_are_held, script_object_is_freed_by_mark_while_held, script_object_freed_by_mark_is_freed_again, unlinked_before_it_was_made, unlinked_after_it_was_freed, unlinked_while_held, unlinked_by_a_drop, unlinked_by_the_making_of_another, moved_native_is_freed, unlinked_by_a_move, script_object_is_unlinked, reflector_is_unlinked, script_object_is_unlinked_by_mark, unlinked_in_falling_order, unlinked_twice, unlinked_in_falling_order_by_gc, unlinked_in_falling_order_by_mark, unlinked_in_three_runs, refused_slice_abandons_nothing, refused_collect_abandons_nothing, refused_slice_abandons_twice, refused_collect_abandons_twice, freed_after_the_abandonment, script_object_is_freed_after_the_abandonment, slice_abandons_and_is_done, collect_abandons_and_is_done, gc_abandons_twice, gc_abandons_late, mark_abandons_twice, mark_abandons_late, mark_abandons_and_is_refused, drop_abandons};
 
 /// Each line has one answer, of the form that the line wants.
 pub fn misplaced_answers_are_refused()
@@ -23,6 +23,9 @@ pub fn misplaced_answers_are_refused()
     ensures version_two_is_refused { IsUnlawfulAtItsEnd version_two_is_refused }
     ensures version_two_is_taken_twice { IsUnlawfulAtItsEnd version_two_is_taken_twice }
     ensures version_two_is_taken_behind_a_long_line { IsUnlawfulAtItsEnd version_two_is_taken_behind_a_long_line }
+    ensures mark_is_taken_in_version_one { IsUnlawfulAtItsEnd mark_is_taken_in_version_one }
+    ensures mark_is_refused_in_version_two { IsUnlawfulAtItsEnd mark_is_refused_in_version_two }
+    ensures mark_of_no_units_is_taken { IsUnlawfulAtItsEnd mark_of_no_units_is_taken }
     ensures wide_register_is_taken_in_version_one { IsUnlawfulAtItsEnd wide_register_is_taken_in_version_one }
     ensures wide_register_is_refused_in_version_two { IsUnlawfulAtItsEnd wide_register_is_refused_in_version_two }
 {}
@@ -64,6 +67,7 @@ pub fn false_wants_of_memory_are_refused()
     ensures wget_wants_memory { IsUnlawfulAtItsEnd wget_wants_memory }
     ensures expose_wants_memory { IsUnlawfulAtItsEnd expose_wants_memory }
     ensures gc_wants_memory { IsUnlawfulAtItsEnd gc_wants_memory }
+    ensures mark_wants_memory { IsUnlawfulAtItsEnd mark_wants_memory }
     ensures move_wants_memory { IsUnlawfulAtItsEnd move_wants_memory }
     ensures version_wants_memory { IsUnlawfulAtItsEnd version_wants_memory }
     ensures refused_wrap_wants_memory { IsUnlawfulAtItsEnd refused_wrap_wants_memory }
@@ -146,9 +150,14 @@ pub fn wrong_events_are_refused()
     ensures proxy_key_is_freed_while_map_and_delegate_are_held { IsUnlawfulAtItsEnd proxy_key_is_freed_while_map_and_delegate_are_held }
     ensures value_of_a_proxy_key_is_freed_while_map_and_delegate_are_held { IsUnlawfulAtItsEnd value_of_a_proxy_key_is_freed_while_map_and_delegate_are_held }
     ensures script_object_is_freed_by_a_drop { IsUnlawfulAtItsEnd script_object_is_freed_by_a_drop }
-    ensures script_object_is_freed_by_a_slice { IsUnlawfulAtItsEnd script_object_is_freed_by_a_slice }
-    ensures script_object_is_freed_by_a_collect { IsUnlawfulAtItsEnd script_object_is_freed_by_a_collect }
-    ensures reflector_is_freed_by_a_collect { IsUnlawfulAtItsEnd reflector_is_freed_by_a_collect }
+    ensures reflector_is_freed_by_a_drop { IsUnlawfulAtItsEnd reflector_is_freed_by_a_drop }
+    ensures script_object_is_freed_by_a_put { IsUnlawfulAtItsEnd script_object_is_freed_by_a_put }
+    ensures script_object_is_freed_by_the_making_of_another { IsUnlawfulAtItsEnd script_object_is_freed_by_the_making_of_another }
+    ensures script_object_is_freed_by_forget { IsUnlawfulAtItsEnd script_object_is_freed_by_forget }
+    ensures script_object_is_freed_by_a_slice_while_a_native_holds_it { IsUnlawfulAtItsEnd script_object_is_freed_by_a_slice_while_a_native_holds_it }
+    ensures value_is_freed_by_a_collect_while_map_and_key_are_held { IsUnlawfulAtItsEnd value_is_freed_by_a_collect_while_map_and_key_are_held }
+    ensures script_object_is_freed_by_mark_while_held { IsUnlawfulAtItsEnd script_object_is_freed_by_mark_while_held }
+    ensures script_object_freed_by_mark_is_freed_again { IsUnlawfulAtItsEnd script_object_freed_by_mark_is_freed_again }
     ensures unlinked_before_it_was_made { IsUnlawfulAtItsEnd unlinked_before_it_was_made }
     ensures unlinked_after_it_was_freed { IsUnlawfulAtItsEnd unlinked_after_it_was_freed }
     ensures unlinked_while_held { IsUnlawfulAtItsEnd unlinked_while_held }
@@ -158,13 +167,15 @@ pub fn wrong_events_are_refused()
     ensures unlinked_by_a_move { IsUnlawfulAtItsEnd unlinked_by_a_move }
     ensures script_object_is_unlinked { IsUnlawfulAtItsEnd script_object_is_unlinked }
     ensures reflector_is_unlinked { IsUnlawfulAtItsEnd reflector_is_unlinked }
+    ensures script_object_is_unlinked_by_mark { IsUnlawfulAtItsEnd script_object_is_unlinked_by_mark }
     ensures unlinked_in_falling_order { IsUnlawfulAtItsEnd unlinked_in_falling_order }
     ensures unlinked_twice { IsUnlawfulAtItsEnd unlinked_twice }
     ensures unlinked_in_falling_order_by_gc { IsUnlawfulAtItsEnd unlinked_in_falling_order_by_gc }
+    ensures unlinked_in_falling_order_by_mark { IsUnlawfulAtItsEnd unlinked_in_falling_order_by_mark }
     ensures unlinked_in_three_runs { IsUnlawfulAtItsEnd unlinked_in_three_runs }
 {}
 
-/// A collection is abandoned at the end of a `slice` or `collect` that is refused memory, at the beginning of `gc`, and
+/// A collection is abandoned at the end of a `slice` or `collect` that is refused memory, at the beginning of `gc` and `mark`, and
 /// nowhere else.
 pub fn wrong_abandonments_are_refused()
     ensures refused_slice_abandons_nothing { IsUnlawfulAtItsEnd refused_slice_abandons_nothing }
@@ -172,9 +183,13 @@ pub fn wrong_abandonments_are_refused()
     ensures refused_slice_abandons_twice { IsUnlawfulAtItsEnd refused_slice_abandons_twice }
     ensures refused_collect_abandons_twice { IsUnlawfulAtItsEnd refused_collect_abandons_twice }
     ensures freed_after_the_abandonment { IsUnlawfulAtItsEnd freed_after_the_abandonment }
+    ensures script_object_is_freed_after_the_abandonment { IsUnlawfulAtItsEnd script_object_is_freed_after_the_abandonment }
     ensures slice_abandons_and_is_done { IsUnlawfulAtItsEnd slice_abandons_and_is_done }
     ensures collect_abandons_and_is_done { IsUnlawfulAtItsEnd collect_abandons_and_is_done }
     ensures gc_abandons_twice { IsUnlawfulAtItsEnd gc_abandons_twice }
     ensures gc_abandons_late { IsUnlawfulAtItsEnd gc_abandons_late }
+    ensures mark_abandons_twice { IsUnlawfulAtItsEnd mark_abandons_twice }
+    ensures mark_abandons_late { IsUnlawfulAtItsEnd mark_abandons_late }
+    ensures mark_abandons_and_is_refused { IsUnlawfulAtItsEnd mark_abandons_and_is_refused }
     ensures drop_abandons { IsUnlawfulAtItsEnd drop_abandons }
 {}

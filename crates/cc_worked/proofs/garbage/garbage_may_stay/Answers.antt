@@ -1,5 +1,5 @@
 use Rattle.std.specs.Prelude.{refl}
-use Rattle.cc_worked.specs.Garbage.{no_gc_at_all, no_first_gc, no_collect, no_last_gc, two_collects, one_gc_more, refused_line_after_the_first, refused_line_after_the_second, refused_line_after_the_third, bad_line_between, slice_between, collect_without_memory, garbage_may_stay_after_a_why, garbage_may_stay_after_a_census, garbage_may_stay_after_a_drop}
+use Rattle.cc_worked.specs.Garbage.{no_gc_at_all, no_first_gc, no_collect, no_last_gc, two_collects, one_gc_more, refused_line_after_the_first, refused_line_after_the_second, refused_line_after_the_third, bad_line_between, slice_between, mark_between, mark_in_place_of_the_last_gc, collect_without_memory, garbage_may_stay_after_a_why, garbage_may_stay_after_a_census, garbage_may_stay_after_a_drop}
 use Rattle.cc_worked.proofs.Opened.{all_of_a_run}
 use Rattle.cc_worked.proofs.Judged.{right}
 use Rattle.cc_worked.proofs.garbage.garbage_may_stay.Goals as goal
@@ -47,6 +47,14 @@ returns-clause-bad_line_between c = right bad_line_between refl
 pub returns-clause-slice_between : goal.returns-clause-slice_between
 unfolding all_of_a_run
 returns-clause-slice_between c = right slice_between refl
+
+pub returns-clause-mark_between : goal.returns-clause-mark_between
+unfolding all_of_a_run
+returns-clause-mark_between c = right mark_between refl
+
+pub returns-clause-mark_in_place_of_the_last_gc : goal.returns-clause-mark_in_place_of_the_last_gc
+unfolding all_of_a_run
+returns-clause-mark_in_place_of_the_last_gc c = right mark_in_place_of_the_last_gc refl
 
 pub returns-clause-collect_without_memory : goal.returns-clause-collect_without_memory
 unfolding all_of_a_run

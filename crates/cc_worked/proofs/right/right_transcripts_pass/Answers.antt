@@ -1,5 +1,5 @@
 use Rattle.std.specs.Prelude.{refl}
-use Rattle.cc_worked.specs.Right.{memory_may_be_refused, reflector_may_be_refused_again, refused_collections_abandon, gc_abandons_first, two_collections_end, garbage_stays_for_a_while, value_goes_with_its_key, proxy_may_be_refused_memory, proxy_key_goes_with_its_delegate, lines_that_ask_nothing, move_frees_what_the_slot_held, version_two_behind_a_comment, census_in_order, path_in_order, path_may_be_refused_memory, garbage_follows_from_nothing}
+use Rattle.cc_worked.specs.Right.{memory_may_be_refused, reflector_may_be_refused_again, refused_collections_abandon, gc_abandons_first, mark_abandons_first, script_objects_are_freed_by_what_collects, refused_slice_frees_script_objects, reflector_freed_by_a_slice_is_made_again, garbage_stays_behind_a_mark, two_collections_end, garbage_stays_for_a_while, value_goes_with_its_key, proxy_may_be_refused_memory, proxy_key_goes_with_its_delegate, lines_that_ask_nothing, move_frees_what_the_slot_held, version_two_behind_a_comment, census_in_order, path_in_order, path_may_be_refused_memory, garbage_follows_from_nothing}
 use Rattle.cc_worked.proofs.Opened.{all_of_a_run}
 use Rattle.cc_worked.proofs.Judged.{right}
 use Rattle.cc_worked.proofs.right.right_transcripts_pass.Goals as goal
@@ -19,6 +19,26 @@ returns-clause-refused_collections_abandon c = right refused_collections_abandon
 pub returns-clause-gc_abandons_first : goal.returns-clause-gc_abandons_first
 unfolding all_of_a_run
 returns-clause-gc_abandons_first c = right gc_abandons_first refl
+
+pub returns-clause-mark_abandons_first : goal.returns-clause-mark_abandons_first
+unfolding all_of_a_run
+returns-clause-mark_abandons_first c = right mark_abandons_first refl
+
+pub returns-clause-script_objects_are_freed_by_what_collects : goal.returns-clause-script_objects_are_freed_by_what_collects
+unfolding all_of_a_run
+returns-clause-script_objects_are_freed_by_what_collects c = right script_objects_are_freed_by_what_collects refl
+
+pub returns-clause-refused_slice_frees_script_objects : goal.returns-clause-refused_slice_frees_script_objects
+unfolding all_of_a_run
+returns-clause-refused_slice_frees_script_objects c = right refused_slice_frees_script_objects refl
+
+pub returns-clause-reflector_freed_by_a_slice_is_made_again : goal.returns-clause-reflector_freed_by_a_slice_is_made_again
+unfolding all_of_a_run
+returns-clause-reflector_freed_by_a_slice_is_made_again c = right reflector_freed_by_a_slice_is_made_again refl
+
+pub returns-clause-garbage_stays_behind_a_mark : goal.returns-clause-garbage_stays_behind_a_mark
+unfolding all_of_a_run
+returns-clause-garbage_stays_behind_a_mark c = right garbage_stays_behind_a_mark refl
 
 pub returns-clause-two_collections_end : goal.returns-clause-two_collections_end
 unfolding all_of_a_run

@@ -1,5 +1,5 @@
 use Rattle.std.specs.Prelude.{refl}
-use Rattle.cc_worked.specs.WrongReplies.{copy_of_a_native_wants_memory, copy_of_a_script_object_wants_memory, drop_wants_memory, set_wants_memory, get_wants_memory, put_wants_memory, take_wants_memory, wrap_of_a_listed_reflector_wants_memory, unwrap_wants_memory, preserve_wants_memory, replaced_entry_wants_memory, taken_out_entry_wants_memory, wget_wants_memory, expose_wants_memory, gc_wants_memory, move_wants_memory, version_wants_memory, refused_wrap_wants_memory, refused_wset_wants_memory, refused_proxy_wants_memory, full_in_place_of_want_of_memory}
+use Rattle.cc_worked.specs.WrongReplies.{copy_of_a_native_wants_memory, copy_of_a_script_object_wants_memory, drop_wants_memory, set_wants_memory, get_wants_memory, put_wants_memory, take_wants_memory, wrap_of_a_listed_reflector_wants_memory, unwrap_wants_memory, preserve_wants_memory, replaced_entry_wants_memory, taken_out_entry_wants_memory, wget_wants_memory, expose_wants_memory, gc_wants_memory, mark_wants_memory, move_wants_memory, version_wants_memory, refused_wrap_wants_memory, refused_wset_wants_memory, refused_proxy_wants_memory, full_in_place_of_want_of_memory}
 use Rattle.cc_worked.proofs.Opened.{all_of_a_run}
 use Rattle.cc_worked.proofs.Judged.{unlawful-at_its_end}
 use Rattle.cc_worked.proofs.wrong.false_wants_of_memory_are_refused.Goals as goal
@@ -63,6 +63,10 @@ returns-clause-expose_wants_memory c = unlawful-at_its_end expose_wants_memory r
 pub returns-clause-gc_wants_memory : goal.returns-clause-gc_wants_memory
 unfolding all_of_a_run
 returns-clause-gc_wants_memory c = unlawful-at_its_end gc_wants_memory refl refl refl
+
+pub returns-clause-mark_wants_memory : goal.returns-clause-mark_wants_memory
+unfolding all_of_a_run
+returns-clause-mark_wants_memory c = unlawful-at_its_end mark_wants_memory refl refl refl
 
 pub returns-clause-move_wants_memory : goal.returns-clause-move_wants_memory
 unfolding all_of_a_run

@@ -1,5 +1,5 @@
 use Rattle.std.specs.Prelude.{refl}
-use Rattle.cc_worked.specs.WrongReplies.{missing_answer, answer_to_nothing_asked, no_reply, names_listed_by_a_drop, long_line_called_bad, bad_line_called_long, event_under_a_long_line, event_under_a_bad_line, blank_line_is_answered, comment_is_answered, event_under_a_blank_line, version_two_is_refused, version_two_is_taken_twice, version_two_is_taken_behind_a_long_line, wide_register_is_taken_in_version_one, wide_register_is_refused_in_version_two}
+use Rattle.cc_worked.specs.WrongReplies.{missing_answer, answer_to_nothing_asked, no_reply, names_listed_by_a_drop, long_line_called_bad, bad_line_called_long, event_under_a_long_line, event_under_a_bad_line, blank_line_is_answered, comment_is_answered, event_under_a_blank_line, version_two_is_refused, version_two_is_taken_twice, version_two_is_taken_behind_a_long_line, mark_is_taken_in_version_one, mark_is_refused_in_version_two, mark_of_no_units_is_taken, wide_register_is_taken_in_version_one, wide_register_is_refused_in_version_two}
 use Rattle.cc_worked.proofs.Opened.{all_of_a_run}
 use Rattle.cc_worked.proofs.Judged.{unlawful-at_its_end}
 use Rattle.cc_worked.proofs.wrong.misplaced_answers_are_refused.Goals as goal
@@ -59,6 +59,18 @@ returns-clause-version_two_is_taken_twice c = unlawful-at_its_end version_two_is
 pub returns-clause-version_two_is_taken_behind_a_long_line : goal.returns-clause-version_two_is_taken_behind_a_long_line
 unfolding all_of_a_run
 returns-clause-version_two_is_taken_behind_a_long_line c = unlawful-at_its_end version_two_is_taken_behind_a_long_line refl refl refl
+
+pub returns-clause-mark_is_taken_in_version_one : goal.returns-clause-mark_is_taken_in_version_one
+unfolding all_of_a_run
+returns-clause-mark_is_taken_in_version_one c = unlawful-at_its_end mark_is_taken_in_version_one refl refl refl
+
+pub returns-clause-mark_is_refused_in_version_two : goal.returns-clause-mark_is_refused_in_version_two
+unfolding all_of_a_run
+returns-clause-mark_is_refused_in_version_two c = unlawful-at_its_end mark_is_refused_in_version_two refl refl refl
+
+pub returns-clause-mark_of_no_units_is_taken : goal.returns-clause-mark_of_no_units_is_taken
+unfolding all_of_a_run
+returns-clause-mark_of_no_units_is_taken c = unlawful-at_its_end mark_of_no_units_is_taken refl refl refl
 
 pub returns-clause-wide_register_is_taken_in_version_one : goal.returns-clause-wide_register_is_taken_in_version_one
 unfolding all_of_a_run

@@ -1,5 +1,5 @@
 use Rattle.std.specs.Prelude.{refl}
-use Rattle.cc_worked.specs.WrongEvents.{freed_by_a_refused_command, freed_without_memory, freed_before_it_was_made, freed_twice, freed_again, freed_while_a_register_holds_it, freed_while_a_slot_holds_it, freed_while_its_reflector_is_held, preserved_reflector_is_freed, reflector_with_an_emptied_slot_is_freed, reflector_that_is_a_key_is_freed, value_is_freed_while_map_and_key_are_held, reflector_that_is_a_delegate_is_freed, delegate_is_freed_while_its_proxy_is_held, proxy_key_is_freed_while_map_and_delegate_are_held, value_of_a_proxy_key_is_freed_while_map_and_delegate_are_held, script_object_is_freed_by_a_drop, script_object_is_freed_by_a_slice, script_object_is_freed_by_a_collect, reflector_is_freed_by_a_collect, unlinked_before_it_was_made, unlinked_after_it_was_freed, unlinked_while_held, unlinked_by_a_drop, unlinked_by_the_making_of_another, moved_native_is_freed, unlinked_by_a_move, script_object_is_unlinked, reflector_is_unlinked, unlinked_in_falling_order, unlinked_twice, unlinked_in_falling_order_by_gc, unlinked_in_three_runs}
+use Rattle.cc_worked.specs.WrongEvents.{freed_by_a_refused_command, freed_without_memory, freed_before_it_was_made, freed_twice, freed_again, freed_while_a_register_holds_it, freed_while_a_slot_holds_it, freed_while_its_reflector_is_held, preserved_reflector_is_freed, reflector_with_an_emptied_slot_is_freed, reflector_that_is_a_key_is_freed, value_is_freed_while_map_and_key_are_held, reflector_that_is_a_delegate_is_freed, delegate_is_freed_while_its_proxy_is_held, proxy_key_is_freed_while_map_and_delegate_are_held, value_of_a_proxy_key_is_freed_while_map_and_delegate_are_held, script_object_is_freed_by_a_drop, reflector_is_freed_by_a_drop, script_object_is_freed_by_a_put, script_object_is_freed_by_the_making_of_another, script_object_is_freed_by_forget, script_object_is_freed_by_a_slice_while_a_native_holds_it, value_is_freed_by_a_collect_while_map_and_key_are_held, script_object_is_freed_by_mark_while_held, script_object_freed_by_mark_is_freed_again, unlinked_before_it_was_made, unlinked_after_it_was_freed, unlinked_while_held, unlinked_by_a_drop, unlinked_by_the_making_of_another, moved_native_is_freed, unlinked_by_a_move, script_object_is_unlinked, reflector_is_unlinked, script_object_is_unlinked_by_mark, unlinked_in_falling_order, unlinked_twice, unlinked_in_falling_order_by_gc, unlinked_in_falling_order_by_mark, unlinked_in_three_runs}
 use Rattle.cc_worked.proofs.Opened.{all_of_a_run}
 use Rattle.cc_worked.proofs.Judged.{unlawful-at_its_end}
 use Rattle.cc_worked.proofs.wrong.wrong_events_are_refused.Goals as goal
@@ -72,17 +72,37 @@ pub returns-clause-script_object_is_freed_by_a_drop : goal.returns-clause-script
 unfolding all_of_a_run
 returns-clause-script_object_is_freed_by_a_drop c = unlawful-at_its_end script_object_is_freed_by_a_drop refl refl refl
 
-pub returns-clause-script_object_is_freed_by_a_slice : goal.returns-clause-script_object_is_freed_by_a_slice
+pub returns-clause-reflector_is_freed_by_a_drop : goal.returns-clause-reflector_is_freed_by_a_drop
 unfolding all_of_a_run
-returns-clause-script_object_is_freed_by_a_slice c = unlawful-at_its_end script_object_is_freed_by_a_slice refl refl refl
+returns-clause-reflector_is_freed_by_a_drop c = unlawful-at_its_end reflector_is_freed_by_a_drop refl refl refl
 
-pub returns-clause-script_object_is_freed_by_a_collect : goal.returns-clause-script_object_is_freed_by_a_collect
+pub returns-clause-script_object_is_freed_by_a_put : goal.returns-clause-script_object_is_freed_by_a_put
 unfolding all_of_a_run
-returns-clause-script_object_is_freed_by_a_collect c = unlawful-at_its_end script_object_is_freed_by_a_collect refl refl refl
+returns-clause-script_object_is_freed_by_a_put c = unlawful-at_its_end script_object_is_freed_by_a_put refl refl refl
 
-pub returns-clause-reflector_is_freed_by_a_collect : goal.returns-clause-reflector_is_freed_by_a_collect
+pub returns-clause-script_object_is_freed_by_the_making_of_another : goal.returns-clause-script_object_is_freed_by_the_making_of_another
 unfolding all_of_a_run
-returns-clause-reflector_is_freed_by_a_collect c = unlawful-at_its_end reflector_is_freed_by_a_collect refl refl refl
+returns-clause-script_object_is_freed_by_the_making_of_another c = unlawful-at_its_end script_object_is_freed_by_the_making_of_another refl refl refl
+
+pub returns-clause-script_object_is_freed_by_forget : goal.returns-clause-script_object_is_freed_by_forget
+unfolding all_of_a_run
+returns-clause-script_object_is_freed_by_forget c = unlawful-at_its_end script_object_is_freed_by_forget refl refl refl
+
+pub returns-clause-script_object_is_freed_by_a_slice_while_a_native_holds_it : goal.returns-clause-script_object_is_freed_by_a_slice_while_a_native_holds_it
+unfolding all_of_a_run
+returns-clause-script_object_is_freed_by_a_slice_while_a_native_holds_it c = unlawful-at_its_end script_object_is_freed_by_a_slice_while_a_native_holds_it refl refl refl
+
+pub returns-clause-value_is_freed_by_a_collect_while_map_and_key_are_held : goal.returns-clause-value_is_freed_by_a_collect_while_map_and_key_are_held
+unfolding all_of_a_run
+returns-clause-value_is_freed_by_a_collect_while_map_and_key_are_held c = unlawful-at_its_end value_is_freed_by_a_collect_while_map_and_key_are_held refl refl refl
+
+pub returns-clause-script_object_is_freed_by_mark_while_held : goal.returns-clause-script_object_is_freed_by_mark_while_held
+unfolding all_of_a_run
+returns-clause-script_object_is_freed_by_mark_while_held c = unlawful-at_its_end script_object_is_freed_by_mark_while_held refl refl refl
+
+pub returns-clause-script_object_freed_by_mark_is_freed_again : goal.returns-clause-script_object_freed_by_mark_is_freed_again
+unfolding all_of_a_run
+returns-clause-script_object_freed_by_mark_is_freed_again c = unlawful-at_its_end script_object_freed_by_mark_is_freed_again refl refl refl
 
 pub returns-clause-unlinked_before_it_was_made : goal.returns-clause-unlinked_before_it_was_made
 unfolding all_of_a_run
@@ -120,6 +140,10 @@ pub returns-clause-reflector_is_unlinked : goal.returns-clause-reflector_is_unli
 unfolding all_of_a_run
 returns-clause-reflector_is_unlinked c = unlawful-at_its_end reflector_is_unlinked refl refl refl
 
+pub returns-clause-script_object_is_unlinked_by_mark : goal.returns-clause-script_object_is_unlinked_by_mark
+unfolding all_of_a_run
+returns-clause-script_object_is_unlinked_by_mark c = unlawful-at_its_end script_object_is_unlinked_by_mark refl refl refl
+
 pub returns-clause-unlinked_in_falling_order : goal.returns-clause-unlinked_in_falling_order
 unfolding all_of_a_run
 returns-clause-unlinked_in_falling_order c = unlawful-at_its_end unlinked_in_falling_order refl refl refl
@@ -131,6 +155,10 @@ returns-clause-unlinked_twice c = unlawful-at_its_end unlinked_twice refl refl r
 pub returns-clause-unlinked_in_falling_order_by_gc : goal.returns-clause-unlinked_in_falling_order_by_gc
 unfolding all_of_a_run
 returns-clause-unlinked_in_falling_order_by_gc c = unlawful-at_its_end unlinked_in_falling_order_by_gc refl refl refl
+
+pub returns-clause-unlinked_in_falling_order_by_mark : goal.returns-clause-unlinked_in_falling_order_by_mark
+unfolding all_of_a_run
+returns-clause-unlinked_in_falling_order_by_mark c = unlawful-at_its_end unlinked_in_falling_order_by_mark refl refl refl
 
 pub returns-clause-unlinked_in_three_runs : goal.returns-clause-unlinked_in_three_runs
 unfolding all_of_a_run
