@@ -14,5 +14,6 @@ pub mod MadeStays
 pub mod OptionRows
 pub mod Pieces
 pub mod Replying
+pub mod MarkingWell
 pub mod Totals
 pub mod Wants

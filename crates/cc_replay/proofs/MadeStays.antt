@@ -1,4 +1,4 @@
--- UNITS OF COLLECTIONS MAKE NO NATIVE.
+-- UNITS OF COLLECTIONS AND OF MARKINGS MAKE NO NATIVE.
 use Rattle.std.proofs.Common.{◌≡◌, ℕ, zero, suc, Bool, true, false, not, ◌&&◌, List, [], ◌∷◌, Option, Some, None, is_some, refl, ◌∙◌}
 use Rattle.cc_names.specs.declared.name.Name.{Name}
 use Rattle.cc_names.specs.declared.name.Name.TheVariants as name
@@ -7,12 +7,15 @@ use Rattle.cc_model.specs.Slots.{Slots}
 use Rattle.cc_model.specs.Heap.{Heap, Outcome, after, native_at, set_slot, silently, suspect}
 use Rattle.cc_model.specs.Cascade.{add_ref, cascade}
 use Rattle.cc_model.specs.Colours.{marked}
-use Rattle.cc_model.specs.Sweep.{unmarked, without_dead_entries, without_script, let_native_go, sweep_one, sweep_each, sweep, sweeps, rounds, collect_scripts}
+use Rattle.cc_model.specs.Sweep.{unmarked, without_dead_entries, without_script, sweep_one, sweep_each, sweep, sweeps, rounds, collect_scripts}
 use Rattle.cc_model.specs.Snapshot.{Snapshot}
 use Rattle.cc_model.specs.Units.{first_untraversed}
 use Rattle.cc_model.specs.End.{root_each, empty_slot, empty_each, slots_now, unlink, unlink_each, unroot_each, take_away, give_back, Progress, went_on, at_end, refused, may_be_refused, heap_given_back, abandoned, node_or_end, granted, UnitDone, unit}
-use Rattle.cc_model.specs.Collecting.{Machine, UnitsDone, no_units, one_unit, units_done, enough_units, to_the_end, finish_running, slice, starting_anew, unless_stopped, collect, then_scripts, gc}
+use Rattle.cc_model.specs.Marking.{NewMarks, is_scanned, ended_marks, scans_left}
+use Rattle.cc_model.specs.declared.item.Event.{Event}
+use Rattle.cc_model.specs.Collecting.{Machine, UnitsDone, no_units, one_unit, units_done, enough_units, to_the_end, finish_running, slice_cycles, starting_anew, unless_stopped, collect_cycles, one_marked, units_marked, finish_marking, slice, collect, without_marking, gc, mark}
 use Rattle.cc_laws_heap.proofs.Face.{Leaves-let_go, Leaves-take_up}
+use Rattle.cc_replay.proofs.BesideWeak.{finished_by, marked_by, scanned_by}
 
 -- as many natives were made in the second heaps as in the first
 abbrev pub MadeAsMany : Heap → Heap → Type 0
@@ -107,11 +110,6 @@ units_done-made (suc n) d = go (units_done-made n (one_unit d.machine d.events))
     go more at_end = refl
     go more refused = refl
 
--- A SLICE
-pub slice-made : (n : ℕ) (m : Machine) → MadeAsMany m.heap (slice n m).machine.heap
-unfolding slice
-slice-made n m = units_done-made n (no_units m)
-
 -- a collection brought to its end, where one runs
 abbrev finish_by : Machine → Bool → UnitsDone
 finish_by m b = elim b [ true ↦ to_the_end (no_units m) | false ↦ no_units m ]
@@ -136,11 +134,6 @@ stopped-made d = go d.progress
     go went_on = units_done-made (enough_units d.machine) (starting_anew d)
     go at_end = units_done-made (enough_units d.machine) (starting_anew d)
     go refused = refl
-
--- A WHOLE COLLECTION
-pub collect-made : (m : Machine) → MadeAsMany m.heap (collect m).machine.heap
-unfolding collect
-collect-made m = stopped-made (finish_running m) ∙ finish-made m
 
 -- A script collection
 
@@ -180,7 +173,67 @@ rounds-made (suc n) o = go (rounds-made n (after o.events (sweep (marked o.heap)
     go more true = more ∙ (sweep-made (marked o.heap) ∙ marked-made o.heap)
     go more false = sweep-made (marked o.heap) ∙ marked-made o.heap
 
+-- the end of a marking
+ended-made : (h : Heap) (marks : NewMarks) → MadeAsMany h (ended_marks h marks).heap
+unfolding ended_marks
+ended-made h marks = sweep-made _
+
+-- A marking in slices
+
+-- a unit of it
+one_marked-made : (m : Machine) (events : List Event) → MadeAsMany m.heap (one_marked m events).machine.heap
+one_marked-made m events = go m.marking
+  where
+    scan : (marks : NewMarks) (b : Bool) → MadeAsMany m.heap (scanned_by m events marks b).machine.heap
+    scan marks true = ended-made m.heap marks
+    scan marks false = refl
+
+    go : (o : Option NewMarks) → MadeAsMany m.heap (marked_by m events o).machine.heap
+    go None = refl
+    go (Some marks) = scan marks (is_scanned marks)
+
+-- the units that are left, by what the last one came to
+abbrev more_by : ℕ → UnitsDone → Progress → UnitsDone
+more_by n d p = elim p [ went_on ↦ units_marked n (one_marked d.machine d.events) | at_end ↦ d | refused ↦ d ]
+
+-- several units of it
+units_marked-made : (n : ℕ) (d : UnitsDone) → MadeAsMany d.machine.heap (units_marked n d).machine.heap
+units_marked-made zero d = refl
+units_marked-made (suc n) d = go (units_marked-made n (one_marked d.machine d.events)) d.progress
+  where
+    go : MadeAsMany (one_marked d.machine d.events).machine.heap (units_marked n (one_marked d.machine d.events)).machine.heap → (p : Progress) →
+        MadeAsMany d.machine.heap (more_by n d p).machine.heap
+    go more went_on = more ∙ one_marked-made d.machine d.events
+    go more at_end = refl
+    go more refused = refl
+
+-- one that goes on is brought to its end
+finish_marking-made : (m : Machine) → MadeAsMany m.heap (finish_marking m).machine.heap
+unfolding finish_marking
+finish_marking-made m = go m.marking
+  where
+    go : (o : Option NewMarks) → MadeAsMany m.heap (finished_by m o).machine.heap
+    go None = refl
+    go (Some marks) = units_marked-made (suc (scans_left marks)) (no_units m)
+
+-- What commands do
+
+-- A SLICE
+pub slice-made : (n : ℕ) (m : Machine) → MadeAsMany m.heap (slice n m).machine.heap
+unfolding slice slice_cycles
+slice-made n m = units_done-made n (no_units (finish_marking m).machine) ∙ finish_marking-made m
+
+-- A WHOLE COLLECTION
+pub collect-made : (m : Machine) → MadeAsMany m.heap (collect m).machine.heap
+unfolding collect collect_cycles
+collect-made m = stopped-made (finish_running (finish_marking m).machine) ∙ (finish-made (finish_marking m).machine ∙ finish_marking-made m)
+
 -- `gc`
 pub gc-made : (m : Machine) → MadeAsMany m.heap (gc m).machine.heap
 unfolding gc collect_scripts
-gc-made m = rounds-made _ (silently (finish_running m).machine.heap) ∙ finish-made m
+gc-made m = rounds-made _ (silently (finish_running (without_marking m)).machine.heap) ∙ finish-made (without_marking m)
+
+-- UNITS OF A MARKING
+pub mark-made : (n : ℕ) (m : Machine) → MadeAsMany m.heap (mark n m).machine.heap
+unfolding mark
+mark-made n m = units_marked-made n (starting_anew (finish_running m)) ∙ finish-made m

@@ -1,6 +1,6 @@
 -- THE ANSWER TO AN ASK, by what the plain run does.
 use Rattle.std.specs.Prelude.{IsTrue}
-use Rattle.std.proofs.Common.{◌≡◌, ◌≢◌, ℕ, Bool, true, false, List, [], ◌∷◌, ◌++◌, map, length, Option, Some, None, option_map, refl, sym, ◌∙◌, ap, subst, arith}
+use Rattle.std.proofs.Common.{◌≡◌, ◌≢◌, ℕ, Bool, true, false, List, [], ◌∷◌, ◌++◌, map, length, Option, Some, None, option_map, Ok, refl, sym, ◌∙◌, ap, subst, arith}
 use Rattle.std.proofs.lemmas.Bool.{true≢false}
 use Rattle.cc_names.specs.declared.name.Name.{Name}
 use Rattle.cc_model.specs.declared.command.Command.{Command}
@@ -22,14 +22,16 @@ use Rattle.cc_model.specs.Deeds.{deed_of}
 use Rattle.cc_model.specs.Heap.{Heap, Outcome, objects_of}
 use Rattle.cc_model.specs.Skipping.{forgotten}
 use Rattle.cc_model.specs.Effects.{done_in, effects, hold_native, takes_memory}
-use Rattle.cc_model.specs.Marking.{marking_after}
+use Rattle.cc_model.specs.Marking.{NewMarks, marking_after}
 use Rattle.cc_model.specs.Lawful.{is_without_memory}
 use Rattle.cc_model.specs.Run.{Turn, answering, with_effects, weak_after, after_units, after_gc, forget_suspects, beside_deed, if_granted, unless_refused, mutate, census_names, do_ask, turn_of, said, do_class}
-use Rattle.cc_model.specs.Collecting.{Machine, UnitsDone, slice, collect, gc, reply_to_units}
+use Rattle.cc_model.specs.Collecting.{Machine, UnitsDone, slice, collect, gc, mark, reply_to_units}
 use Rattle.cc_model.specs.End.{Progress}
 use Rattle.cc_model.proofs.Replies.{is_without_memory-true}
 use Rattle.cc_model.proofs.Tellings.{Tells-trans}
 use Rattle.cc_heaps.specs.Keyed.{Keyed}
+use Rattle.cc_heaps.specs.NewMarks.{marks_of}
+use Rattle.cc_heaps.proofs.ExposedMarks.{nothing-in}
 use Rattle.cc_weakrefs.specs.declared.noted.Noted.{Noted}
 use Rattle.cc_weakrefs.specs.Noting.{names_noted, usable_noted}
 use Rattle.cc_mutator.specs.Applied.{IsCarriedOut, deed_by, deed_in, reply_in}
@@ -37,14 +39,15 @@ use Rattle.cc_mutator.proofs.Following.{mutator-cases}
 use Rattle.cc_mutator.proofs.WeakRead.{reads-free, reads-taken}
 use Rattle.cc_replay.specs.Answered.{IsAnswered}
 use Rattle.cc_replay.specs.Beside.{machine_beside}
-use Rattle.cc_replay.proofs.BesideWeak.{collect-weak, done_beside, gc-weak, slice-weak, with_weak}
-use Rattle.cc_builder.specs.Building.{Built}
-use Rattle.cc_collector.specs.Collected.{LedTo, IsSliced, IsCollected, IsSwept}
+use Rattle.cc_replay.proofs.BesideWeak.{collect-weak, done_beside, gc-weak, mark-weak, slice-weak, with_weak}
+use Rattle.cc_collector.specs.declared.collector.Ended.{Ended}
+use Rattle.cc_collector.specs.Kept.{Kept}
+use Rattle.cc_collector.specs.Collected.{LedTo, IsSliced, IsCollected, IsMarkedOn, IsSwept, progress_of}
 use Rattle.cc_laws_run.specs.Memory.{SameMachine, with_memory}
 
 -- A command that a line asks is one of the mutator, where it is none of these
-pub others-applied : (c : Command) → IsTrue (in_range c) → c ≢ command.Nothing → c ≢ command.Version2 → c ≢ command.Forget → ((x : Name) → c ≢ command.Why x) → c ≢ command.Census → ((u : ℕ) → c ≢ command.Slice u) → c ≢ command.Collect → c ≢ command.Gc → IsTrue (is_applied c)
-others-applied c range no_line no_version no_forget no_why no_census no_slice no_collect no_gc = grind arith
+pub others-applied : (c : Command) → IsTrue (in_range c) → c ≢ command.Nothing → c ≢ command.Version2 → c ≢ command.Forget → ((x : Name) → c ≢ command.Why x) → c ≢ command.Census → ((u : ℕ) → c ≢ command.Slice u) → c ≢ command.Collect → c ≢ command.Gc → ((u : ℕ) → c ≢ command.Mark u) → IsTrue (is_applied c)
+others-applied c range no_line no_version no_forget no_why no_census no_slice no_collect no_gc no_mark = grind arith
 
 -- the plain run does what the class of a command does
 class-done : (m : Machine) (c : Command) (k : Class) → class_of c ≡ k → do_ask m (taken c) ≡ do_class m c k
@@ -83,6 +86,12 @@ read-done : (h : Heap) (names : Slots) (c : Command) (d w : ℕ) → class_of c 
 unfolding done_in
 read-done h names c d w e = ap (λ k. done_in h (deed_in h names c k)) e
 
+-- a weak register read leaves the new marks
+pub reads-unmarked : (h : Heap) (names : Slots) (c : Command) (d w : ℕ) → class_of c ≡ reads_weak d w → (old new : Option NewMarks) →
+    new ≡ option_map (marking_after h (deed_by h names c)) old → new ≡ old
+reads-unmarked h names c d w is old new e =
+    e ∙ (ap (λ k. option_map (marking_after h (deed_in h names c k)) old) is ∙ sym (nothing-in h old))
+
 module _ (old new : Machine) (before after : Telling) where
   -- by the turn
   by_turn : (c : Command) (memory : List Bool) (t : Turn) → do_ask (with_memory old memory) (taken c) ≡ t → SameMachine t.machine new →
@@ -97,25 +106,26 @@ module _ (old new : Machine) (before after : Telling) where
     told = told;
   }
 
-  module _ (c : Command) (idle : old.marking ≡ None) (same_marking : new.marking ≡ old.marking) (same_snapshot : new.snapshot ≡ old.snapshot) where
-    -- a deed carried out, where no marking goes on
-    answered-done : (mid : Telling) (r : Reply) → class_of c ≡ does → refusal_of (objects_of old.heap) c ≡ None →
-        IsCarriedOut c old.heap new.heap old.weak new.weak r before mid → Tells mid after (of_reply r ∷ []) → IsAnswered old new (taken c) before after
-    answered-done mid r is none d t =
-        let m = with_memory old [] in
-        let deed = deed_of (objects_of old.heap) c in
-        let does_it = deed-done old.heap old.weak c is in
-        by_turn c [] (with_effects (beside_deed m deed) (reply_if_taken (objects_of old.heap) c) (effects old.heap c))
-        (deed-mutates m c is ∙ (mutate-by m c None none ∙ granted old (takes_memory old.heap c) (mutating old c)))
-        (record {
-          heap = sym (d.heap ∙ ap (λ (o : Outcome). o.heap) does_it);
-          weak = sym (d.weak_registers ∙ ap (λ k. weak_after old.weak (deed_in old.heap old.weak c k)) is);
-          marking = ap (option_map (marking_after old.heap deed)) idle ∙ (sym idle ∙ sym same_marking);
-          snapshot = sym same_snapshot;
-        })
-        (subst (λ (x : Reply). Tells before after (map of_event (effects old.heap c).events ++ of_reply x ∷ [])) (d.reply_is ∙ ap (reply_in old.heap old.weak c) is)
-        (Tells-trans before mid after (map of_event (effects old.heap c).events) (of_reply r ∷ []) (subst (λ (o : Outcome). TellsEvents before mid o.events) does_it d.told) t))
+  -- a deed carried out, with the new marks after it
+  answered-done : (c : Command) → new.snapshot ≡ old.snapshot → (mid : Telling) (r : Reply) → class_of c ≡ does → refusal_of (objects_of old.heap) c ≡ None →
+      new.marking ≡ option_map (marking_after old.heap (deed_of (objects_of old.heap) c)) old.marking →
+      IsCarriedOut c old.heap new.heap old.weak new.weak r before mid → Tells mid after (of_reply r ∷ []) → IsAnswered old new (taken c) before after
+  answered-done c same_snapshot mid r is none marks d t =
+      let m = with_memory old [] in
+      let deed = deed_of (objects_of old.heap) c in
+      let does_it = deed-done old.heap old.weak c is in
+      by_turn c [] (with_effects (beside_deed m deed) (reply_if_taken (objects_of old.heap) c) (effects old.heap c))
+      (deed-mutates m c is ∙ (mutate-by m c None none ∙ granted old (takes_memory old.heap c) (mutating old c)))
+      (record {
+        heap = sym (d.heap ∙ ap (λ (o : Outcome). o.heap) does_it);
+        weak = sym (d.weak_registers ∙ ap (λ k. weak_after old.weak (deed_in old.heap old.weak c k)) is);
+        marking = sym marks;
+        snapshot = sym same_snapshot;
+      })
+      (subst (λ (x : Reply). Tells before after (map of_event (effects old.heap c).events ++ of_reply x ∷ [])) (d.reply_is ∙ ap (reply_in old.heap old.weak c) is)
+      (Tells-trans before mid after (map of_event (effects old.heap c).events) (of_reply r ∷ []) (subst (λ (o : Outcome). TellsEvents before mid o.events) does_it d.told) t))
 
+  module _ (c : Command) (same_marking : new.marking ≡ old.marking) (same_snapshot : new.snapshot ≡ old.snapshot) where
     -- a weak register read
     answered-read : (mid : Telling) (r : Reply) (d w : ℕ) → class_of c ≡ reads_weak d w →
         IsCarriedOut c old.heap new.heap old.weak new.weak r before mid → Tells mid after (of_reply r ∷ []) → IsAnswered old new (taken c) before after
@@ -203,6 +213,15 @@ module _ (weak : Slots) where
         answered-units (with_weak weak old) (with_weak weak new) before after command.Collect s.memory (done_beside weak d) p reply mid (led-beside d old new p before mid s.led)
         (ap after_units same ∙ ap (answering (with_weak weak d.machine) d.events) (ap reply_to_units s.led.came_to ∙ replies)) t
 
+    -- units of a marking
+    pub answered-mark : (units : ℕ) (ended : Ended) (steps steps_now : ℕ) (mid : Telling) → IsMarkedOn units old new ended steps steps_now before mid →
+        Tells mid after (of_reply Done ∷ []) → IsAnswered (with_weak weak old) (with_weak weak new) (taken (command.Mark units)) before after
+    unfolding do_ask
+    answered-mark units ended steps steps_now mid s t =
+        let d = mark units (with_memory old s.memory) in
+        answered-units (with_weak weak old) (with_weak weak new) before after (command.Mark units) s.memory (done_beside weak d) (progress_of (Ok ended)) Done mid
+        (led-beside d old new (progress_of (Ok ended)) before mid s.led) (ap after_gc (mark-weak weak units (with_memory old s.memory))) t
+
     -- `gc`
     pub answered-gc : (mid : Telling) → IsSwept old new before mid → Tells mid after (of_reply Done ∷ []) → IsAnswered (with_weak weak old) (with_weak weak new) (taken command.Gc) before after
     unfolding do_ask
@@ -240,19 +259,20 @@ answered-census m before mid after listed t = answered-said m command.Census cen
     (Tells-trans before mid after (map Listed (census_names m.heap)) (of_reply (Census (length (census_names m.heap))) ∷ []) listed t)
 
 -- A COMMAND OF THE MUTATOR, by what applying it gives, and its reply
-pub answered-applied : (c : Command) → IsTrue (is_applied c) → (old new : Keyed) (kept : Option Built) (weak noted : List (Option Noted)) (before mid after : Telling) (r : Reply) →
+pub answered-applied : (c : Command) → IsTrue (is_applied c) → (old new : Keyed) (kept : Kept) (weak noted : List (Option Noted)) (before mid after : Telling) (r : Reply) →
     ((cause : Refusal) → refusal_of (objects_of old.heap) c ≡ Some cause → (r ≡ Refused cause) × (new ≡ old) × (noted ≡ weak) × (mid ≡ before)) →
     (refusal_of (objects_of old.heap) c ≡ None → r ≢ Refused NoMemory → IsCarriedOut c old.heap new.heap (names_noted weak) (names_noted noted) r before mid) →
     (r ≡ Refused NoMemory → (refusal_of (objects_of old.heap) c ≡ None) × (takes_memory old.heap c ≡ true) × (new ≡ old) × (noted ≡ weak) × (mid ≡ before)) →
-    Tells mid after (of_reply r ∷ []) → IsAnswered (machine_beside old.heap kept weak) (machine_beside new.heap kept noted) (taken c) before after
-answered-applied c applied old new kept weak noted before mid after r refused done memory t =
+    (refusal_of (objects_of old.heap) c ≡ None → r ≢ Refused NoMemory → marks_of new ≡ option_map (marking_after old.heap (deed_by old.heap (names_noted weak) c)) (marks_of old)) →
+    Tells mid after (of_reply r ∷ []) → IsAnswered (machine_beside old kept weak) (machine_beside new kept noted) (taken c) before after
+answered-applied c applied old new kept weak noted before mid after r refused done memory marks t =
     mutator-cases (λ k. class_of c ≡ k → IsAnswered m n (taken c) before after) (class_of c) applied by_deed by_reading refl
   where
     m : Machine
-    m = machine_beside old.heap kept weak
+    m = machine_beside old kept weak
 
     n : Machine
-    n = machine_beside new.heap kept noted
+    n = machine_beside new kept noted
 
     -- nothing was told before the reply
     after_reply : (s : Reply) → r ≡ s → mid ≡ before → Tells before after (of_reply s ∷ [])
@@ -269,13 +289,15 @@ answered-applied c applied old new kept weak noted before mid after r refused do
         by_memory none true e =
             let lacks : r ≡ Refused NoMemory = is_without_memory-true r e in
             let f = memory lacks in
-            answered-denied m n before after c refl refl refl is f.0 f.1 (ap (λ (v : Keyed). v.heap) f.2) (ap names_noted f.3) (after_reply (Refused NoMemory) lacks f.4)
-        by_memory none false e = answered-done m n before after c refl refl refl mid r is none (done none (with-memory e)) t
+            answered-denied m n before after c (ap marks_of f.2) refl is f.0 f.1 (ap (λ (v : Keyed). v.heap) f.2) (ap names_noted f.3) (after_reply (Refused NoMemory) lacks f.4)
+        by_memory none false e = answered-done m n before after c refl mid r is none
+            (marks none (with-memory e) ∙ ap (λ k. option_map (marking_after old.heap (deed_in old.heap (names_noted weak) c k)) (marks_of old)) is)
+            (done none (with-memory e)) t
 
         by_checks : (o : Option Refusal) → refusal_of (objects_of old.heap) c ≡ o → IsAnswered m n (taken c) before after
         by_checks (Some cause) e =
             let k = refused cause e in
-            answered-refused m n before after c refl refl refl is cause e (ap (λ (v : Keyed). v.heap) k.1) (ap names_noted k.2) (after_reply (Refused cause) k.0 k.3)
+            answered-refused m n before after c (ap marks_of k.1) refl is cause e (ap (λ (v : Keyed). v.heap) k.1) (ap names_noted k.2) (after_reply (Refused cause) k.0 k.3)
         by_checks None e = by_memory e (is_without_memory r) refl
 
     by_reading : (d w : ℕ) → class_of c ≡ reads_weak d w → IsAnswered m n (taken c) before after
@@ -283,4 +305,7 @@ answered-applied c applied old new kept weak noted before mid after r refused do
       where
         go : (b : Bool) → is_without_memory r ≡ b → IsAnswered m n (taken c) before after
         go true e = absurd (true≢false (sym (memory (is_without_memory-true r e)).1 ∙ reads-free old.heap c d w is))
-        go false e = answered-read m n before after c refl refl refl mid r d w is (done (reads-taken (objects_of old.heap) c d w is) (with-memory e)) t
+        go false e =
+            let none = reads-taken (objects_of old.heap) c d w is in
+            answered-read m n before after c (reads-unmarked old.heap (names_noted weak) c d w is (marks_of old) (marks_of new) (marks none (with-memory e))) refl mid r d w is
+            (done none (with-memory e)) t

@@ -10,8 +10,7 @@ ghost use Rattle.cc_model.specs.Ranges.{in_range};
 ghost use Rattle.cc_model.specs.Asks.{asks_of, taken};
 ghost use Rattle.cc_model.specs.Heap.{empty_heap};
 ghost use Rattle.cc_replay.specs.Answered.{IsAnswered};
-ghost use Rattle.cc_builder.specs.Building.{Built};
-ghost use Rattle.cc_collector.specs.Kept.{RunsIn};
+ghost use Rattle.cc_collector.specs.Kept.{Kept, RunsIn};
 ghost use Rattle.cc_names.specs.Sizes.{weak_length};
 ghost use Rattle.cc_model.specs.Slots.{empty_slots};
 ghost use Rattle.cc_weakrefs.specs.declared.noted.Noted.{Noted};
@@ -43,7 +42,8 @@ use std::sync::ledger::{Blank, Ledger};
 /// Answers `census`: lists what is there, and tells how many there are.
 fn answer_census<N: Notices>(heaps: &Heaps, out: &mut N)
     requires order { IsInOrder [] heaps.now }
-    ensures { (c : Option Built) (weak : List (Option Noted)) → IsAnswered (machine_beside heaps.now.heap c weak) (machine_beside heaps.now.heap c weak) (taken command.Census) (N.telling out.old) (N.telling out.new) }
+    ensures { (c : Kept) (weak : List (Option Noted)) → IsAnswered (machine_beside heaps.now c weak) (machine_beside heaps.now c weak)
+        (taken command.Census) (N.telling out.old) (N.telling out.new) }
 {
     let count = heaps.census(out);
     out.tell(Item::Reply(Reply::Census(count)));
@@ -61,7 +61,8 @@ fn answer_slice<L: Ledger, N: Notices>(
     requires name { blank.name ≡ L.name }
     requires parts { blank.parts ≡ L.parts }
     requires some { 0 < L.parts }
-    ensures answered { (weak : List (Option Noted)) → IsAnswered (machine_beside heaps.old.heap collector.old weak) (machine_beside heaps.new.heap collector.new weak) (taken (command.Slice units)) (N.telling out.old) (N.telling out.new) }
+    ensures answered { (weak : List (Option Noted)) → IsAnswered (machine_beside heaps.old collector.old weak) (machine_beside heaps.new collector.new weak)
+        (taken (command.Slice units)) (N.telling out.old) (N.telling out.new) }
     ensures noted { KeepsNoted heaps.old heaps.new }
     ensures runs { RunsIn heaps.new collector.new }
 {
@@ -75,7 +76,8 @@ fn answer_slice<L: Ledger, N: Notices>(
 /// Answers `collect`.
 fn answer_collect<N: Notices>(heaps: &mut Heaps, collector: &mut Collector, out: &mut N)
     requires runs { RunsIn heaps.old collector.old }
-    ensures answered { (weak : List (Option Noted)) → IsAnswered (machine_beside heaps.old.heap collector.old weak) (machine_beside heaps.new.heap collector.new weak) (taken command.Collect) (N.telling out.old) (N.telling out.new) }
+    ensures answered { (weak : List (Option Noted)) → IsAnswered (machine_beside heaps.old collector.old weak) (machine_beside heaps.new collector.new weak)
+        (taken command.Collect) (N.telling out.old) (N.telling out.new) }
     ensures noted { KeepsNoted heaps.old heaps.new }
     ensures runs { RunsIn heaps.new collector.new }
 {
@@ -88,11 +90,34 @@ fn answer_collect<N: Notices>(heaps: &mut Heaps, collector: &mut Collector, out:
 /// Answers `gc`.
 fn answer_gc<N: Notices>(heaps: &mut Heaps, collector: &mut Collector, out: &mut N)
     requires runs { RunsIn heaps.old collector.old }
-    ensures answered { (weak : List (Option Noted)) → IsAnswered (machine_beside heaps.old.heap collector.old weak) (machine_beside heaps.new.heap collector.new weak) (taken command.Gc) (N.telling out.old) (N.telling out.new) }
+    ensures answered { (weak : List (Option Noted)) → IsAnswered (machine_beside heaps.old collector.old weak) (machine_beside heaps.new collector.new weak)
+        (taken command.Gc) (N.telling out.old) (N.telling out.new) }
     ensures noted { KeepsNoted heaps.old heaps.new }
     ensures runs { RunsIn heaps.new collector.new }
 {
     collector.gc(heaps, out);
+    out.tell(Item::Reply(Reply::Done));
+}
+
+/// Answers `mark`, which is never refused. Nobody asks for its steps.
+fn answer_mark<L: Ledger, N: Notices>(
+    units: u32,
+    heaps: &mut Heaps,
+    collector: &mut Collector,
+    out: &mut N,
+    blank: Blank,
+)
+    requires runs { RunsIn heaps.old collector.old }
+    requires name { blank.name ≡ L.name }
+    requires parts { blank.parts ≡ L.parts }
+    requires some { 0 < L.parts }
+    ensures answered { (weak : List (Option Noted)) → IsAnswered (machine_beside heaps.old collector.old weak) (machine_beside heaps.new collector.new weak)
+        (taken (command.Mark units)) (N.telling out.old) (N.telling out.new) }
+    ensures noted { KeepsNoted heaps.old heaps.new }
+    ensures runs { RunsIn heaps.new collector.new }
+{
+    let mut steps = Steps::<L>::new(blank);
+    collector.mark(heaps, units, out, &mut steps);
     out.tell(Item::Reply(Reply::Done));
 }
 
@@ -109,7 +134,8 @@ fn answer_mutator<N: Notices>(
     requires in_range { IsTrue (in_range command.now) }
     requires runs { RunsIn heaps.old collector.now }
     requires keys { HoldKeys weak.old heaps.old }
-    ensures answered { IsAnswered (machine_beside heaps.old.heap collector.now weak.old) (machine_beside heaps.new.heap collector.now weak.new) (taken command.now) (N.telling out.old) (N.telling out.new) }
+    ensures answered { IsAnswered (machine_beside heaps.old collector.now weak.old) (machine_beside heaps.new collector.now weak.new)
+        (taken command.now) (N.telling out.old) (N.telling out.new) }
     ensures keys { HoldKeys weak.new heaps.new }
     ensures remembers { KeepsSuspected heaps.old.heap heaps.new.heap }
     ensures runs { RunsIn heaps.new collector.now }
@@ -122,7 +148,8 @@ fn answer_mutator<N: Notices>(
 /// whatever the candidates of a running collection are.
 fn answer_forget<N: Notices>(heaps: &mut Heaps, collector: &Collector, out: &mut N)
     requires runs { RunsIn heaps.old collector.now }
-    ensures answered { (weak : List (Option Noted)) → IsAnswered (machine_beside heaps.old.heap collector.now weak) (machine_beside heaps.new.heap collector.now weak) (taken command.Forget) (N.telling out.old) (N.telling out.new) }
+    ensures answered { (weak : List (Option Noted)) → IsAnswered (machine_beside heaps.old collector.now weak) (machine_beside heaps.new collector.now weak)
+        (taken command.Forget) (N.telling out.old) (N.telling out.new) }
     ensures noted { KeepsNoted heaps.old heaps.new }
     ensures remembers { KeepsSuspected heaps.old.heap heaps.new.heap }
     ensures runs { RunsIn heaps.new collector.now }
@@ -134,7 +161,8 @@ fn answer_forget<N: Notices>(heaps: &mut Heaps, collector: &Collector, out: &mut
 /// Answers `why`: tells how the registers reach the object, or that none does.
 fn answer_why<N: Notices>(alloc: Global, name: &Name, heaps: &Heaps, out: &mut N)
     requires order { IsInOrder [] heaps.now }
-    ensures { (c : Option Built) (weak : List (Option Noted)) → IsAnswered (machine_beside heaps.now.heap c weak) (machine_beside heaps.now.heap c weak) (taken (command.Why name.now)) (N.telling out.old) (N.telling out.new) }
+    ensures { (c : Kept) (weak : List (Option Noted)) → IsAnswered (machine_beside heaps.now c weak) (machine_beside heaps.now c weak)
+        (taken (command.Why name.now)) (N.telling out.old) (N.telling out.new) }
 {
     match why(alloc, heaps, name, out) {
         Ok(true) => out.tell(Item::Reply(Reply::Done)),
@@ -155,7 +183,8 @@ fn answer_command<N: Notices>(
     requires in_range { IsTrue (in_range command) }
     requires runs { RunsIn heaps.old collector.old }
     requires keys { HoldKeys weak.old heaps.old }
-    ensures answered { IsAnswered (machine_beside heaps.old.heap collector.old weak.old) (machine_beside heaps.new.heap collector.new weak.new) (taken command) (N.telling out.old) (N.telling out.new) }
+    ensures answered { IsAnswered (machine_beside heaps.old collector.old weak.old) (machine_beside heaps.new collector.new weak.new)
+        (taken command) (N.telling out.old) (N.telling out.new) }
     ensures keys { HoldKeys weak.new heaps.new }
     ensures counts { AreFew heaps.new.heap }
     ensures runs { RunsIn heaps.new collector.new }
@@ -171,6 +200,9 @@ fn answer_command<N: Notices>(
         }
         Command::Collect => answer_collect(heaps, collector, out),
         Command::Gc => answer_gc(heaps, collector, out),
+        Command::Mark(units) => {
+            answer_mark::<Brand, N>(units, heaps, collector, out, Blank::new(1))
+        }
         _ => answer_mutator(&command, heaps, weak, collector, out),
     }
 }
@@ -189,7 +221,8 @@ fn answer_text<N: Notices>(
     requires runs { RunsIn heaps.old collector.old }
     requires keys { HoldKeys weak.old heaps.old }
     ensures keys { HoldKeys weak.new heaps.new }
-    ensures answered { LineIsAnswered dialect.old dialect.new (machine_beside heaps.old.heap collector.old weak.old) (machine_beside heaps.new.heap collector.new weak.new) text.now (N.telling out.old) (N.telling out.new) }
+    ensures answered { LineIsAnswered dialect.old dialect.new (machine_beside heaps.old collector.old weak.old) (machine_beside heaps.new collector.new weak.new)
+        text.now (N.telling out.old) (N.telling out.new) }
     ensures runs { RunsIn heaps.new collector.new }
 {
     let asked = parse(text, *dialect);
@@ -225,7 +258,8 @@ fn answer_next<S: Source, N: Notices>(
     ensures keys { HoldKeys weak.new heaps.new }
     ensures answered { result ≡ Ok Next.Answered → (line : List ℕ)
         × GivesLine (S.left lines.old.source.now) (S.left lines.new.source.now) lines.old.window lines.new.window line
-        × LineIsAnswered dialect.old dialect.new (machine_beside heaps.old.heap collector.old weak.old) (machine_beside heaps.new.heap collector.new weak.new) line (N.telling out.old) (N.telling out.new) }
+        × LineIsAnswered dialect.old dialect.new (machine_beside heaps.old collector.old weak.old) (machine_beside heaps.new collector.new weak.new) line
+        (N.telling out.old) (N.telling out.new) }
     ensures going_on { result ≡ Ok Next.Answered → lines.new.stopped ≡ false }
     ensures falls { result ≡ Ok Next.Answered → weight lines.new.window < weight lines.old.window }
     ensures whole { result ≡ Ok Next.End → (start : Option (List ℕ)) (given : List (List ℕ)) →
@@ -289,14 +323,18 @@ fn answer_all<S: Source, N: Reports>(
     requires runs { RunsIn heaps.old collector.old }
     requires keys { HoldKeys weak.old heaps.old }
     requires whole { (N.telling out.old).broken ≡ false }
-    ensures done { result ≡ Status.Done → Answers AreAllGiven (moment (S.left lines.old.source.now) lines.old.window dialect.old (machine_beside heaps.old.heap collector.old weak.old) (N.telling out.old))
-        (moment (S.left lines.new.source.now) lines.new.window dialect.new (machine_beside heaps.new.heap collector.new weak.new) (N.telling out.new)) }
-    ensures fault { result ≡ Status.ReadFault → Answers IsBroken (moment (S.left lines.old.source.now) lines.old.window dialect.old (machine_beside heaps.old.heap collector.old weak.old) (N.telling out.old))
-        (moment (S.left lines.new.source.now) lines.new.window dialect.new (machine_beside heaps.new.heap collector.new weak.new) (N.telling out.new)) }
-    ensures over { result ≡ Status.Limit → Answers IsOver (moment (S.left lines.old.source.now) lines.old.window dialect.old (machine_beside heaps.old.heap collector.old weak.old) (N.telling out.old))
-        (moment (S.left lines.new.source.now) lines.new.window dialect.new (machine_beside heaps.new.heap collector.new weak.new) (N.telling out.new)) }
-    ensures first { result ≡ Status.WriteFault → Answers AreFirst (moment (S.left lines.old.source.now) lines.old.window dialect.old (machine_beside heaps.old.heap collector.old weak.old) (N.telling out.old))
-        (moment (S.left lines.new.source.now) lines.new.window dialect.new (machine_beside heaps.new.heap collector.new weak.new) (N.telling out.new)) }
+    ensures done { result ≡ Status.Done → Answers AreAllGiven
+        (moment (S.left lines.old.source.now) lines.old.window dialect.old (machine_beside heaps.old collector.old weak.old) (N.telling out.old))
+        (moment (S.left lines.new.source.now) lines.new.window dialect.new (machine_beside heaps.new collector.new weak.new) (N.telling out.new)) }
+    ensures fault { result ≡ Status.ReadFault → Answers IsBroken
+        (moment (S.left lines.old.source.now) lines.old.window dialect.old (machine_beside heaps.old collector.old weak.old) (N.telling out.old))
+        (moment (S.left lines.new.source.now) lines.new.window dialect.new (machine_beside heaps.new collector.new weak.new) (N.telling out.new)) }
+    ensures over { result ≡ Status.Limit → Answers IsOver
+        (moment (S.left lines.old.source.now) lines.old.window dialect.old (machine_beside heaps.old collector.old weak.old) (N.telling out.old))
+        (moment (S.left lines.new.source.now) lines.new.window dialect.new (machine_beside heaps.new collector.new weak.new) (N.telling out.new)) }
+    ensures first { result ≡ Status.WriteFault → Answers AreFirst
+        (moment (S.left lines.old.source.now) lines.old.window dialect.old (machine_beside heaps.old collector.old weak.old) (N.telling out.old))
+        (moment (S.left lines.new.source.now) lines.new.window dialect.new (machine_beside heaps.new collector.new weak.new) (N.telling out.new)) }
 
     ensures limit { lines.new.window.limit ≡ lines.old.window.limit }
     ensures reads { ReadsOn (S.reads lines.old.source.now) (S.reads lines.new.source.now) lines.old.window lines.new.window }
@@ -336,15 +374,20 @@ pub(crate) fn answer_input<S: Source, N: Reports>(
     requires start { lines.old.window ≡ nothing_read heaps.old.heap.limits.bytes }
     requires order { IsInOrder [] heaps.old }
     requires empty { heaps.old.heap ≡ empty_heap heaps.old.heap.limits }
+    requires idle { heaps.old.marking ≡ None }
     requires unnoted { names_noted weak.old ≡ empty_slots weak_length }
     requires keys { HoldKeys weak.old heaps.old }
     requires whole { (N.telling out.old).broken ≡ false }
-    ensures done { result ≡ Status.Done → IsDone heaps.old.heap.limits (ends S.left S.reads (λ n. (N.telling n).told) lines.old.source.now lines.new.source.now out.old out.new) }
+    ensures done { result ≡ Status.Done → IsDone heaps.old.heap.limits
+        (ends S.left S.reads (λ n. (N.telling n).told) lines.old.source.now lines.new.source.now out.old out.new) }
     ensures counted { result ≡ Status.Done → (bytes : List ℕ) → S.left lines.old.source.now ≡ Some bytes →
         Counts heaps.old.heap.limits (asks_of bytes) (N.telling out.old).sums (N.telling out.new).sums }
-    ensures fault { result ≡ Status.ReadFault → StopsAtFault heaps.old.heap.limits (ends S.left S.reads (λ n. (N.telling n).told) lines.old.source.now lines.new.source.now out.old out.new) }
-    ensures over { result ≡ Status.Limit → StopsAtLimit heaps.old.heap.limits (ends S.left S.reads (λ n. (N.telling n).told) lines.old.source.now lines.new.source.now out.old out.new) }
-    ensures front { result ≡ Status.WriteFault → StopsAtWrite heaps.old.heap.limits (ends S.left S.reads (λ n. (N.telling n).told) lines.old.source.now lines.new.source.now out.old out.new) }
+    ensures fault { result ≡ Status.ReadFault → StopsAtFault heaps.old.heap.limits
+        (ends S.left S.reads (λ n. (N.telling n).told) lines.old.source.now lines.new.source.now out.old out.new) }
+    ensures over { result ≡ Status.Limit → StopsAtLimit heaps.old.heap.limits
+        (ends S.left S.reads (λ n. (N.telling n).told) lines.old.source.now lines.new.source.now out.old out.new) }
+    ensures front { result ≡ Status.WriteFault → StopsAtWrite heaps.old.heap.limits
+        (ends S.left S.reads (λ n. (N.telling n).told) lines.old.source.now lines.new.source.now out.old out.new) }
 
     ensures reads { (S.reads lines.new.source.now).answered ≤ (S.reads lines.old.source.now).answered + heaps.old.heap.limits.bytes + 1 }
     ensures end_unread { result ≢ Status.Done → result ≢ Status.WriteFault →

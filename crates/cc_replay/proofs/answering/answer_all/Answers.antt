@@ -4,7 +4,7 @@ use Rattle.cc_model.specs.Telling.{Telling}
 use Rattle.cc_reader.specs.declared.read_stop.ReadStop.{ReadStop}
 use Rattle.cc_reader.specs.declared.read_stop.ReadStop.TheVariants as stop
 use Rattle.cc_heaps.specs.Keyed.{Keyed}
-use Rattle.cc_builder.specs.Building.{Built}
+use Rattle.cc_collector.specs.Kept.{Kept}
 use Rattle.cc_weakrefs.specs.declared.noted.Noted.{Noted}
 use Rattle.cc_replay.specs.Beside.{machine_beside}
 use Rattle.cc_replay.specs.declared.answering.Next.{Next}
@@ -16,11 +16,11 @@ use Rattle.cc_replay.proofs.Answers.{Answers-none, Answers-still, Answers-more, 
 use Rattle.cc_replay.proofs.answering.answer_all.Goals as goal
 
 -- where nothing moves, the machine does not
-still_machine : {x y : Dialect} {v w : Keyed} {m n : List (Option Noted)} {b d : Option Built} {t u : Telling} → (y ≡ x) × (w ≡ v) × (n ≡ m) × (d ≡ b) × (u ≡ t) →
-    (y ≡ x) × (machine_beside w.heap d n ≡ machine_beside v.heap b m) × (u ≡ t)
+still_machine : {x y : Dialect} {v w : Keyed} {m n : List (Option Noted)} {b d : Kept} {t u : Telling} → (y ≡ x) × (w ≡ v) × (n ≡ m) × (d ≡ b) × (u ≡ t) →
+    (y ≡ x) × (machine_beside w d n ≡ machine_beside v b m) × (u ≡ t)
 still_machine {x} {y} {v} {w} {m} {n} {b} {d} same = (
   same.0,
-  ap (λ (k : Keyed). machine_beside k.heap d n) same.1 ∙ (ap (machine_beside v.heap d) same.2 ∙ ap (λ c. machine_beside v.heap c m) same.3),
+  ap (λ (k : Keyed). machine_beside k d n) same.1 ∙ (ap (machine_beside v d) same.2 ∙ ap (λ c. machine_beside v c m) same.3),
   same.4,
 )
 

@@ -15,8 +15,8 @@ invariant-lines g l =
     let reads = g.S.Source.reads in
     let telling = g.N.Notices.telling in
     record {
-      lines : Answers HasGiven (moment (left l.fn.lines.source.now) l.fn.lines.window l.fn.dialect (machine_beside l.fn.heaps.heap l.fn.collector l.fn.weak) (telling l.fn.out))
-          (moment (left l.lines.source.now) l.lines.window l.dialect (machine_beside l.heaps.heap l.collector l.weak) (telling l.out));
+      lines : Answers HasGiven (moment (left l.fn.lines.source.now) l.fn.lines.window l.fn.dialect (machine_beside l.fn.heaps l.fn.collector l.fn.weak) (telling l.fn.out))
+          (moment (left l.lines.source.now) l.lines.window l.dialect (machine_beside l.heaps l.collector l.weak) (telling l.out));
       runs : RunsIn l.heaps l.collector;
       keys : HoldKeys l.weak l.heaps;
       going : l.lines.stopped ≡ false;

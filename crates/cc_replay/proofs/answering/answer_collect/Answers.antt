@@ -11,13 +11,13 @@ use Rattle.cc_replay.proofs.answering.answer_collect.Goals as goal
 pub returns-in-Ok-clause-answered : goal.returns-in-Ok-clause-answered
 returns-in-Ok-clause-answered g c = λ weak.
     let telling = g.N.Notices.telling in
-    answered-collect (names_noted weak) (machine_of c.args.heaps.now.heap c.args.collector.now) (machine_of c.whole.new.heaps.heap c.whole.new.self) (telling c.args.out.now) (telling c.tell.new.self)
+    answered-collect (names_noted weak) (machine_of c.args.heaps.now c.args.collector.now) (machine_of c.whole.new.heaps c.whole.new.self) (telling c.args.out.now) (telling c.tell.new.self)
     at_end Done (telling c.whole.new.out) c.in-Ok.ensures.done refl c.tell.ensures
 
 pub returns-in-Err-clause-answered : goal.returns-in-Err-clause-answered
 returns-in-Err-clause-answered g c = λ weak.
     let telling = g.N.Notices.telling in
-    answered-collect (names_noted weak) (machine_of c.args.heaps.now.heap c.args.collector.now) (machine_of c.whole.new.heaps.heap c.whole.new.self) (telling c.args.out.now) (telling c.tell-in-Err.new.self)
+    answered-collect (names_noted weak) (machine_of c.args.heaps.now c.args.collector.now) (machine_of c.whole.new.heaps c.whole.new.self) (telling c.args.out.now) (telling c.tell-in-Err.new.self)
     refused (Refused NoMemory) (telling c.whole.new.out) c.in-Err.ensures.refused refl c.tell-in-Err.ensures
 
 pub returns-in-Ok-clause-noted : goal.returns-in-Ok-clause-noted

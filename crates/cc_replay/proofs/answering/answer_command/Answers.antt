@@ -9,13 +9,13 @@ use Rattle.cc_replay.proofs.answering.answer_command.Goals as goal
 pub returns-in-Nothing-clause-answered : goal.returns-in-Nothing-clause-answered
 returns-in-Nothing-clause-answered g c =
     let telling = g.N.Notices.telling in
-    answered-said (machine_beside c.args.heaps.now.heap c.args.collector.now c.args.weak.now) c.args.command silence (telling c.args.out.now) (telling c.args.out.now) (ap class_of c.in-Nothing.is)
+    answered-said (machine_beside c.args.heaps.now c.args.collector.now c.args.weak.now) c.args.command silence (telling c.args.out.now) (telling c.args.out.now) (ap class_of c.in-Nothing.is)
     (Tells-nil (telling c.args.out.now))
 
 pub returns-in-Version2-clause-answered : goal.returns-in-Version2-clause-answered
 returns-in-Version2-clause-answered g c =
     let telling = g.N.Notices.telling in
-    answered-said (machine_beside c.args.heaps.now.heap c.args.collector.now c.args.weak.now) c.args.command version (telling c.args.out.now) (telling c.tell.new.self) (ap class_of c.in-Version2.is)
+    answered-said (machine_beside c.args.heaps.now c.args.collector.now c.args.weak.now) c.args.command version (telling c.args.out.now) (telling c.tell.new.self) (ap class_of c.in-Version2.is)
     c.tell.ensures
 
 pub answer_mutator-requires-clause-applied : goal.answer_mutator-requires-clause-applied
@@ -46,6 +46,9 @@ returns-in-Collect-clause-counts g c = counts_few c.answer_collect.new.heaps c.a
 pub returns-in-Gc-clause-counts : goal.returns-in-Gc-clause-counts
 returns-in-Gc-clause-counts g c = counts_few c.answer_gc.new.heaps c.answer_gc.new.collector c.answer_gc.ensures.runs
 
+pub returns-in-Mark-clause-counts : goal.returns-in-Mark-clause-counts
+returns-in-Mark-clause-counts g c = counts_few c.answer_mark.new.heaps c.answer_mark.new.collector c.answer_mark.ensures.runs
+
 pub returns-in_default : goal.returns-in_default
 returns-in_default g c = search (counts_few)
 
@@ -58,6 +61,9 @@ returns-in-Collect-clause-keys g c = c.answer_collect.ensures.noted c.args.weak.
 
 pub returns-in-Gc-clause-keys : goal.returns-in-Gc-clause-keys
 returns-in-Gc-clause-keys g c = c.answer_gc.ensures.noted c.args.weak.now c.requires.keys
+
+pub returns-in-Mark-clause-keys : goal.returns-in-Mark-clause-keys
+returns-in-Mark-clause-keys g c = c.answer_mark.ensures.noted c.args.weak.now c.requires.keys
 
 pub returns-in-Forget-clause-keys : goal.returns-in-Forget-clause-keys
 returns-in-Forget-clause-keys g c = c.answer_forget.ensures.noted c.args.weak.now c.requires.keys
@@ -77,6 +83,9 @@ returns-in-Collect-clause-answered g c = rw c.in-Collect.is (c.answer_collect.en
 
 pub returns-in-Gc-clause-answered : goal.returns-in-Gc-clause-answered
 returns-in-Gc-clause-answered g c = rw c.in-Gc.is (c.answer_gc.ensures.answered c.args.weak.now)
+
+pub returns-in-Mark-clause-answered : goal.returns-in-Mark-clause-answered
+returns-in-Mark-clause-answered g c = rw c.in-Mark.is (c.answer_mark.ensures.answered c.args.weak.now)
 
 pub returns-in-Forget-clause-answered : goal.returns-in-Forget-clause-answered
 returns-in-Forget-clause-answered g c = rw c.in-Forget.is (c.answer_forget.ensures.answered c.args.weak.now)

@@ -7,7 +7,7 @@ use Rattle.cc_replay.proofs.answering.answer_gc.Goals as goal
 pub returns-clause-answered : goal.returns-clause-answered
 returns-clause-answered g c = λ weak.
     let telling = g.N.Notices.telling in
-    answered-gc (names_noted weak) (machine_of c.args.heaps.now.heap c.args.collector.now) (machine_of c.gc.new.heaps.heap c.gc.new.self) (telling c.args.out.now) (telling c.tell.new.self)
+    answered-gc (names_noted weak) (machine_of c.args.heaps.now c.args.collector.now) (machine_of c.gc.new.heaps c.gc.new.self) (telling c.args.out.now) (telling c.tell.new.self)
     (telling c.gc.new.out) c.gc.ensures.swept c.tell.ensures
 
 pub returns-clause-noted : goal.returns-clause-noted

@@ -4,33 +4,33 @@ use Rattle.cc_replay.proofs.Endings.{whole-counts, whole-done, broken-stops, ove
 use Rattle.cc_replay.proofs.Beginning.{runs-empty, machine-empty}
 use Rattle.cc_replay.proofs.answering.answer_input.Goals as goal
 
--- nothing is there at the start, and no collection runs
+-- nothing is there at the start, no collection runs, and no marking goes on
 pub answer_all-requires-clause-runs : goal.answer_all-requires-clause-runs
-answer_all-requires-clause-runs g c = runs-empty c.args.heaps.now c.new-collector.result c.requires.order c.requires.empty c.new-collector.ensures
+answer_all-requires-clause-runs g c = runs-empty c.args.heaps.now c.new-collector.result c.requires.order c.requires.empty c.requires.idle c.new-collector.ensures
 
 pub returns-clause-done : goal.returns-clause-done
 returns-clause-done g c = λ status.
-    whole-done _ _ _ _ _ c.requires.start refl (machine-empty c.args.heaps.now c.new-collector.result c.args.weak.now c.requires.empty c.new-collector.ensures c.requires.unnoted) c.answer_all.ensures.limit c.answer_all.ensures.reads (c.answer_all.ensures.done status)
+    whole-done _ _ _ _ _ c.requires.start refl (machine-empty c.args.heaps.now c.new-collector.result c.args.weak.now c.requires.empty c.requires.idle c.new-collector.ensures c.requires.unnoted) c.answer_all.ensures.limit c.answer_all.ensures.reads (c.answer_all.ensures.done status)
     (c.answer_all.ensures.whole (λ bad. cc))
 
 pub returns-clause-counted : goal.returns-clause-counted
 returns-clause-counted g c = λ status.
-    whole-counts _ _ _ _ _ c.requires.start refl (machine-empty c.args.heaps.now c.new-collector.result c.args.weak.now c.requires.empty c.new-collector.ensures c.requires.unnoted) c.answer_all.ensures.limit c.answer_all.ensures.reads (c.answer_all.ensures.done status)
+    whole-counts _ _ _ _ _ c.requires.start refl (machine-empty c.args.heaps.now c.new-collector.result c.args.weak.now c.requires.empty c.requires.idle c.new-collector.ensures c.requires.unnoted) c.answer_all.ensures.limit c.answer_all.ensures.reads (c.answer_all.ensures.done status)
     (c.answer_all.ensures.whole (λ bad. cc))
 
 pub returns-clause-fault : goal.returns-clause-fault
 returns-clause-fault g c = λ status.
-    broken-stops _ _ _ _ _ c.requires.start refl (machine-empty c.args.heaps.now c.new-collector.result c.args.weak.now c.requires.empty c.new-collector.ensures c.requires.unnoted) c.answer_all.ensures.limit c.answer_all.ensures.reads (c.answer_all.ensures.fault status)
+    broken-stops _ _ _ _ _ c.requires.start refl (machine-empty c.args.heaps.now c.new-collector.result c.args.weak.now c.requires.empty c.requires.idle c.new-collector.ensures c.requires.unnoted) c.answer_all.ensures.limit c.answer_all.ensures.reads (c.answer_all.ensures.fault status)
     (c.answer_all.ensures.whole (λ bad. cc))
 
 pub returns-clause-over : goal.returns-clause-over
 returns-clause-over g c = λ status.
-    over-stops _ _ _ _ _ c.requires.start refl (machine-empty c.args.heaps.now c.new-collector.result c.args.weak.now c.requires.empty c.new-collector.ensures c.requires.unnoted) c.answer_all.ensures.limit c.answer_all.ensures.reads (c.answer_all.ensures.over status)
+    over-stops _ _ _ _ _ c.requires.start refl (machine-empty c.args.heaps.now c.new-collector.result c.args.weak.now c.requires.empty c.requires.idle c.new-collector.ensures c.requires.unnoted) c.answer_all.ensures.limit c.answer_all.ensures.reads (c.answer_all.ensures.over status)
     (c.answer_all.ensures.whole (λ bad. cc))
 
 pub returns-clause-front : goal.returns-clause-front
 returns-clause-front g c = λ status.
-    first-stops _ _ _ _ _ c.requires.start refl (machine-empty c.args.heaps.now c.new-collector.result c.args.weak.now c.requires.empty c.new-collector.ensures c.requires.unnoted) c.answer_all.ensures.limit c.answer_all.ensures.reads (c.answer_all.ensures.first status)
+    first-stops _ _ _ _ _ c.requires.start refl (machine-empty c.args.heaps.now c.new-collector.result c.args.weak.now c.requires.empty c.requires.idle c.new-collector.ensures c.requires.unnoted) c.answer_all.ensures.limit c.answer_all.ensures.reads (c.answer_all.ensures.first status)
     c.requires.whole (c.answer_all.ensures.broken status)
 
 pub returns-clause-reads : goal.returns-clause-reads

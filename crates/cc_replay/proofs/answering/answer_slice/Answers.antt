@@ -18,13 +18,13 @@ done-either e = grind arith
 pub returns-in-Ok-clause-answered : goal.returns-in-Ok-clause-answered
 returns-in-Ok-clause-answered g c = λ weak.
     let telling = g.N.Notices.telling in
-    answered-slice (names_noted weak) (machine_of c.args.heaps.now.heap c.args.collector.now) (machine_of c.slice.new.heaps.heap c.slice.new.self) (telling c.args.out.now) (telling c.tell.new.self)
+    answered-slice (names_noted weak) (machine_of c.args.heaps.now c.args.collector.now) (machine_of c.slice.new.heaps c.slice.new.self) (telling c.args.out.now) (telling c.tell.new.self)
     c.args.units (progress_of (Ok c.in-Ok.field-0)) _ _ Done (telling c.slice.new.out) c.in-Ok.ensures.sliced (done-either c.in-Ok.field-0) c.tell.ensures
 
 pub returns-clause-answered : goal.returns-clause-answered
 returns-clause-answered g c = λ weak.
     let telling = g.N.Notices.telling in
-    answered-slice (names_noted weak) (machine_of c.args.heaps.now.heap c.args.collector.now) (machine_of c.slice.new.heaps.heap c.slice.new.self) (telling c.args.out.now) (telling c.tell-in-Err.new.self)
+    answered-slice (names_noted weak) (machine_of c.args.heaps.now c.args.collector.now) (machine_of c.slice.new.heaps c.slice.new.self) (telling c.args.out.now) (telling c.tell-in-Err.new.self)
     c.args.units refused _ _ (Refused NoMemory) (telling c.slice.new.out) c.in-Err.ensures.sliced refl c.tell-in-Err.ensures
 
 pub returns-in-Ok-clause-noted : goal.returns-in-Ok-clause-noted
