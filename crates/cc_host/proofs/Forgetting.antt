@@ -28,13 +28,18 @@ use Rattle.cc_script.specs.Objects.{Object as OfScript, name_at, object_at, with
 use Rattle.cc_script.specs.Objects as objects
 use Rattle.cc_script.proofs.Keys.{object_at-map}
 use Rattle.cc_names.specs.declared.kind.Walked.TheVariants.{Out}
-use Rattle.cc_builder.specs.Building.{Built}
 use Rattle.cc_counted.specs.Counts.{unlinked_at, unlinked_of}
 use Rattle.cc_heaps.specs.Keyed.{Keyed, changed_to, counts_of, number_at, the_number}
 use Rattle.cc_heaps.specs.Keeping.{KeepsAll}
 use Rattle.cc_heaps.specs.Leaving.{NoneCame}
 use Rattle.cc_heaps.specs.Standing.{StillStands}
 use Rattle.cc_heaps.specs.Walking.{unwalked}
+use Rattle.cc_collector.specs.Kept.{Kept}
+use Rattle.cc_laws_marking.specs.Between.{KeepsMarkings}
+use Rattle.cc_laws_marking.proofs.Face.{forgotten-keeps}
+use Rattle.cc_heaps.proofs.MarksKept.{marks-mapped}
+use Rattle.cc_markslice.specs.Going.{IsMarkingWell}
+use Rattle.cc_host.proofs.Marked.{marking-beside}
 use Rattle.cc_host.specs.Calls.{Always, Does, Forgets}
 use Rattle.cc_host.specs.Changes.{IsChange}
 use Rattle.cc_host.specs.Hosted.{is_found, is_name, spare}
@@ -154,7 +159,7 @@ name-unwalked os key = ap (option_map (λ (o : OfScript). o.name)) (object_at-ma
     go (Some o) = refl
 
 -- EACH OBJECT IS THERE THAT WAS THERE, and no other, where no walk goes on and the heaps have the same natives and script objects.
-unwalked-stays : (v : Keyed) (h : Heap) → h.natives ≡ v.heap.natives → (c : Option Built) (m : ℕ) (x : Object) → stop_at (hosted (unwalked (changed_to v h)) c m) x ≡ stop_at (hosted v c m) x
+unwalked-stays : (v : Keyed) (h : Heap) → h.natives ≡ v.heap.natives → (c : Kept) (m : ℕ) (x : Object) → stop_at (hosted (unwalked (changed_to v h)) c m) x ≡ stop_at (hosted v c m) x
 unwalked-stays v h same c m x = ap (λ f. first (where_so (not (x.mark == m)) Foreign) (where_so (not f) Gone)) (go x.name)
   where
     flag : unlinked_of (counts_of (unwalked (changed_to v h))) x.key ≡ unlinked_of (counts_of v) x.key
@@ -167,7 +172,7 @@ unwalked-stays v h same c m x = ap (λ f. first (where_so (not (x.mark == m)) Fo
     go (name.Reflector k) = ap (is_name (name.Reflector k)) (name-unwalked v.scripts x.key)
 
 -- WHAT IT COMES TO in a host
-module _ (v w : Keyed) (c : Option Built) (m : ℕ) (is : w ≡ unwalked (changed_to v (forgotten v.heap))) (kept : KeepsAll v w) (still : StillStands v.heap w.heap) where
+module _ (v w : Keyed) (c : Kept) (m : ℕ) (is : w ≡ unwalked (changed_to v (forgotten v.heap))) (kept : KeepsAll v w) (still : StillStands v.heap w.heap) where
   -- natives are what they were
   natives : (forgotten v.heap).natives ≡ v.heap.natives
   unfolding forgotten
@@ -187,8 +192,12 @@ module _ (v w : Keyed) (c : Option Built) (m : ℕ) (is : w ≡ unwalked (change
   pub forgotten-change : register v.heap (N spare) ≡ None → IsChange Always (λ g. g) v w
   forgotten-change spared = record { kept = kept; spared = registers ∙ spared; stands = λ p g well s. (well, still g well s); doomed = λ p. doomed }
 
+  pub forgotten-marking : IsMarkingWell v → IsMarkingWell w
+  forgotten-marking = (marking-beside v w (subst (KeepsMarkings v.heap) (sym heap) (forgotten-keeps v.heap))
+      (marks-mapped v w (with_walked Out) (ap (λ (u : Keyed). u.marking) is) (ap (λ (u : Keyed). u.scripts) is) (λ o. refl) (λ o. refl) (λ o. refl))).well
+
   pub forgotten-does : Does Always (λ g. g) (hosted v c m) (hosted w c m)
-  forgotten-does = record { stands = λ p g well s. (well, still g well s); doomed = λ p. doomed; keys = kept.keys; running = refl; mark = refl }
+  forgotten-does = record { stands = λ p g well s. (well, still g well s); doomed = λ p. doomed; keys = kept.keys; running = refl; marking = refl; mark = refl }
 
   pub forgotten-none_came : NoneCame v.heap w.heap
   unfolding forgotten
@@ -204,6 +213,7 @@ module _ (v w : Keyed) (c : Option Built) (m : ℕ) (is : w ≡ unwalked (change
     stays = λ x. ap (λ (u : Keyed). stop_at (hosted u c m) x) is ∙ unwalked-stays v (forgotten v.heap) natives c m x;
     begins = λ t. record {
       idle = t.idle;
+      unmarked = t.unmarked;
       garbage_doomed = subst (λ (u : Heap). IsDoomed (view (with_empty_buffer u)) (begun u) (garbage u)) (sym heap) (forgotten-garbage v.heap t.garbage_doomed);
     };
   }

@@ -28,3 +28,6 @@ pub mod MadeBelow
 pub mod MadeChange
 pub mod MadeTaken
 pub mod Counting
+pub mod Marked
+pub mod MarkedSteps
+pub mod MarkedCalls

@@ -18,7 +18,6 @@ use Rattle.cc_counted.specs.Counts.{number_or_none, unlinked_at, unlinked_of}
 use Rattle.cc_heaps.specs.Keyed.{counts_of, number_at}
 use Rattle.cc_heaps.specs.Changes.{stored_in}
 use Rattle.cc_host.specs.declared.object.Object.{Object}
-use Rattle.cc_host.specs.declared.stop.Stop.{Stop}
 use Rattle.cc_host.specs.declared.stop.Stop.TheVariants.{Foreign, Gone}
 use Rattle.cc_host.specs.Hosted.{Hosted, IsThere, is_name, spare}
 use Rattle.cc_host.specs.Stops.{first, where_so, stop_at}

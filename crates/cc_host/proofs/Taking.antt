@@ -1,41 +1,49 @@
--- WHAT A COLLECTION CAN'T MISS IS TAKEN by the calls that bring it to its end; `gc` leaves what one that begins then can't miss.
-use Rattle.std.specs.Prelude.{OnOk, OnErr}
-use Rattle.std.proofs.Common.{Result, ◌≡◌, ◌≢◌, ℕ, zero, suc, ◌<◌, Bool, true, false, List, [], ◌∷◌, ◌++◌, Some, None, is_some, refl, sym, ◌∙◌, ap, subst, inl, inr, ⊎_elim, arith}
+-- WHAT A COLLECTION CAN'T MISS IS TAKEN by the calls that bring it to its end; `gc` leaves what one that begins then can't miss. No script
+-- marking goes on beside such a collection.
+use Rattle.std.specs.Prelude.{OnOk, OnErr, IfSome, option_map}
+use Rattle.std.proofs.Common.{Result, ◌≡◌, ◌≢◌, ℕ, zero, suc, ◌<◌, Bool, true, false, List, [], ◌∷◌, ◌++◌, Option, Some, None, is_some, refl, sym, ◌∙◌, ap, subst, inl, inr, ⊎_elim, arith}
+use Rattle.std.proofs.lemmas.Bool.{not-true}
 use Rattle.std.proofs.lemmas.List.{append_assoc, append-nil}
 use Rattle.cc_lists.specs.Members.{Among}
 use Rattle.cc_lists.proofs.Members.{Among-left}
 use Rattle.cc_names.specs.declared.name.Name.{Name}
 use Rattle.cc_names.specs.Names.{native}
-use Rattle.cc_model.specs.declared.command.Command.TheVariants.{Slice, Collect, Gc}
+use Rattle.cc_model.specs.declared.command.Command.TheVariants.{Slice, Collect, Gc, Mark}
 use Rattle.cc_model.specs.declared.item.Event.{Event}
 use Rattle.cc_model.specs.declared.item.Event.TheVariants.{Unlinked, Abandoned}
 use Rattle.cc_model.specs.Asks.{taken}
 use Rattle.cc_model.specs.Graph.{Graph}
 use Rattle.cc_model.specs.Heap.{Heap}
 use Rattle.cc_model.specs.View.{view}
-use Rattle.cc_model.specs.WellFormed.{names_there}
+use Rattle.cc_model.specs.WellFormed.{IsWellFormed, names_there}
 use Rattle.cc_model.specs.Lawful.{State, state_of}
 use Rattle.cc_model.specs.Snapshot.{Snapshot}
 use Rattle.cc_model.specs.Sweep.{collect_scripts}
 use Rattle.cc_model.specs.Units.{begun, with_empty_buffer}
 use Rattle.cc_model.specs.End.{Progress, went_on, at_end, refused, unit}
-use Rattle.cc_model.specs.Collecting.{Machine, UnitsDone, no_units, next_answer, units_done, enough_units, to_the_end, finish_running, starting_anew, unless_stopped, slice, collect, gc}
-use Rattle.cc_model.specs.Run.{do_ask}
+use Rattle.cc_model.specs.Collecting.{Machine, UnitsDone, behind, no_units, next_answer, units_done, enough_units, to_the_end, finish_marking, finish_running, one_marked, starting_anew, units_came, unless_stopped, with_outcome, without_marking, collect_cycles, slice, collect, gc, mark}
+use Rattle.cc_model.specs.Listed.{census_order}
+use Rattle.cc_model.specs.Marking.{NewMarks, begun_marks, ended_marks, is_scanned, scanned}
+use Rattle.cc_model.specs.Run.{census_names, do_ask}
 use Rattle.cc_model.specs.Telling.{Telling, TellsEvents}
 use Rattle.cc_model.proofs.Tellings.{TellsEvents-trans}
 use Rattle.cc_model.proofs.UnitsEnd.{to_the_end-stops}
-use Rattle.cc_laws_run.specs.Running.{IsRunning}
+use Rattle.cc_laws_run.specs.Running.{IsFreshNow, IsMarkingNow, IsRunning}
 use Rattle.cc_laws_run.specs.Doomed.{IsDoomed, KeepsReflectors, garbage}
 use Rattle.cc_laws_run.specs.Memory.{with_memory}
 use Rattle.cc_laws_run.specs.Missing.{lost}
-use Rattle.cc_laws_run.proofs.Face.{IsFollowed, ask-follows, begin-follows, collect-none, collected-doomed, gc-collects, lost-doomed, lost-keeps, units_done-keep}
+use Rattle.cc_laws_run.proofs.Face.{IsFollowed, ask-follows, begin-follows, collect-none, collect-unmarked, collected-doomed, filter-first, filter-second, finish_marking-none, gc-collects, lost-doomed, lost-keeps, units_done-keep, units_marked-keep}
+use Rattle.cc_laws_heap.proofs.Face.{script_names-named}
+use Rattle.cc_laws_snapshot.proofs.Face.{native-name_of}
+use Rattle.cc_builder.specs.Building.{Built}
+use Rattle.cc_heaps.specs.Keyed.{Keyed}
+use Rattle.cc_heaps.specs.NewMarks.{marks_of, new_marks_with}
 use Rattle.cc_heaps.specs.Standing.{StillStands}
-use Rattle.cc_collector.specs.Kept.{RunsIn, running_snapshot}
-use Rattle.cc_collector.specs.Collected.{LedTo, IsSliced, IsCollected, IsSwept}
+use Rattle.cc_collector.specs.declared.collector.Ended.{Ended}
+use Rattle.cc_collector.specs.Kept.{GoesOn, MarksIn, RunsIn, running_snapshot}
+use Rattle.cc_collector.specs.Collected.{LedTo, IsSliced, IsCollected, IsMarkedOn, IsSwept}
 use Rattle.cc_collector.specs.Settled.{IsSettled, IsUnsettled}
-use Rattle.cc_collector.proofs.Keeping.{RunsIn-fresh}
-use Rattle.cc_collector.proofs.Spared.{listed-there}
-use Rattle.cc_host.specs.Hosted.{Hosted, IsKept, machine}
+use Rattle.cc_host.specs.Hosted.{Hosted, IsKept, kept, machine}
 use Rattle.cc_host.proofs.Beside.{ended-agrees, ended-made, ended_natives, unnoted, unnoted-made, unnoted-stands}
 use Rattle.cc_host.specs.Missing.{IsOfAGraph, CannotMiss, TakesGarbage, TellsUnlinked, TellsAbandoned, TakesBySlice, Takes}
 
@@ -125,27 +133,98 @@ units-begin es n d b = units_done-keep (λ u. BeginsWith es u.events)
 unless_stopped-cases : (d : UnitsDone) (P : UnitsDone → Type 0) → P d → P (to_the_end (starting_anew d)) → P (unless_stopped d)
 unless_stopped-cases d P stopped more = grind arith
 
--- what `collect` tells begins with what the collection tells that it ends
-collect-begins : (m : Machine) → BeginsWith (finish_running m).events (collect m).events
-unfolding collect
-collect-begins m =
+-- what whole collections tell begins with what the collection tells that they end
+cycles-begin : (m : Machine) → BeginsWith (finish_running m).events (collect_cycles m).events
+unfolding collect_cycles
+cycles-begin m =
     let d : UnitsDone = finish_running m in
     let all : BeginsWith d.events d.events = ([], sym (append-nil d.events)) in
     unless_stopped-cases d (λ u. BeginsWith d.events u.events) all (units-begin d.events (enough_units d.machine) (starting_anew d) all)
 
--- and it is refused where that one was
-collect-refused : (m : Machine) → (finish_running m).progress ≡ refused → (collect m).progress ≡ refused
-unfolding collect
-collect-refused m e = grind arith
+-- and they are refused where that one was
+cycles-refused : (m : Machine) → (finish_running m).progress ≡ refused → (collect_cycles m).progress ≡ refused
+unfolding collect_cycles
+cycles-refused m e = grind arith
+
+-- so it is with `collect` where no marking goes on
+module _ (m : Machine) (unmarked : m.marking ≡ None) where
+  collect-begins : BeginsWith (finish_running m).events (collect m).events
+  collect-begins = subst (λ (d : UnitsDone). BeginsWith (finish_running m).events d.events) (sym (collect-unmarked m unmarked)) (cycles-begin m)
+
+  collect-refused : (finish_running m).progress ≡ refused → (collect m).progress ≡ refused
+  collect-refused e = ap (λ (d : UnitsDone). d.progress) (collect-unmarked m unmarked) ∙ cycles-refused m e
+
+  -- its first collection
+  first-unmarked : behind (finish_marking m) (to_the_end (no_units (finish_marking m).machine)) ≡ to_the_end (no_units m)
+  first-unmarked = ap (λ (d : UnitsDone). behind d (to_the_end (no_units d.machine))) (finish_marking-none m unmarked)
+
+  unmarked-same : without_marking m ≡ m
+  unmarked-same = ap (λ (o : Option NewMarks). record m { marking = o }) (sym unmarked)
 
 -- what `gc` tells begins with it too
-gc-begins : (m : Machine) → BeginsWith (finish_running m).events (gc m).events
+gc-begins : (m : Machine) → BeginsWith (finish_running (without_marking m)).events (gc m).events
 unfolding gc
-gc-begins m = ((collect_scripts (finish_running m).machine.heap).events, refl)
+gc-begins m = ((collect_scripts (finish_running (without_marking m)).machine.heap).events, refl)
+
+-- a unit of a marking only adds to what was told before
+one_marked-begins : (es : List Event) (m : Machine) (told : List Event) → BeginsWith es told → BeginsWith es (one_marked m told).events
+one_marked-begins es m told b = go m.marking
+  where
+    by_end : NewMarks → Bool → UnitsDone
+    by_end marks true = with_outcome (units_came (record m { marking = None }) told at_end) (ended_marks m.heap marks)
+    by_end marks false = units_came (record m { marking = Some (scanned m.heap marks) }) told went_on
+
+    by_marking : Option NewMarks → UnitsDone
+    by_marking None = units_came (record m { marking = Some (begun_marks m.heap) }) told went_on
+    by_marking (Some marks) = by_end marks (is_scanned marks)
+
+    go_end : (marks : NewMarks) (done : Bool) → BeginsWith es (by_end marks done).events
+    go_end marks true = let more = (ended_marks m.heap marks).events in (b.0 ++ more, ap (λ l. l ++ more) b.1 ∙ append_assoc es b.0 more)
+    go_end marks false = b
+
+    go : (o : Option NewMarks) → BeginsWith es (by_marking o).events
+    go None = b
+    go (Some marks) = go_end marks (is_scanned marks)
+
+-- and so do all units of `mark`
+mark-begins : (units : ℕ) (m : Machine) → BeginsWith (finish_running m).events (mark units m).events
+unfolding mark
+mark-begins units m =
+    let es : List Event = (finish_running m).events in
+    units_marked-keep (λ (d : UnitsDone). BeginsWith es d.events) (λ d e b. one_marked-begins es d.machine d.events b) units (starting_anew (finish_running m))
+    ([], sym (append-nil es))
 
 -- A host's machine
 
-module _ (h : Hosted) (r : RunsIn h.heaps h.running) (memory : List Bool) where
+-- what is there, natives and then script objects, is in census order
+listed-there : (h : Heap) → IsWellFormed h → census_names h ≡ census_order (names_there h)
+listed-there h w = grind (arith, filter-first, native-name_of, not-true, script_names-named, filter-second)
+
+-- the snapshot of the running collection is fresh
+fresh-now : (v : Keyed) (c : Option Built) → IfSome c (GoesOn v) → IsFreshNow v.heap (running_snapshot c)
+fresh-now v None g = tt
+fresh-now v (Some b) g = g.fresh
+
+-- a marking that goes on does so as it should
+marking-in : (v : Keyed) (c : Option Built) (marking : Bool) → MarksIn v c marking → IsMarkingNow v.heap (marks_of v) (running_snapshot c)
+marking-in v c true t = subst (λ (o : Option NewMarks). IsMarkingNow v.heap o (running_snapshot c)) (sym t.0.has_marks)
+    (record { under = t.0.under; so_far = t.0.so_far; alone = ap running_snapshot t.1 })
+marking-in v c false t = subst (λ (o : Option NewMarks). IsMarkingNow v.heap o (running_snapshot c)) (sym (ap (option_map (new_marks_with v)) t)) tt
+
+pub marking-now : (h : Hosted) → RunsIn h.heaps (kept h) → IsMarkingNow h.heaps.heap (machine h).marking (machine h).snapshot
+marking-now h r = marking-in h.heaps h.running h.marking r.marks
+
+-- none goes on while a collection runs
+unmarked-in : (v : Keyed) (c : Option Built) (s : Snapshot) (marking : Bool) → MarksIn v c marking → running_snapshot c ≡ Some s → marks_of v ≡ None
+unmarked-in v c s true t e = let none : None ≡ Some s = sym (ap running_snapshot t.1) ∙ e in absurd (cc)
+unmarked-in v c s false t e = ap (option_map (new_marks_with v)) t
+
+-- nor where the collector has none
+unmarked-by : (v : Keyed) (c : Option Built) (marking : Bool) → MarksIn v c marking → marking ≡ false → marks_of v ≡ None
+unmarked-by v c true t e = absurd (cc)
+unmarked-by v c false t e = ap (option_map (new_marks_with v)) t
+
+module _ (h : Hosted) (r : RunsIn h.heaps (kept h)) (memory : List Bool) where
   -- as the plain run has it, with answers of memory
   abbrev plain : Machine
   plain = with_memory (machine h) memory
@@ -159,14 +238,22 @@ module _ (h : Hosted) (r : RunsIn h.heaps h.running) (memory : List Bool) where
   is-running g = record {
     sound = r.order.sound;
     colours = r.colours;
-    fresh = RunsIn-fresh h.heaps h.running r;
+    fresh = fresh-now h.heaps h.running r.goes_on;
     well_made = unnoted-made g.0 g.1;
+    marking = marking-now h r;
     stands = unnoted-stands h.heaps.heap g.0 r.order.sound.well_formed g.1 g.2;
     listed = listed-there h.heaps.heap r.order.sound.well_formed;
     weak = refl;
     ended = ended-agrees h.heaps.heap;
     ended_made = ended-made h.heaps.heap;
   }
+
+  -- no marking goes on beside it
+  unmarked : (ds : List Name) → CannotMiss h ds → plain.marking ≡ None
+  unmarked ds c = unmarked-in h.heaps h.running c.doomed.0 h.marking r.marks c.doomed.1
+
+  none-marked : TakesGarbage h → plain.marking ≡ None
+  none-marked t = unmarked-by h.heaps h.running h.marking r.marks t.unmarked
 
   -- the running collection, by a slice
   slice-follows : (ds : List Name) → CannotMiss h ds → (units : ℕ) →
@@ -179,7 +266,7 @@ module _ (h : Hosted) (r : RunsIn h.heaps h.running) (memory : List Bool) where
       let d = slice units plain in IsFollowed (lost h.heaps.heap) d.events d.progress d.machine
   unfolding do_ask
   slice-begins zero p g t = absurd (omega (arith, p))
-  slice-begins (suc n) p g t = begin-follows plain (beside g.0) (lost h.heaps.heap) (is-running g) (ap running_snapshot t.idle)
+  slice-begins (suc n) p g t = begin-follows plain (beside g.0) (lost h.heaps.heap) (is-running g) (ap running_snapshot t.idle) (none-marked t)
       (lost-doomed h.heaps.heap g.0 r.order.sound g.1 g.2 t.garbage_doomed) (taken (Slice (suc n))) refl
 
   -- the running collection, brought to its end
@@ -189,21 +276,30 @@ module _ (h : Hosted) (r : RunsIn h.heaps h.running) (memory : List Bool) where
   finish-stops : (ds : List Name) → CannotMiss h ds → (finish_running plain).progress ≢ went_on
   finish-stops ds c e = to_the_end-stops plain (sym (ap (λ (d : UnitsDone). d.progress) (finished ds c)) ∙ e)
 
-  gc-follows : (ds : List Name) → CannotMiss h ds → let d = finish_running plain in IsFollowed ds d.events d.progress (do_ask plain (taken Gc)).machine
+  swept-stops : (ds : List Name) → CannotMiss h ds → (finish_running (without_marking plain)).progress ≢ went_on
+  swept-stops ds c = subst (λ (m : Machine). (finish_running m).progress ≢ went_on) (sym (unmarked-same plain (unmarked ds c))) (finish-stops ds c)
+
+  gc-follows : (ds : List Name) → CannotMiss h ds → let d = finish_running (without_marking plain) in IsFollowed ds d.events d.progress (do_ask plain (taken Gc)).machine
   gc-follows ds c = ask-follows plain (beside c.graph.0) (taken Gc) ds (is-running c.graph) refl c.reflectors c.doomed refl
 
   collect-follows : (ds : List Name) → CannotMiss h ds → let d = finish_running plain in IsFollowed ds d.events d.progress (do_ask plain (taken Collect)).machine
-  collect-follows ds c = subst (λ (d : UnitsDone). IsFollowed ds d.events d.progress (do_ask plain (taken Collect)).machine) (sym (finished ds c))
+  collect-follows ds c = subst (λ (d : UnitsDone). IsFollowed ds d.events d.progress (do_ask plain (taken Collect)).machine)
+      (first-unmarked plain (unmarked ds c) ∙ sym (finished ds c))
       (ask-follows plain (beside c.graph.0) (taken Collect) ds (is-running c.graph) refl c.reflectors c.doomed refl)
+
+  mark-follows : (ds : List Name) → CannotMiss h ds → (units : ℕ) →
+      let d = finish_running plain in IsFollowed ds d.events d.progress (do_ask plain (taken (Mark units))).machine
+  mark-follows ds c units = ask-follows plain (beside c.graph.0) (taken (Mark units)) ds (is-running c.graph) refl c.reflectors c.doomed refl
 
   -- one that begins, brought to its end
   whole-begins : IsOfAGraph h → TakesGarbage h → let d = to_the_end (no_units plain) in IsFollowed (lost h.heaps.heap) d.events d.progress (do_ask plain (taken Collect)).machine
-  whole-begins g t = begin-follows plain (beside g.0) (lost h.heaps.heap) (is-running g) (ap running_snapshot t.idle)
-      (lost-doomed h.heaps.heap g.0 r.order.sound g.1 g.2 t.garbage_doomed) (taken Collect) refl
+  whole-begins g t = subst (λ (d : UnitsDone). IsFollowed (lost h.heaps.heap) d.events d.progress (do_ask plain (taken Collect)).machine)
+      (first-unmarked plain (none-marked t)) (begin-follows plain (beside g.0) (lost h.heaps.heap) (is-running g) (ap running_snapshot t.idle) (none-marked t)
+      (lost-doomed h.heaps.heap g.0 r.order.sound g.1 g.2 t.garbage_doomed) (taken Collect) refl)
 
 -- THE CALLS
 
-module _ (h : Hosted) (r : RunsIn h.heaps h.running) where
+module _ (h : Hosted) (r : RunsIn h.heaps (kept h)) where
   -- a slice of the running collection
   pub slice-takes : (units steps steps_now : ℕ) (new : Hosted) (p : Progress) (t t₁ : Telling) → IsSliced units (machine h) (machine new) p steps steps_now t t₁ →
       StillStands h.heaps.heap new.heaps.heap → (ds : List Name) → CannotMiss h ds → TakesBySlice ds new p t t₁
@@ -225,22 +321,22 @@ module _ (h : Hosted) (r : RunsIn h.heaps h.running) where
   pub collect-takes : (new : Machine) (p : Progress) (t t₁ : Telling) → IsCollected (machine h) new p t t₁ → (ds : List Name) → CannotMiss h ds → Takes ds t t₁
   collect-takes new p t t₁ s ds c =
       let m : Machine = plain h r s.memory in
-      followed-takes ds (finish_running m) (do_ask m (taken Collect)).machine (collect m).events t t₁ (collect-begins m) s.led.told
+      followed-takes ds (finish_running m) (do_ask m (taken Collect)).machine (collect m).events t t₁ (collect-begins m (unmarked h r s.memory ds c)) s.led.told
       (finish-stops h r s.memory ds c) (collect-follows h r s.memory ds c)
 
   -- that was done
   pub collect-unlinks : (new : Machine) (t t₁ : Telling) → IsCollected (machine h) new at_end t t₁ → (ds : List Name) → CannotMiss h ds → TellsUnlinked ds t t₁
   collect-unlinks new t t₁ s ds c =
       let m : Machine = plain h r s.memory in
-      followed-done ds (finish_running m) (do_ask m (taken Collect)).machine (collect m).events t t₁ (collect-begins m) s.led.told
-      (finish-stops h r s.memory ds c) (λ e. at_end-unrefused (sym s.led.came_to ∙ collect-refused m e)) (collect-follows h r s.memory ds c)
+      followed-done ds (finish_running m) (do_ask m (taken Collect)).machine (collect m).events t t₁ (collect-begins m (unmarked h r s.memory ds c)) s.led.told
+      (finish-stops h r s.memory ds c) (λ e. at_end-unrefused (sym s.led.came_to ∙ collect-refused m (unmarked h r s.memory ds c) e)) (collect-follows h r s.memory ds c)
 
   -- that began
   pub collect-takes_lost : (new : Machine) (t t₁ : Telling) → IsCollected (machine h) new at_end t t₁ → IsOfAGraph h → TakesGarbage h → TellsUnlinked (lost h.heaps.heap) t t₁
   collect-takes_lost new t t₁ s g garbage =
       let m : Machine = plain h r s.memory in
       let d : UnitsDone = to_the_end (no_units m) in
-      let same : collect m ≡ d = collect-none m (ap running_snapshot garbage.idle) in
+      let same : collect m ≡ d = collect-none m (ap running_snapshot garbage.idle) (none-marked h r s.memory garbage) in
       followed-done (lost h.heaps.heap) d (do_ask m (taken Collect)).machine (collect m).events t t₁
       ([], ap (λ (u : UnitsDone). u.events) same ∙ sym (append-nil d.events)) s.led.told
       (to_the_end-stops m) (λ e. at_end-unrefused (sym s.led.came_to ∙ (ap (λ (u : UnitsDone). u.progress) same ∙ e))) (whole-begins h r s.memory g garbage)
@@ -249,8 +345,16 @@ module _ (h : Hosted) (r : RunsIn h.heaps h.running) where
   pub gc-takes : (new : Machine) (t t₁ : Telling) → IsSwept (machine h) new t t₁ → (ds : List Name) → CannotMiss h ds → Takes ds t t₁
   gc-takes new t t₁ s ds c =
       let m : Machine = plain h r s.memory in
-      followed-takes ds (finish_running m) (do_ask m (taken Gc)).machine (gc m).events t t₁ (gc-begins m) s.led.told
-      (finish-stops h r s.memory ds c) (gc-follows h r s.memory ds c)
+      followed-takes ds (finish_running (without_marking m)) (do_ask m (taken Gc)).machine (gc m).events t t₁ (gc-begins m) s.led.told
+      (swept-stops h r s.memory ds c) (gc-follows h r s.memory ds c)
+
+  -- `mark`
+  pub mark-takes : (units steps steps_now : ℕ) (new : Machine) (ended : Ended) (t t₁ : Telling) → IsMarkedOn units (machine h) new ended steps steps_now t t₁ →
+      (ds : List Name) → CannotMiss h ds → Takes ds t t₁
+  mark-takes units steps steps_now new ended t t₁ s ds c =
+      let m : Machine = plain h r s.memory in
+      followed-takes ds (finish_running m) (do_ask m (taken (Mark units))).machine (mark units m).events t t₁ (mark-begins units m) s.led.told
+      (finish-stops h r s.memory ds c) (mark-follows h r s.memory ds c units)
 
   -- settling
   pub settle-takes : (new : Machine) (t t₁ : Telling) → IsSettled (machine h) new t t₁ → (ds : List Name) → CannotMiss h ds → Takes ds t t₁
@@ -263,17 +367,18 @@ module _ (h : Hosted) (r : RunsIn h.heaps h.running) where
   unsettled-takes new t t₁ s ds c = Takes-then ds t s.told_first t₁ _ (gc-takes s.first t s.told_first s.swept ds c) s.collected.led.told
 
 -- AFTER `gc` a collection that begins takes all garbage.
-pub gc-takes_garbage : (h new : Hosted) (t t₁ : Telling) → IsKept h → new.running ≡ None → IsSwept (machine h) (machine new) t t₁ → TakesGarbage new
-gc-takes_garbage h new t t₁ k idle s =
+pub gc-takes_garbage : (h new : Hosted) (t t₁ : Telling) → IsKept h → new.running ≡ None → new.marking ≡ false → IsSwept (machine h) (machine new) t t₁ → TakesGarbage new
+gc-takes_garbage h new t t₁ k idle unmarked s =
     let m : Machine = with_memory (machine h) s.memory in
     let f = gc-collects m (record {
       sound = k.runs.order.sound;
       colours = k.runs.colours;
-      fresh = RunsIn-fresh h.heaps h.running k.runs;
+      fresh = fresh-now h.heaps h.running k.runs.goes_on;
       suspected = k.suspected;
       stopped = λ d. absurd (d refl);
     }) in
     record {
       idle = idle;
+      unmarked = unmarked;
       garbage_doomed = subst (λ (g : Heap). IsDoomed (view (with_empty_buffer g)) (begun g) (garbage g)) (sym f.3 ∙ s.led.same.heap) (collected-doomed f.0 f.1 f.2);
     }

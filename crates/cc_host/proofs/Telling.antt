@@ -1,18 +1,22 @@
 -- A COLLECTION TELLS FEW ITEMS, as the law of what collections tell says of the plain run.
-use Rattle.std.proofs.Common.{◌≡◌, ℕ, ◌+◌, ◌≤◌, Bool, List, [], ◌++◌, length, None, sym, ◌∙◌, subst, arith}
+use Rattle.std.proofs.Common.{◌≡◌, ℕ, ◌+◌, ◌≤◌, Bool, List, [], ◌++◌, length, Option, None, Ok, sym, ◌∙◌, subst, arith}
 use Rattle.std.proofs.lemmas.List.{length-append}
 use Rattle.cc_model.specs.declared.item.Event.{Event}
 use Rattle.cc_model.specs.Heap.{Heap}
 use Rattle.cc_model.specs.End.{Progress, at_end}
-use Rattle.cc_model.specs.Collecting.{Machine, UnitsDone, slice, collect, gc}
+use Rattle.cc_model.specs.Marking.{NewMarks}
+use Rattle.cc_model.specs.Collecting.{Machine, UnitsDone, slice, collect, gc, mark}
 use Rattle.cc_model.specs.Telling.{Telling, TellsEvents}
 use Rattle.cc_model.proofs.Tellings.{TellsEvents-trans}
 use Rattle.cc_laws_heap.specs.Sound.{IsSound}
 use Rattle.cc_laws_run.specs.Memory.{with_memory}
+use Rattle.cc_laws_run.specs.Running.{IsMarkingNow}
+use Rattle.cc_laws_run.proofs.Face.{gc-unmarked}
 use Rattle.cc_laws_told.specs.Told as law
 use Rattle.cc_laws_told.specs.Told.{objects}
-use Rattle.cc_laws_told.proofs.Face.{collect-drops, collect-tells, collect_alone-tells, gc-tells, gc_alone-tells, gc-drops, slice-tells}
-use Rattle.cc_collector.specs.Collected.{LedTo, IsSliced, IsCollected, IsSwept}
+use Rattle.cc_laws_told.proofs.Face.{collect-drops, collect-tells, collect_alone-tells, gc-tells, gc_alone-tells, gc-drops, mark-tells, slice-tells}
+use Rattle.cc_collector.specs.Collected.{LedTo, IsSliced, IsCollected, IsMarkedOn, IsSwept, progress_of}
+use Rattle.cc_collector.specs.declared.collector.Ended.{Ended}
 use Rattle.cc_collector.specs.Settled.{IsCollectedAfterGc, IsSettled}
 use Rattle.cc_host.specs.Calls.{TellsFew}
 use Rattle.cc_host.specs.Hosted.{Hosted}
@@ -65,22 +69,29 @@ led-few besides d m n memory p t t₁ l f = record {
   sound = subst (IsSound []) l.same.heap f.sound;
 }
 
-module _ (m n : Machine) (t t₁ : Telling) (sound : IsSound [] m.heap) where
+module _ (m n : Machine) (t t₁ : Telling) (sound : IsSound [] m.heap) (marking : IsMarkingNow m.heap m.marking m.snapshot) where
   -- A SLICE
   pub sliced-few : (units : ℕ) (p : Progress) (steps steps_now : ℕ) → IsSliced units m n p steps steps_now t t₁ → AreFew (length m.heap.natives + 1) m.heap n.heap t t₁
   sliced-few units p steps steps_now s =
-      led-few (length m.heap.natives + 1) (slice units (with_memory m s.memory)) m n s.memory p t t₁ s.led (slice-tells units (with_memory m s.memory) sound)
+      led-few (length m.heap.natives + 1) (slice units (with_memory m s.memory)) m n s.memory p t t₁ s.led (slice-tells units (with_memory m s.memory) sound marking)
 
   -- A COLLECTION, before which a running one was ended,
   pub collected-few : (p : Progress) → IsCollected m n p t t₁ → AreFew (length m.heap.natives + (length m.heap.natives + 1)) m.heap n.heap t t₁
   collected-few p s =
-      led-few (length m.heap.natives + (length m.heap.natives + 1)) (collect (with_memory m s.memory)) m n s.memory p t t₁ s.led (collect-tells (with_memory m s.memory) sound)
+      led-few (length m.heap.natives + (length m.heap.natives + 1)) (collect (with_memory m s.memory)) m n s.memory p t t₁ s.led (collect-tells (with_memory m s.memory) sound marking)
 
   -- or before which none ran
   collected_alone-few : (p : Progress) → m.snapshot ≡ None → IsCollected m n p t t₁ → AreFew (length m.heap.natives + 1) m.heap n.heap t t₁
   collected_alone-few p none s =
-      led-few (length m.heap.natives + 1) (collect (with_memory m s.memory)) m n s.memory p t t₁ s.led (collect_alone-tells (with_memory m s.memory) sound none)
+      led-few (length m.heap.natives + 1) (collect (with_memory m s.memory)) m n s.memory p t t₁ s.led (collect_alone-tells (with_memory m s.memory) sound marking none)
 
+  -- UNITS OF A MARKING, before which a running collection was ended
+  pub marked-few : (units : ℕ) (ended : Ended) (steps steps_now : ℕ) → IsMarkedOn units m n ended steps steps_now t t₁ → AreFew (length m.heap.natives + 1) m.heap n.heap t t₁
+  marked-few units ended steps steps_now s =
+      led-few (length m.heap.natives + 1) (mark units (with_memory m s.memory)) m n s.memory (progress_of (Ok ended)) t t₁ s.led
+      (mark-tells units (with_memory m s.memory) sound marking)
+
+module _ (m n : Machine) (t t₁ : Telling) (sound : IsSound [] m.heap) where
   -- `gc`
   pub swept-few : IsSwept m n t t₁ → AreFew (length m.heap.natives + 1) m.heap n.heap t t₁
   swept-few s =
@@ -93,9 +104,12 @@ module _ (m n : Machine) (t t₁ : Telling) (sound : IsSound [] m.heap) where
       let d : UnitsDone = gc (with_memory m s.memory) in
       led-few 0 d m n s.memory d.progress t t₁ s.led (gc_alone-tells (with_memory m s.memory) sound none)
 
--- none runs after `gc`,
+-- none runs after `gc`, and no marking goes on,
 swept-drops : (m n : Machine) (t t₁ : Telling) → IsSwept m n t t₁ → n.snapshot ≡ None
 swept-drops m n t t₁ s = sym s.led.same.snapshot ∙ gc-drops (with_memory m s.memory)
+
+swept-marking : (m n : Machine) (t t₁ : Telling) → IsSwept m n t t₁ → IsMarkingNow n.heap n.marking n.snapshot
+swept-marking m n t t₁ s = subst (λ (o : Option NewMarks). IsMarkingNow n.heap o n.snapshot) (sym (sym s.led.same.marking ∙ gc-unmarked (with_memory m s.memory))) tt
 
 -- nor after a collection
 collected-drops : (m n : Machine) (p : Progress) (t t₁ : Telling) → IsCollected m n p t t₁ → n.snapshot ≡ None
@@ -112,7 +126,7 @@ module _ (m : Machine) (t : Telling) (sound : IsSound [] m.heap) where
       let none : s.first.snapshot ≡ None = swept-drops m s.first t s.told_first s.swept in
       AreFew-then most most m.heap s.first.heap n.heap t s.told_first t₁ swept
       (AreFew-more (length s.first.heap.natives + 1) most s.first.heap n.heap s.told_first t₁ (omega (arith, swept.natives))
-      (collected_alone-few s.first n s.told_first t₁ swept.sound p none s.collected))
+      (collected_alone-few s.first n s.told_first t₁ swept.sound (swept-marking m s.first t s.told_first s.swept) p none s.collected))
 
   -- SETTLING, with `gc` after it
   pub settled-few : (n : Machine) (t₁ : Telling) → IsSettled m n t t₁ → AreFew (most + most) m.heap n.heap t t₁

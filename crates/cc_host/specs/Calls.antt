@@ -26,12 +26,13 @@ Always = Unit {0}
 
 -- A CALL CHANGES THE GRAPH SO, where the premise holds: that what is handed in is reached. What the running collection can't
 -- miss it can't miss afterwards either. Also where the premise doesn't hold no object gets another key, and the running
--- collection goes on.
+-- collection goes on, and so does a script marking.
 pub record Does (premise : Type 0) (change : Graph → Graph) (old new : Hosted) : Type 0 where
   pub stands : premise → StandsAfter old.heaps.heap new.heaps.heap change
   pub doomed : premise → KeepsDoomed old.heaps.heap new.heaps.heap
   pub keys : KeepsKeys old.heaps new.heaps
   pub running : new.running ≡ old.running
+  pub marking : new.marking ≡ old.marking
   pub mark : new.mark ≡ old.mark
 
 -- A CALL HANDS A ROOT A NATIVE that is there, reached or not: it changes the graph so, with no premise. What the running collection
@@ -41,6 +42,7 @@ pub record Brings (brought : Option Name) (change : Graph → Graph) (old new : 
   pub doomed : KeepsDoomedBut brought old.heaps.heap new.heaps.heap
   pub keys : KeepsKeys old.heaps new.heaps
   pub running : new.running ≡ old.running
+  pub marking : new.marking ≡ old.marking
   pub mark : new.mark ≡ old.mark
 
 -- A CALL WAS REFUSED after it had begun: the graph stays as it is in any case
@@ -49,6 +51,7 @@ pub record Tries (premise : Type 0) (old new : Hosted) : Type 0 where
   pub doomed : premise → KeepsDoomed old.heaps.heap new.heaps.heap
   pub keys : KeepsKeys old.heaps new.heaps
   pub running : new.running ≡ old.running
+  pub marking : new.marking ≡ old.marking
   pub mark : new.mark ≡ old.mark
 
 -- NO OBJECT COMES

@@ -1,4 +1,4 @@
--- WHAT A HOST IS: the heaps, the collection that runs in them, and the mark by which its objects are known.
+-- WHAT A HOST IS: the heaps, the collection that runs in them, whether a script marking goes on, and the mark by which its objects are known.
 use Rattle.std.specs.Prelude.{◌≡◌, ◌&&◌, ℕ, Bool, false, not, Option, Some, None, option_map}
 use Rattle.cc_names.specs.declared.name.Name.{Name}
 use Rattle.cc_names.specs.declared.number.NativeNo.{NativeNo}
@@ -15,18 +15,23 @@ use Rattle.cc_laws_run.specs.Doomed.{IsSuspectedNow}
 use Rattle.cc_counted.specs.Counts.{unlinked_of}
 use Rattle.cc_heaps.specs.Keyed.{Keyed, counts_of, number_at}
 use Rattle.cc_heaps.specs.Standing.{IsReached}
-use Rattle.cc_collector.specs.Kept.{RunsIn, machine_of}
+use Rattle.cc_collector.specs.Kept.{Kept, RunsIn, machine_of}
 use Rattle.cc_host.specs.declared.host.TheConstants.{ROOTS}
 use Rattle.cc_host.specs.declared.object.Object.{Object}
 
 pub record Hosted : Type 0 where
   pub heaps : Keyed
   pub running : Option Built
+  pub marking : Bool
   pub mark : ℕ
 
--- the heaps and the running collection, as the plain run has them
+-- what its collector keeps
+abbrev pub kept : Hosted → Kept
+kept h = record { running = h.running; marking = h.marking }
+
+-- the heaps, the running collection and the marking, as the plain run has them
 abbrev pub machine : Hosted → Machine
-machine h = machine_of h.heaps.heap h.running
+machine h = machine_of h.heaps (kept h)
 
 -- so many native registers are roots, and so many script registers
 abbrev pub roots : ℕ
@@ -39,7 +44,7 @@ spare = ROOTS
 -- WHAT A HOST KEEPS between its calls: the collector runs in the heaps, no native that nothing reaches is forgotten, and the
 -- register that the host keeps for itself holds nothing
 pub record IsKept (h : Hosted) : Type 0 where
-  pub runs : RunsIn h.heaps h.running
+  pub runs : RunsIn h.heaps (kept h)
   pub suspected : IsSuspectedNow (machine h)
   pub spared : register h.heaps.heap (N spare) ≡ None
 

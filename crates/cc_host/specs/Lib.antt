@@ -8,3 +8,4 @@ pub mod Changes
 pub mod Holding
 pub mod Exposing
 pub mod Queues
+pub mod Marked

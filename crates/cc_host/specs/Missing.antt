@@ -1,5 +1,5 @@
 -- WHAT THE RUNNING COLLECTION CAN'T MISS: that calls leave it alone, and that its end takes it.
-use Rattle.std.specs.Prelude.{◌≡◌, ◌⊎◌, List, ◌∷◌, Option, None, Some}
+use Rattle.std.specs.Prelude.{◌≡◌, ◌⊎◌, false, List, ◌∷◌, Option, None, Some}
 use Rattle.cc_lists.specs.Members.{Among}
 use Rattle.cc_names.specs.declared.name.Name.{Name}
 use Rattle.cc_model.specs.declared.item.Event.{Event}
@@ -46,9 +46,11 @@ pub record CannotMiss (h : Hosted) (ds : List Name) : Type 0 where
 abbrev pub lost_in : Hosted → List Name
 lost_in h = lost h.heaps.heap
 
--- A COLLECTION THAT BEGINS NOW can't miss what nothing reaches now: none runs, and its first unit would doom it
+-- A COLLECTION THAT BEGINS NOW can't miss what nothing reaches now: none runs, and its first unit would doom it. No script marking
+-- goes on, whose end would free some of it before
 pub record TakesGarbage (h : Hosted) : Type 0 where
   pub idle : h.running ≡ None
+  pub unmarked : h.marking ≡ false
   pub garbage_doomed : IsDoomed (view (with_empty_buffer h.heaps.heap)) (begun h.heaps.heap) (garbage h.heaps.heap)
 
 -- What becomes of them

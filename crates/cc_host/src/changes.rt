@@ -25,6 +25,8 @@ ghost use Rattle.cc_host.specs.Missing.{KeepsDoomedBut};
 ghost use Rattle.cc_host.specs.Holding.{IsHeld, IsLetGo};
 ghost use Rattle.cc_host.specs.Paths.{hung};
 ghost use Rattle.cc_host.specs.Changes.{IsReady, IsChange, IsTried, OneCame, StaysThere};
+ghost use Rattle.cc_host.specs.Marked.{IsPastIfAny, KeepsMarking};
+ghost use Rattle.cc_markslice.specs.Going.{IsMarkingWell};
 
 mod making;
 mod scripts;
@@ -50,6 +52,7 @@ pub(crate) fn root_native<N: Notices>(
     requires within { r < roots }
     requires there { IsNativeThere heaps.old content }
     ensures change { IsChange (IsReached heaps.old.heap (native_name heaps.old content)) (λ g. graph.set_register g (n_register r) (native_name heaps.old content)) heaps.old heaps.new }
+    ensures marking { KeepsMarking heaps.old heaps.new }
     ensures stands { MayBeHeld heaps.old.heap (native_name heaps.old content) →
         StandsAfter heaps.old.heap heaps.new.heap (λ g. graph.set_register g (n_register r) (native_name heaps.old content)) }
     ensures doomed { KeepsDoomedBut (native_name heaps.old content) heaps.old.heap heaps.new.heap }
@@ -65,6 +68,8 @@ fn expose_held(heaps: &mut Heaps, content: Option<Held>)
     requires ready { IsReady heaps.old }
     requires there { IsThere heaps.old content }
     ensures change { IsTried (IsReached heaps.old.heap (held_name heaps.old content)) heaps.old heaps.new }
+    ensures marking { KeepsMarking heaps.old heaps.new }
+    ensures past { IsMarkingWell heaps.old → IsPastIfAny heaps.new (held_name heaps.old content) }
     ensures black { IsBlackHeld heaps.new content }
     ensures stays { StaysThere heaps.old heaps.new }
     ensures keys { heaps.new.keys ≡ heaps.old.keys }
@@ -74,8 +79,10 @@ fn expose_held(heaps: &mut Heaps, content: Option<Held>)
     ensures registers { heaps.new.heap.native_registers ≡ heaps.old.heap.native_registers }
     ensures made { heaps.new.heap.natives_made ≡ heaps.old.heap.natives_made }
 {
-    if let Some(Held::Script(key)) = content {
-        expose_key(heaps, key);
+    match content {
+        Some(Held::Script(key)) => expose_key(heaps, key),
+        Some(Held::Native(_key)) => {}
+        None => {}
     }
 }
 
@@ -84,6 +91,7 @@ fn hold<N: Notices>(heaps: &mut Heaps, key: NKey, out: &mut N)
     requires ready { IsReady heaps.old }
     requires live { IsSome (number_at heaps.old key.0) }
     ensures held { IsHeld key heaps.old heaps.new }
+    ensures marking { KeepsMarking heaps.old heaps.new }
     ensures told { TellsEvents (N.telling out.old) (N.telling out.new) [] }
 {
     heaps.set_native_reg(ROOTS, Some(key), out);
@@ -93,6 +101,7 @@ fn hold<N: Notices>(heaps: &mut Heaps, key: NKey, out: &mut N)
 fn let_go<N: Notices>(heaps: &mut Heaps, out: &mut N)
     requires order { IsInOrder [] heaps.old }
     ensures empty { IsLetGo heaps.old heaps.new }
+    ensures marking { KeepsMarking heaps.old heaps.new }
     ensures tells { TellsWhatIsFreed heaps.old.heap heaps.new.heap (N.telling out.old) (N.telling out.new) }
 {
     heaps.set_native_reg(ROOTS, None, out);
@@ -113,6 +122,7 @@ fn store_black<N: Notices>(
     requires black { IsBlackHeld heaps.old content }
     ensures change { IsChange (IsReached heaps.old.heap (native_name heaps.old (Some key)) × IsReached heaps.old.heap (held_name heaps.old content))
         (λ g. graph.set_slot g (native_name heaps.old (Some key)) i (held_name heaps.old content)) heaps.old heaps.new }
+    ensures marking { (IsMarkingWell heaps.old → IsPastIfAny heaps.old (held_name heaps.old content)) → KeepsMarking heaps.old heaps.new }
     ensures none_came { NoneCame heaps.old.heap heaps.new.heap }
     ensures tells { TellsWhatIsFreed heaps.old.heap heaps.new.heap (N.telling out.old) (N.telling out.new) }
 {
@@ -135,6 +145,7 @@ pub(crate) fn store_native<N: Notices>(
     requires there { IsThere heaps.old content }
     ensures change { IsChange (IsReached heaps.old.heap (native_name heaps.old (Some key)) × IsReached heaps.old.heap (held_name heaps.old content))
         (λ g. graph.set_slot g (native_name heaps.old (Some key)) i (held_name heaps.old content)) heaps.old heaps.new }
+    ensures marking { KeepsMarking heaps.old heaps.new }
     ensures none_came { NoneCame heaps.old.heap heaps.new.heap }
     ensures tells { TellsWhatIsFreed heaps.old.heap heaps.new.heap (N.telling out.old) (N.telling out.new) }
 {
@@ -158,6 +169,7 @@ pub(crate) fn store_rooted<N: Notices>(
     requires within { i < length (slots_of (counts_of heaps.old) key.0) }
     requires there { IsThere heaps.old content }
     ensures change { IsChange (IsReached heaps.old.heap (held_name heaps.old content)) (λ g. graph.set_slot g (native_name heaps.old (Some key)) i (held_name heaps.old content)) heaps.old heaps.new }
+    ensures marking { KeepsMarking heaps.old heaps.new }
     ensures none_came { NoneCame heaps.old.heap heaps.new.heap }
     ensures registers { heaps.new.heap.native_registers ≡ heaps.old.heap.native_registers }
     ensures tells { TellsWhatIsFreed heaps.old.heap heaps.new.heap (N.telling out.old) (N.telling out.new) }
@@ -182,6 +194,7 @@ pub(crate) fn move_native<N: Notices>(
     requires from_within { j < length (slots_of (counts_of heaps.old) from.0) }
     ensures change { IsChange (IsReached heaps.old.heap (native_name heaps.old (Some to)) × IsReached heaps.old.heap (native_name heaps.old (Some from)))
         (λ g. graph.move_slot g (native_name heaps.old (Some to)) i (native_name heaps.old (Some from)) j (slot_held heaps.old.heap (the_number heaps.old from.0) j)) heaps.old heaps.new }
+    ensures marking { KeepsMarking heaps.old heaps.new }
     ensures none_came { NoneCame heaps.old.heap heaps.new.heap }
     ensures tells { TellsWhatIsFreed heaps.old.heap heaps.new.heap (N.telling out.old) (N.telling out.new) }
 {
@@ -201,6 +214,7 @@ pub(crate) fn wrap_native<N: Notices>(
     requires ready { IsReady heaps.old }
     requires live { IsSome (number_at heaps.old key.0) }
     ensures change { OnOk result (IsChange (IsReached heaps.old.heap (native_name heaps.old (Some key))) (λ g. graph.wrapped g (native_name heaps.old (Some key))) heaps.old heaps.new) }
+    ensures marking { KeepsMarking heaps.old heaps.new }
     ensures tried { OnErr result (IsTried (IsReached heaps.old.heap (native_name heaps.old (Some key))) heaps.old heaps.new) }
     ensures name { IfOk result (λ made. script_name heaps.new (Some made) ≡ reflector_of (native_name heaps.old (Some key))) }
     ensures came { IfOk result (λ made. OneCame (script_name heaps.new (Some made)) heaps.old.heap heaps.new.heap) }
@@ -227,6 +241,7 @@ pub(crate) fn store_reached<N: Notices>(
     requires within { i < length (slots_of (counts_of heaps.old) key.0) }
     requires there { IsThere heaps.old content }
     ensures change { IsChange (IsReached heaps.old.heap (held_name heaps.old content)) (λ g. graph.set_slot g (native_name heaps.old (Some key)) i (held_name heaps.old content)) heaps.old heaps.new }
+    ensures marking { KeepsMarking heaps.old heaps.new }
     ensures none_came { NoneCame heaps.old.heap heaps.new.heap }
     ensures registers { heaps.new.heap.native_registers ≡ heaps.old.heap.native_registers }
     ensures made { heaps.new.heap.natives_made ≡ heaps.old.heap.natives_made }
@@ -253,6 +268,7 @@ pub(crate) fn make_below<N: Notices>(
     requires empty { slot_held heaps.old.heap (the_number heaps.old above.0) i ≡ None }
     requires slots { slots ≤ most_slots }
     ensures change { OnOk result (IsChange (Unit {0}) (hung (native_name heaps.old (Some above)) i slots (Some (native (heaps.old.heap.natives_made + 1)))) heaps.old heaps.new) }
+    ensures marking { KeepsMarking heaps.old heaps.new }
     ensures name { IfOk result (λ key. native_name heaps.new (Some key) ≡ Some (native (heaps.old.heap.natives_made + 1))) }
     ensures whole { OnOk result (unlinked_at (native_at heaps.new.heap (heaps.old.heap.natives_made + 1)) ≡ false) }
     ensures full { result ≡ Err MakeStop.Full → heaps.old.heap.limits.natives ≤ heaps.old.heap.natives_made }

@@ -1,5 +1,5 @@
 //! The host: its fields, and what objects it finds.
-ghost use Rattle.std.specs.Prelude.{◌≡◌, Option, Some, None, IfOk, IsSome, IsTrue, is_none};
+ghost use Rattle.std.specs.Prelude.{◌≡◌, false, Option, Some, None, IfOk, IsSome, IsTrue, is_none};
 ghost use Rattle.cc_model.specs.Heap.{empty_heap};
 ghost use Rattle.cc_script.specs.Objects.{is_there, kind_at};
 ghost use Rattle.cc_names.specs.declared.kind.Kind.TheVariants.{Map};
@@ -42,9 +42,9 @@ impl Model for Host {
 
     ghost Value = { Hosted };
 
-    ghost view = { λ h. record { heaps = h.heaps; running = h.collector; mark = h.mark } };
+    ghost view = { λ h. record { heaps = h.heaps; running = h.collector.running; marking = h.collector.marking; mark = h.mark } };
 
-    ghost invariant = { λ h. IsKept (record { heaps = h.heaps; running = h.collector; mark = h.mark }) };
+    ghost invariant = { λ h. IsKept (record { heaps = h.heaps; running = h.collector.running; marking = h.collector.marking; mark = h.mark }) };
 }
 
 impl Host {
@@ -54,6 +54,7 @@ impl Host {
     pub fn new(alloc: Global, limits: Limits, mark: u64) -> Result<Host, NoMemory>
         ensures heap { IfOk result (λ h. h.heaps.heap ≡ empty_heap limits) }
         ensures idle { IfOk result (λ h. h.running ≡ None) }
+        ensures unmarked { IfOk result (λ h. h.marking ≡ false) }
         ensures mark { IfOk result (λ h. h.mark ≡ mark) }
     {
         let heaps = Heaps::new(alloc, limits)?;
@@ -65,7 +66,7 @@ impl Host {
     }
 
     /// The mark of this host's objects.
-    pub fn mark(&self) -> u64
+    pub fn object_mark(&self) -> u64
         ensures { result ≡ self.now.mark }
     {
         self.mark

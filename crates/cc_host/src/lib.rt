@@ -22,6 +22,9 @@
 //! A collection in slices that begins right after `gc` takes each native that nothing reached by then, where the calls between
 //! its slices are handed what is reached, unless the collection is abandoned, which is told (`garbage`, `begins`, `takes`).
 //! `forget` before it spares it the suspects that are alive, and changes nothing of this (`forgets`).
+//!
+//! `mark` frees script objects that nothing reaches in slices, where `gc` does it at once. All calls may come between them; a slice
+//! of a collection brings a marking that goes on to its end, and `gc` drops it.
 #![tactic(auto)]
 
 mod changes;

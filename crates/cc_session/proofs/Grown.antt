@@ -47,6 +47,7 @@ grows-as f k a b same t = record {
     doomed = t.does.doomed;
     keys = t.does.keys;
     running = t.does.running;
+    marking = t.does.marking;
     mark = t.does.mark;
   };
   tells = t.tells;
@@ -64,6 +65,7 @@ nothing-done h = record {
   doomed = λ p. still_doomed h.heaps.heap;
   keys = record { natives = λ key k at there. at; scripts = λ key x at there. at };
   running = refl;
+  marking = refl;
   mark = refl;
 }
 
@@ -150,6 +152,7 @@ module _ (f k : Graph → Graph) (a b c : State) (s : Grows f a b) (t : Grows k 
       doomed = λ p. doomed-then (heap a) (heap b) (heap c) (s.does.doomed tt) (t.does.doomed tt);
       keys = keys;
       running = t.does.running ∙ s.does.running;
+      marking = t.does.marking ∙ s.does.marking;
       mark = t.does.mark ∙ s.does.mark;
     };
     tells = tells-in_row (heap a) (heap b) (heap c) (well c.host t.kept.1) away was (told_all a.told) (told_all b.told) (told_all c.told) s.tells t.tells;

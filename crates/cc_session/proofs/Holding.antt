@@ -65,6 +65,7 @@ module _ (f : Graph → Graph) (a b c : State) (s : Grows f a b) (came : NoneCam
     doomed = λ reached. doomed-then a.host.heaps.heap b.host.heaps.heap c.host.heaps.heap (s.does.doomed tt) (d.doomed (s.reaches (Some x) reached));
     keys = KeepsKeys-then a.host.heaps b.host.heaps c.host.heaps s.kept.1.runs.order.sound.well_formed kept.runs.order.sound.well_formed came s.does.keys d.keys;
     running = d.running ∙ s.does.running;
+    marking = d.marking ∙ s.does.marking;
     mark = d.mark ∙ s.does.mark;
   }
 

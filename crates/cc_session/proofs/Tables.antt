@@ -126,7 +126,7 @@ module _ (a : State) (kept : IsKept a.host) (r : ℕ) (path : List ℕ) where
     tie-made none x is rooted does came made =
         let change : Graph → Graph = λ g. graph.set_slot g (native_below a.host r path) places (named x) in
         let always : Does Always change a.host b.host =
-        record { stands = λ p. does.stands rooted; doomed = λ p. does.doomed rooted; keys = does.keys; running = does.running; mark = does.mark } in
+        record { stands = λ p. does.stands rooted; doomed = λ p. does.doomed rooted; keys = does.keys; running = does.running; marking = does.marking; mark = does.mark } in
         grows-as change (tied r path) a b
         (λ g m s.
         ap (λ y. graph.set_slot g (native_below a.host r path) places y) is

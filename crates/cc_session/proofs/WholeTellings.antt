@@ -5,7 +5,8 @@ use Rattle.cc_model.specs.declared.item.Item.{Item}
 use Rattle.cc_model.specs.End.{Progress, went_on, at_end, refused}
 use Rattle.cc_model.specs.Collecting.{Machine, UnitsDone}
 use Rattle.cc_model.specs.Telling.{Tells}
-use Rattle.cc_collector.specs.Collected.{IsCollected, IsSliced, IsSwept, LedTo}
+use Rattle.cc_collector.specs.declared.collector.Ended.{Ended}
+use Rattle.cc_collector.specs.Collected.{IsCollected, IsMarkedOn, IsSliced, IsSwept, LedTo}
 use Rattle.cc_host.specs.Calls.{Collects, TellsFreed}
 use Rattle.cc_host.specs.Hosted.{Hosted}
 use Rattle.cc_host.specs.Missing.{Takes, TakesBySlice, TellsAbandoned, TellsUnlinked}
@@ -43,6 +44,10 @@ module _ (o q p : Queued) (waited : q.items ≡ o.items) (before : q.broken ≡ 
 
   pub swept-whole : (m n : Machine) → IsSwept m n (telling_of q) (telling_of p) → IsSwept m n (told_all o.items) (told_all p.items)
   swept-whole m n s = record { memory = s.memory; led = led-whole _ m n _ s.led }
+
+  pub marked-whole : (units : ℕ) (m n : Machine) (ended : Ended) (i j : ℕ) → IsMarkedOn units m n ended i j (telling_of q) (telling_of p) →
+      IsMarkedOn units m n ended i j (told_all o.items) (told_all p.items)
+  marked-whole units m n ended i j s = record { memory = s.memory; led = led-whole _ m n _ s.led; counted = s.counted }
 
   -- what it takes
   pub unlinked-whole : (ds : List Name) → TellsUnlinked ds (telling_of q) (telling_of p) → TellsUnlinked ds (told_all o.items) (told_all p.items)

@@ -1,5 +1,5 @@
 //! The session: its fields, what it has been told, and what it counts.
-ghost use Rattle.std.specs.Prelude.{◌≡◌, ◌+◌, ◌∷◌, [], Some, None, IfOk, is_none};
+ghost use Rattle.std.specs.Prelude.{◌≡◌, ◌+◌, ◌∷◌, false, [], Some, None, IfOk, is_none};
 ghost use Rattle.cc_model.specs.declared.item.Item.{Item};
 ghost use Rattle.cc_model.specs.Heap.{empty_heap};
 ghost use Rattle.cc_host.specs.Stops.{stop_at};
@@ -67,6 +67,7 @@ impl Session {
     pub fn new(alloc: Global, limits: Limits, mark: u64) -> Result<Session, NoMemory>
         ensures heap { IfOk result (λ s. s.host.heaps.heap ≡ empty_heap limits) }
         ensures idle { IfOk result (λ s. s.host.running ≡ None) }
+        ensures unmarked { IfOk result (λ s. s.host.marking ≡ false) }
         ensures mark { IfOk result (λ s. s.host.mark ≡ mark) }
         ensures told { IfOk result (λ s. s.told ≡ []) }
         ensures books { IfOk result (λ s. s.books ≡ record { given = []; roots = []; last = 0 }) }
@@ -84,10 +85,10 @@ impl Session {
     }
 
     /// The mark of this session's objects and roots.
-    pub fn mark(&self) -> u64
+    pub fn object_mark(&self) -> u64
         ensures { result ≡ self.now.host.mark }
     {
-        self.host.mark()
+        self.host.object_mark()
     }
 
     /// Whether an object is there, and of this session: it was not freed, and is no native that was unlinked.

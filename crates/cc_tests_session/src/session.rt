@@ -133,3 +133,38 @@ fn opens_and_ends(alloc: Global) -> bool {
 fn a_native_that_was_collected_does_not(rt: HostRuntime) {
     assert!(rt; opens_and_ends(rt.alloc()));
 }
+
+// One unit of a marking, and it goes on.
+fn begins_marking(s: &mut Session) -> bool {
+    let begun = s.mark(1) == Ok(Ended::No);
+    begun & s.marking()
+}
+
+// An object that is made meanwhile is stored in one that a root holds.
+fn stores_late(s: &mut Session, object: Object) -> bool {
+    let late = made(s.new_plain(1, 0));
+    s.store(object, 0, Some(late)).is_ok()
+}
+
+// The one that no root held when it began is freed, and no other.
+fn ends_marking(s: &mut Session) -> bool {
+    let ended = s.mark(100) == Ok(Ended::Yes);
+    ended & !s.marking() & (s.scripts() == 2)
+}
+
+fn opens_and_marks(alloc: Global) -> bool {
+    match Session::new(alloc, Limits::new(1, 3, 0), 1) {
+        Ok(mut s) => {
+            let lost = made(s.new_plain(0, 1));
+            let object = made(s.new_plain(0, 1));
+            let goes_on = begins_marking(&mut s) & stores_late(&mut s, object);
+            goes_on & ends_marking(&mut s) & !s.is_there(lost)
+        }
+        Err(_) => false,
+    }
+}
+
+#[test]
+fn a_marking_frees_what_no_root_held(rt: HostRuntime) {
+    assert!(rt; opens_and_marks(rt.alloc()));
+}

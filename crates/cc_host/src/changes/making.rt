@@ -14,6 +14,7 @@ ghost use Rattle.cc_heaps.specs.Leaving.{NoneCame, TellsWhatIsFreed};
 ghost use Rattle.cc_heaps.specs.Standing.{IsReached};
 ghost use Rattle.cc_host.specs.Hosted.{roots};
 ghost use Rattle.cc_host.specs.Changes.{IsReady, IsChange, IsTried, OneCame};
+ghost use Rattle.cc_host.specs.Marked.{KeepsMarking};
 
 use crate::changes::scripts::expose_key;
 use cc_heaps::{Heaps, MakeStop};
@@ -31,6 +32,7 @@ pub(crate) fn make_native<N: Notices>(
     requires within { r < roots }
     requires slots { slots ≤ most_slots }
     ensures change { OnOk result (IsChange (Unit {0}) (λ g. graph.step g (command.Native r slots)) heaps.old heaps.new) }
+    ensures marking { KeepsMarking heaps.old heaps.new }
     ensures name { IfOk result (λ key. native_name heaps.new (Some key) ≡ Some (native (heaps.old.heap.natives_made + 1))) }
     ensures held { OnOk result (register heaps.new.heap (n_register r) ≡ Some (native (heaps.old.heap.natives_made + 1))) }
     ensures whole { OnOk result (unlinked_at (native_at heaps.new.heap (heaps.old.heap.natives_made + 1)) ≡ false) }
@@ -55,6 +57,7 @@ pub(crate) fn make_plain(heaps: &mut Heaps, r: RegNo, slots: SlotNo) -> Result<S
     requires within { r < roots }
     requires slots { slots ≤ most_slots }
     ensures change { OnOk result (IsChange (Unit {0}) (λ g. graph.step g (command.Script r slots)) heaps.old heaps.new) }
+    ensures marking { KeepsMarking heaps.old heaps.new }
     ensures name { IfOk result (λ key. script_name heaps.new (Some key) ≡ Some (object (heaps.old.heap.scripts_made + 1))) }
     ensures held { OnOk result (register heaps.new.heap (s_register r) ≡ Some (object (heaps.old.heap.scripts_made + 1))) }
     ensures full { result ≡ Err MakeStop.Full → heaps.old.heap.limits.scripts ≤ heaps.old.heap.scripts_made }
@@ -74,6 +77,7 @@ pub(crate) fn make_map(heaps: &mut Heaps, r: RegNo) -> Result<SKey, MakeStop>
     requires ready { IsReady heaps.old }
     requires within { r < roots }
     ensures change { OnOk result (IsChange (Unit {0}) (λ g. graph.step g (command.WeakMap r)) heaps.old heaps.new) }
+    ensures marking { KeepsMarking heaps.old heaps.new }
     ensures name { IfOk result (λ key. script_name heaps.new (Some key) ≡ Some (object (heaps.old.heap.scripts_made + 1))) }
     ensures held { OnOk result (register heaps.new.heap (s_register r) ≡ Some (object (heaps.old.heap.scripts_made + 1))) }
     ensures full { result ≡ Err MakeStop.Full → heaps.old.heap.limits.scripts ≤ heaps.old.heap.scripts_made }
@@ -96,6 +100,7 @@ pub(crate) fn make_proxy(heaps: &mut Heaps, r: RegNo, delegate: SKey) -> Result<
     requires within { r < roots }
     requires live { IsTrue (is_there heaps.old.scripts delegate.0) }
     ensures change { OnOk result (IsChange (IsReached heaps.old.heap (script_name heaps.old (Some delegate))) (λ g. graph.with_proxy g r (script_name heaps.old (Some delegate))) heaps.old heaps.new) }
+    ensures marking { KeepsMarking heaps.old heaps.new }
     ensures name { IfOk result (λ key. script_name heaps.new (Some key) ≡ Some (object (heaps.old.heap.scripts_made + 1))) }
     ensures held { OnOk result (register heaps.new.heap (s_register r) ≡ Some (object (heaps.old.heap.scripts_made + 1))) }
     ensures full { result ≡ Err MakeStop.Full → heaps.old.heap.limits.scripts ≤ heaps.old.heap.scripts_made }

@@ -12,6 +12,8 @@ ghost use Rattle.cc_heaps.specs.Leaving.{NoneCame, NothingLeft};
 ghost use Rattle.cc_heaps.specs.Standing.{IsReached, IsReachedOrReflects, MayHold};
 ghost use Rattle.cc_host.specs.Exposing.{AreSame, Exposes};
 ghost use Rattle.cc_host.specs.Changes.{IsReady, IsChange, IsTried};
+ghost use Rattle.cc_host.specs.Marked.{IsPastIfAny, KeepsMarking};
+ghost use Rattle.cc_markslice.specs.Going.{IsMarkingWell};
 
 use cc_heaps::Heaps;
 use cc_names::{NoMemory, RegNo, SKey, SlotNo};
@@ -22,6 +24,8 @@ pub(crate) fn expose_key(heaps: &mut Heaps, key: SKey)
     requires ready { IsReady heaps.old }
     requires live { IsTrue (is_there heaps.old.scripts key.0) }
     ensures exposes { Exposes (IsReached heaps.old.heap (script_name heaps.old (Some key))) heaps.old heaps.new }
+    ensures marking { KeepsMarking heaps.old heaps.new }
+    ensures past { IsMarkingWell heaps.old → IsPastIfAny heaps.new (script_name heaps.old (Some key)) }
     ensures ready { IsReady heaps.new }
     ensures black { colour_at heaps.new.scripts key.0 ≡ Some Black }
 {
@@ -33,6 +37,8 @@ fn expose_content(heaps: &mut Heaps, content: Option<SKey>)
     requires ready { IsReady heaps.old }
     requires there { IsScriptThere heaps.old content }
     ensures exposes { Exposes (IsReached heaps.old.heap (script_name heaps.old content)) heaps.old heaps.new }
+    ensures marking { KeepsMarking heaps.old heaps.new }
+    ensures past { IsMarkingWell heaps.old → IsPastIfAny heaps.new (script_name heaps.old content) }
     ensures ready { IsReady heaps.new }
     ensures black { IfSome content (λ k. colour_at heaps.new.scripts k.0 ≡ Some Black) }
 {
@@ -47,6 +53,7 @@ pub(crate) fn root_script(heaps: &mut Heaps, r: RegNo, content: Option<SKey>)
     requires within { r < roots }
     requires there { IsScriptThere heaps.old content }
     ensures change { IsChange (IsReachedOrReflects heaps.old.heap (script_name heaps.old content)) (λ g. graph.set_register g (s_register r) (script_name heaps.old content)) heaps.old heaps.new }
+    ensures marking { KeepsMarking heaps.old heaps.new }
     ensures none_left { NothingLeft heaps.old.heap heaps.new.heap }
     ensures none_came { NoneCame heaps.old.heap heaps.new.heap }
 {
@@ -61,6 +68,7 @@ pub(crate) fn store_script(heaps: &mut Heaps, key: SKey, i: SlotNo, content: Opt
     requires there { IsScriptThere heaps.old content }
     ensures change { IsChange (IsReached heaps.old.heap (script_name heaps.old (Some key)) × IsReached heaps.old.heap (script_name heaps.old content))
         (λ g. graph.set_slot (graph.preserve g (script_name heaps.old (Some key))) (script_name heaps.old (Some key)) i (script_name heaps.old content)) heaps.old heaps.new }
+    ensures marking { KeepsMarking heaps.old heaps.new }
     ensures none_left { NothingLeft heaps.old.heap heaps.new.heap }
     ensures none_came { NoneCame heaps.old.heap heaps.new.heap }
 {
@@ -74,6 +82,7 @@ pub(crate) fn preserve_reflector(heaps: &mut Heaps, key: SKey)
     requires ready { IsReady heaps.old }
     requires live { IsTrue (is_there heaps.old.scripts key.0) }
     ensures change { IsChange (IsReached heaps.old.heap (script_name heaps.old (Some key))) (λ g. graph.preserve g (script_name heaps.old (Some key))) heaps.old heaps.new }
+    ensures marking { KeepsMarking heaps.old heaps.new }
     ensures keys { heaps.new.keys ≡ heaps.old.keys }
     ensures same { AreSame heaps.old.scripts heaps.new.scripts }
     ensures reached { (x : Option Name) → IsReached heaps.old.heap x → IsReached heaps.new.heap x }
@@ -101,6 +110,7 @@ pub(crate) fn set_entry(
     ensures change { OnOk result (IsChange (IsReached heaps.old.heap (script_name heaps.old (Some the_map)) × IsReached heaps.old.heap (script_name heaps.old (Some key)) × IsReached heaps.old.heap (script_name heaps.old (Some value)))
         (λ g. graph.set_entry g (script_name heaps.old (Some the_map)) (script_name heaps.old (Some key)) (script_name heaps.old (Some value))) heaps.old heaps.new) }
     ensures tried { OnErr result (IsTried (IsReached heaps.old.heap (script_name heaps.old (Some key)) × IsReached heaps.old.heap (script_name heaps.old (Some value))) heaps.old heaps.new) }
+    ensures marking { KeepsMarking heaps.old heaps.new }
     ensures none_left { NothingLeft heaps.old.heap heaps.new.heap }
     ensures none_came { NoneCame heaps.old.heap heaps.new.heap }
 {
@@ -116,6 +126,7 @@ pub(crate) fn unset_entry(heaps: &mut Heaps, the_map: SKey, key: SKey)
     requires key { IsTrue (is_there heaps.old.scripts key.0) }
     ensures change { IsChange (IsReached heaps.old.heap (script_name heaps.old (Some the_map)) × IsReached heaps.old.heap (script_name heaps.old (Some key)))
         (λ g. graph.set_entry g (script_name heaps.old (Some the_map)) (script_name heaps.old (Some key)) None) heaps.old heaps.new }
+    ensures marking { KeepsMarking heaps.old heaps.new }
     ensures none_left { NothingLeft heaps.old.heap heaps.new.heap }
     ensures none_came { NoneCame heaps.old.heap heaps.new.heap }
 {

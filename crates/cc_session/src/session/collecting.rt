@@ -1,8 +1,8 @@
-//! Collections, whole and in slices.
-ghost use Rattle.std.specs.Prelude.{◌≡◌, ◌≢◌, ◌<◌, ℕ, List, None, Ok, Err, OnErr, OnOk, is_some};
+//! Collections, whole and in slices, and script markings.
+ghost use Rattle.std.specs.Prelude.{◌≡◌, ◌≢◌, ◌<◌, ℕ, true, false, List, None, Ok, Err, IfOk, OnErr, OnOk, is_some};
 ghost use Rattle.cc_names.specs.declared.name.Name.{Name};
 ghost use Rattle.cc_model.specs.End.{at_end, refused};
-ghost use Rattle.cc_collector.specs.Collected.{IsCollected, IsSliced, IsSwept};
+ghost use Rattle.cc_collector.specs.Collected.{IsCollected, IsMarkedOn, IsSliced, IsSwept};
 ghost use Rattle.cc_collector.specs.Settled.{HasWhatIsReached};
 ghost use Rattle.cc_host.specs.Calls.{Always, Collects, Does, Forgets};
 ghost use Rattle.cc_host.specs.Hosted.{machine};
@@ -43,6 +43,13 @@ impl Session {
         self.host.running()
     }
 
+    /// Whether a script marking goes on.
+    pub fn marking(&self) -> bool
+        ensures { result ≡ self.now.host.marking }
+    {
+        self.host.marking()
+    }
+
     /// Forgets suspects that are alive, and answers how many: see `Host::forget`. It may be called at any time, tells nothing and
     /// takes no memory.
     #[tactic(auto, using(crate::proofs::HasRoom::after_nothing))]
@@ -57,7 +64,7 @@ impl Session {
     }
 
     /// A few units of the running collection, or of one that begins here where none runs: to be called in each frame of a
-    /// program. See `Host::slice`.
+    /// program. A script marking that goes on is ended first. See `Host::slice`.
     ///
     /// `Unfetched` only where something waits to be fetched; nothing was done then.
     pub fn slice(&mut self, units: u32) -> Result<Ended, Hindrance>
@@ -66,6 +73,7 @@ impl Session {
         ensures sliced { result ≢ Err Hindrance.Unfetched →
             (steps : ℕ) × IsSliced units (machine self.old.host) (machine self.new.host) (progress_of result) 0 steps (told_all self.old.told) (told_all self.new.told) }
         ensures over { result ≢ Err Hindrance.Unfetched → result ≢ Ok Ended.No → self.new.host.running ≡ None }
+        ensures unmarked { result ≢ Err Hindrance.Unfetched → self.new.host.marking ≡ false }
         ensures aside { Aside self.old self.new }
         // what the running collection can't miss is told unlinked at its end; what one can't miss that begins after `gc`
         ensures takes { result ≢ Err Hindrance.Unfetched → (ds : List Name) → CannotMiss self.old.host ds →
@@ -83,7 +91,7 @@ impl Session {
         of_slice(ended)
     }
 
-    /// A whole collection; one that runs is ended first. See `Host::collect`.
+    /// A whole collection; one that runs is ended first, and so is a script marking that goes on. See `Host::collect`.
     ///
     /// `Unfetched` only where something waits to be fetched; nothing was done then.
     pub fn collect(&mut self) -> Result<(), Hindrance>
@@ -92,6 +100,7 @@ impl Session {
         ensures done { OnOk result (IsCollected (machine self.old.host) (machine self.new.host) at_end (told_all self.old.told) (told_all self.new.told)) }
         ensures refused { result ≡ Err Hindrance.NoMemory → IsCollected (machine self.old.host) (machine self.new.host) refused (told_all self.old.told) (told_all self.new.told) }
         ensures over { result ≢ Err Hindrance.Unfetched → self.new.host.running ≡ None }
+        ensures unmarked { result ≢ Err Hindrance.Unfetched → self.new.host.marking ≡ false }
         ensures aside { Aside self.old self.new }
         ensures takes { result ≢ Err Hindrance.Unfetched → (ds : List Name) → CannotMiss self.old.host ds → Takes ds (told_all self.old.told) (told_all self.new.told) }
         ensures takes_if_done { OnOk result ((ds : List Name) → CannotMiss self.old.host ds → TellsUnlinked ds (told_all self.old.told) (told_all self.new.told)) }
@@ -107,7 +116,8 @@ impl Session {
         of_whole(done)
     }
 
-    /// A script collection, before which a collection that runs is ended. See `Host::gc`.
+    /// A script collection, before which a script marking that goes on is dropped and a collection that runs is ended. See
+    /// `Host::gc`.
     ///
     /// `Unfetched`, and no other, only where something waits to be fetched; nothing was done then.
     pub fn gc(&mut self) -> Result<(), Hindrance>
@@ -116,6 +126,7 @@ impl Session {
         ensures collects { OnOk result (Collects self.old.host self.new.host (told_all self.old.told) (told_all self.new.told)) }
         ensures swept { OnOk result (IsSwept (machine self.old.host) (machine self.new.host) (told_all self.old.told) (told_all self.new.told)) }
         ensures over { OnOk result (self.new.host.running ≡ None) }
+        ensures unmarked { OnOk result (self.new.host.marking ≡ false) }
         ensures aside { Aside self.old self.new }
         ensures takes { OnOk result ((ds : List Name) → CannotMiss self.old.host ds → Takes ds (told_all self.old.told) (told_all self.new.told)) }
         // a collection that begins now can't miss what nothing reaches
@@ -131,6 +142,33 @@ impl Session {
         Ok(())
     }
 
+    /// A few units of the script marking that goes on, or of one that begins here where none does. A collection that runs is
+    /// ended first. See `Host::mark`.
+    ///
+    /// `Ended::Yes` where the marking came to its end. `Unfetched`, and no other, only where something waits to be fetched; nothing was
+    /// done then.
+    pub fn mark(&mut self, units: u32) -> Result<Ended, Hindrance>
+        ensures refused { (h : Hindrance) → result ≡ Err h → h ≡ Hindrance.Unfetched }
+        ensures unfetched { OnErr result (IsUnfetched self.old self.new) }
+        ensures collects { OnOk result (Collects self.old.host self.new.host (told_all self.old.told) (told_all self.new.told)) }
+        ensures marked { IfOk result (λ ended.
+            (steps : ℕ) × IsMarkedOn units (machine self.old.host) (machine self.new.host) ended 0 steps (told_all self.old.told) (told_all self.new.told)) }
+        ensures over { OnOk result (self.new.host.running ≡ None) }
+        ensures ended { result ≡ Ok Ended.Yes → self.new.host.marking ≡ false }
+        ensures goes_on { result ≡ Ok Ended.No → 0 < units → self.new.host.marking ≡ true }
+        ensures aside { Aside self.old self.new }
+        ensures takes { OnOk result ((ds : List Name) → CannotMiss self.old.host ds → Takes ds (told_all self.old.told) (told_all self.new.told)) }
+    {
+        let most = self.most_told();
+        let Ok(()) = self.told.reserve(most) else {
+            return Err(Hindrance::Unfetched);
+        };
+        let ended = self.host.mark(units, &mut self.told);
+        self.told.keeps();
+        self.host.keeps();
+        Ok(ended)
+    }
+
     /// Leaves exactly what the roots reach: `gc`, a whole collection, and `gc`. See `Host::settle`.
     ///
     /// `NoMemory`, where memory was wanted: nothing is lost or forgotten. `Unfetched` only where something waits to be fetched;
@@ -140,6 +178,7 @@ impl Session {
         ensures unfetched { result ≡ Err Hindrance.Unfetched → IsUnfetched self.old self.new }
         ensures collects { result ≢ Err Hindrance.Unfetched → Collects self.old.host self.new.host (told_all self.old.told) (told_all self.new.told) }
         ensures over { result ≢ Err Hindrance.Unfetched → self.new.host.running ≡ None }
+        ensures unmarked { result ≢ Err Hindrance.Unfetched → self.new.host.marking ≡ false }
         ensures aside { Aside self.old self.new }
         ensures takes { result ≢ Err Hindrance.Unfetched → (ds : List Name) → CannotMiss self.old.host ds → Takes ds (told_all self.old.told) (told_all self.new.told) }
     {

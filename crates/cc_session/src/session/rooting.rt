@@ -230,7 +230,7 @@ impl Session {
         Ok(Root {
             index,
             serial,
-            mark: self.host.mark(),
+            mark: self.host.object_mark(),
         })
     }
 
@@ -257,7 +257,7 @@ impl Session {
     fn find(&self, root: Root) -> Result<(), Stop>
         ensures { IsStoppedBy (stop_root self.now root) result }
     {
-        if root.mark != self.host.mark() {
+        if root.mark != self.host.object_mark() {
             return Err(Stop::Foreign);
         }
         if self.book.serial(root.index) != Some(root.serial) {

@@ -1,11 +1,14 @@
-use Rattle.std.proofs.Common.{◌≡◌, Some, sym, ◌∙◌, ap, subst}
-use Rattle.cc_counted.specs.declared.held.Held.TheVariants.{Script}
+use Rattle.std.proofs.Common.{rules, ◌≡◌, Some, None, sym, ◌∙◌, ap, subst, refl}
+use Rattle.cc_counted.specs.declared.held.Held.TheVariants.{Native, Script}
 use Rattle.cc_model.specs.Heap.{Heap}
 use Rattle.cc_heaps.specs.Changes.{IsBlackHeld, held_name}
 use Rattle.cc_heaps.specs.Standing.{IsReached}
 use Rattle.cc_host.specs.Changes.{IsTried}
 use Rattle.cc_host.proofs.Exposed.{exposed-names, exposed-change}
 use Rattle.cc_host.proofs.Exposing.{exposed-slots, exposed-stays, same-change}
+use Rattle.cc_host.proofs.Marked.{marking-same}
+use Rattle.cc_host.specs.Marked.{IsPastIfAny}
+use Rattle.cc_host.proofs.MarkedCalls.{native-past}
 use Rattle.cc_host.proofs.changes.expose_held.Goals as goal
 
 pub returns-in-Some-Script-clause-change : goal.returns-in-Some-Script-clause-change
@@ -32,14 +35,38 @@ returns-in-Some-Script-clause-names c = exposed-names c.args.heaps.now c.expose_
 pub returns-in-Some-Script-clause-reached : goal.returns-in-Some-Script-clause-reached
 returns-in-Some-Script-clause-reached c = c.expose_key.ensures.exposes.reached
 
-pub returns-clause-change : goal.returns-clause-change
-returns-clause-change c = same-change c.args.heaps.now c.requires.ready
+pub returns-in-None-clause-change : goal.returns-in-None-clause-change
+returns-in-None-clause-change c = same-change c.args.heaps.now c.requires.ready
 
-pub returns-2-clause-change : goal.returns-2-clause-change
-returns-2-clause-change c = same-change c.args.heaps.now c.requires.ready
+pub returns-in-Some-Native-clause-change : goal.returns-in-Some-Native-clause-change
+returns-in-Some-Native-clause-change c = same-change c.args.heaps.now c.requires.ready
 
 pub returns-in-Some-Script-clause-registers : goal.returns-in-Some-Script-clause-registers
 returns-in-Some-Script-clause-registers c = ap (λ (h : Heap). h.native_registers) c.expose_key.ensures.exposes.rest
 
 pub returns-in-Some-Script-clause-made : goal.returns-in-Some-Script-clause-made
 returns-in-Some-Script-clause-made c = ap (λ (h : Heap). h.natives_made) c.expose_key.ensures.exposes.rest
+
+pub returns-in-Some-Script-clause-past : goal.returns-in-Some-Script-clause-past
+returns-in-Some-Script-clause-past c =
+    let v = c.args.heaps.now in
+    let of : c.in-Some-Script.field-0 ≡ Script c.in-Some-Script.key = rw c.in-Some-Script.is at c.in-Some-Script.field-0-is in
+    λ k. subst (λ x. IsPastIfAny c.expose_key.new.heaps (held_name v x)) (sym (c.in-Some-Script.is ∙ ap (λ x. Some x) of)) (c.expose_key.ensures.past k)
+
+pub returns-in-None-clause-marking : goal.returns-in-None-clause-marking
+returns-in-None-clause-marking c = marking-same c.args.heaps.now c.args.heaps.now refl
+
+pub returns-in-Some-Native-clause-marking : goal.returns-in-Some-Native-clause-marking
+returns-in-Some-Native-clause-marking c = marking-same c.args.heaps.now c.args.heaps.now refl
+
+pub returns-in-None-clause-past : goal.returns-in-None-clause-past
+returns-in-None-clause-past c =
+    let v = c.args.heaps.now in
+    let is : c.args.content ≡ None = search rules in
+    λ well. subst (λ x. IsPastIfAny v (held_name v x)) (sym is) (λ y i. absurd i)
+
+pub returns-in-Some-Native-clause-past : goal.returns-in-Some-Native-clause-past
+returns-in-Some-Native-clause-past c =
+    let v = c.args.heaps.now in
+    let is : c.args.content ≡ Some (Native c.in-Some-Native._key) = search rules in
+    λ well. subst (λ x. IsPastIfAny v (held_name v x)) (sym is) (native-past v (Some c.in-Some-Native._key) c.requires.ready.order.sound.well_formed well)

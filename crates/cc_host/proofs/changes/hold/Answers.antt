@@ -5,6 +5,8 @@ use Rattle.cc_heaps.proofs.FewCounts.{none-owned}
 use Rattle.cc_heaps.specs.Changes.{native_name}
 use Rattle.cc_host.proofs.Referring.{reached-held}
 use Rattle.cc_host.proofs.Spare.{held-from, held-silently}
+use Rattle.cc_host.proofs.MarkedCalls.{held-marking}
+use Rattle.cc_host.specs.Hosted.{spare}
 use Rattle.cc_host.proofs.changes.hold.Goals as goal
 
 pub set_native_reg-requires-clause-within : goal.set_native_reg-requires-clause-within
@@ -22,3 +24,8 @@ pub returns-clause-told : goal.returns-clause-told
 returns-clause-told g c =
     subst (λ (o : Outcome). TellsEvents (g.N.Notices.telling c.args.out.now) (g.N.Notices.telling c.set_native_reg.new.out) o.events)
     (held-silently c.args.heaps.now c.args.key c.requires.ready) c.set_native_reg.ensures.told
+
+pub returns-clause-marking : goal.returns-clause-marking
+returns-clause-marking g c =
+    let v = c.args.heaps.now in
+    held-marking v c.set_native_reg.new.self spare (native_name v (Some c.args.key)) c.set_native_reg.ensures.heap c.set_native_reg.ensures.marks

@@ -1,6 +1,8 @@
-use Rattle.std.proofs.Common.{arith}
+use Rattle.std.proofs.Common.{arith, None}
 use Rattle.cc_heaps.proofs.FewCounts.{none-owned}
 use Rattle.cc_host.proofs.Around.{let_go-from}
+use Rattle.cc_host.proofs.MarkedCalls.{held-marking}
+use Rattle.cc_host.specs.Hosted.{spare}
 use Rattle.cc_host.proofs.changes.let_go.Goals as goal
 
 pub set_native_reg-requires-clause-within : goal.set_native_reg-requires-clause-within
@@ -13,3 +15,8 @@ pub returns-clause-empty : goal.returns-clause-empty
 returns-clause-empty g c =
     let e = c.set_native_reg.ensures in
     let_go-from c.args.heaps.now c.set_native_reg.new.self e.heap c.requires.order e.kept (e.stands tt)
+
+pub returns-clause-marking : goal.returns-clause-marking
+returns-clause-marking g c =
+    let v = c.args.heaps.now in
+    held-marking v c.set_native_reg.new.self spare None c.set_native_reg.ensures.heap c.set_native_reg.ensures.marks

@@ -3,10 +3,12 @@ use Rattle.cc_names.specs.Names.{native}
 use Rattle.cc_heaps.specs.Changes.{native_name}
 use Rattle.cc_heaps.proofs.FewCounts.{none-owned}
 use Rattle.cc_host.proofs.MadeChange.{held-b, live-b, order-then, change-came, change-made, change-name, change-reached, change-reaches, change-tells, within-b}
-use Rattle.cc_heaps.specs.Keyed.{Keyed}
+use Rattle.cc_heaps.specs.Keyed.{Keyed, the_number}
 use Rattle.cc_host.specs.Hosted.{spare}
 use Rattle.cc_host.proofs.MadeTaken.{below-keeps, made-kept}
 use Rattle.cc_host.proofs.changes.make_below.Given as given
+use Rattle.cc_host.proofs.MarkedCalls.{made_native-marking, native-past, stored-marking}
+use Rattle.cc_host.proofs.Marked.{marking-then}
 use Rattle.cc_host.proofs.changes.make_below.Goals as goal
 use Rattle.cc_host.proofs.changes.make_below.Goals.{After-let_go}
 
@@ -109,3 +111,15 @@ returns-clause-whole g c =
     made-kept c.args.heaps.now.heap w.heap c.let_go.new.heaps.heap spare c.args.slots c.requires.ready.order.sound.well_formed c.in_ok-new_native.ensures.heap
     (below-keeps w.heap c.store_native.new.self.heap c.let_go.new.heaps.heap _ _ _ (ap (λ (u : Keyed). u.heap) c.store_native.ensures.heap)
     (ap (λ (u : Keyed). u.heap) c.let_go.ensures.empty.given_up))
+
+pub returns-clause-marking : goal.returns-clause-marking
+returns-clause-marking g c =
+    let v = c.args.heaps.now in
+    let w = c.new_native.new.self in
+    let u = c.store_native.new.self in
+    let e = c.in_ok-new_native.ensures in
+    let s = c.store_native.ensures in
+    marking-then v w c.let_go.new.heaps (made_native-marking v w spare c.args.slots e.heap c.new_native.ensures.marks) (marking-then w u c.let_go.new.heaps
+    (stored-marking w u (the_number w c.args.above.0) c.args.i (native_name w (Some c.in-Some.key)) s.heap s.marks
+    (λ its. native-past w (Some c.in-Some.key) (e.kept.order [] c.requires.ready.order).sound.well_formed its))
+    c.let_go.ensures.marking)

@@ -9,6 +9,8 @@ use Rattle.cc_host.proofs.Around.{around-none_came, around-change, around-tells}
 use Rattle.cc_host.proofs.Spare.{move-leaves}
 use Rattle.cc_host.proofs.Storing.{moved-kept, moved-leaves, moved-none_came, moved-stands, live-same, within-same}
 use Rattle.cc_host.proofs.changes.move_native.Given as given
+use Rattle.cc_host.proofs.MarkedCalls.{moved-marking}
+use Rattle.cc_host.proofs.Marked.{marking-then}
 use Rattle.cc_host.proofs.changes.move_native.Goals as goal
 
 pub move_slot-requires : goal.move_slot-requires
@@ -62,3 +64,13 @@ returns-clause-tells g c =
 pub returns-clause-none_came : goal.returns-clause-none_came
 returns-clause-none_came g c =
     around-none_came c.args.heaps.now c.hold.new.heaps c.move_slot.new.self c.let_go.new.heaps c.requires.ready c.hold.ensures.held (kept g c) c.let_go.ensures.empty (came g c)
+
+pub returns-clause-marking : goal.returns-clause-marking
+returns-clause-marking g c =
+    let w = c.hold.new.heaps in
+    let u = c.move_slot.new.self in
+    let e = c.move_slot.ensures in
+    marking-then c.args.heaps.now w c.let_go.new.heaps c.hold.ensures.marking (marking-then w u c.let_go.new.heaps
+    (moved-marking w u (the_number w c.args.to.0) c.args.i (the_number w c.args.from.0) c.args.j
+    (c.hold.ensures.held.kept.order [] c.requires.ready.order).sound.well_formed e.heap e.marking e.kept.marks)
+    c.let_go.ensures.marking)

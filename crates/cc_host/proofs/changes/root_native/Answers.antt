@@ -9,6 +9,7 @@ use Rattle.cc_lists.specs.Members.{Among}
 use Rattle.cc_model.specs.WellFormed.{names_there}
 use Rattle.cc_host.proofs.Coming.{hold_native-none_came}
 use Rattle.cc_host.proofs.Referring.{reached-held}
+use Rattle.cc_host.proofs.MarkedCalls.{held-marking}
 use Rattle.cc_host.proofs.changes.root_native.Goals as goal
 
 pub set_native_reg-requires-clause-within : goal.set_native_reg-requires-clause-within
@@ -43,3 +44,8 @@ pub returns-clause-held : goal.returns-clause-held
 returns-clause-held g c =
     let v = c.args.heaps.now in
     root-held v c.set_native_reg.new.self c.args.r (native_name v c.args.content) (omega (arith, c.requires.within, c.requires.ready.order.sound.well_formed.registers.0.enough)) c.set_native_reg.ensures.heap
+
+pub returns-clause-marking : goal.returns-clause-marking
+returns-clause-marking g c =
+    let v = c.args.heaps.now in
+    held-marking v c.set_native_reg.new.self c.args.r (native_name v c.args.content) c.set_native_reg.ensures.heap c.set_native_reg.ensures.marks

@@ -1,4 +1,4 @@
-use Rattle.std.proofs.Common.{[], Some}
+use Rattle.std.proofs.Common.{[], Some, sym, subst}
 use Rattle.cc_model.specs.Graph as graph
 use Rattle.cc_heaps.specs.Keyed.{the_number}
 use Rattle.cc_heaps.specs.Changes.{held_name, native_name}
@@ -11,6 +11,9 @@ use Rattle.cc_host.proofs.Exposing.{stays-same}
 use Rattle.cc_host.proofs.Spare.{slot-leaves}
 use Rattle.cc_host.proofs.Storing.{stored-kept, stored-leaves, stored-none_came, stored-stands, within-same}
 use Rattle.cc_host.proofs.changes.store_black.Given as given
+use Rattle.cc_host.proofs.MarkedCalls.{stored-marking}
+use Rattle.cc_host.proofs.Marked.{marking-after, marking-then}
+use Rattle.cc_host.specs.Marked.{IsPastIfAny}
 use Rattle.cc_host.proofs.changes.store_black.Goals as goal
 
 pub store_native-requires-clause-order : goal.store_native-requires-clause-order
@@ -62,3 +65,15 @@ returns-clause-tells g c =
     around-tells c.args.heaps.now c.hold.new.heaps c.store_native.new.self c.let_go.new.heaps c.requires.ready c.hold.ensures.held (kept g c) c.let_go.ensures.empty
     (g.N.Notices.telling c.args.out.now) (g.N.Notices.telling c.hold.new.out) (g.N.Notices.telling c.store_native.new.out) (g.N.Notices.telling c.let_go.new.out)
     c.hold.ensures.told (came g c) c.store_native.ensures.tells c.let_go.ensures.tells
+
+pub returns-clause-marking : goal.returns-clause-marking
+returns-clause-marking g c past =
+    let v = c.args.heaps.now in
+    let w = c.hold.new.heaps in
+    let u = c.store_native.new.self in
+    let h = c.hold.ensures in
+    let same = (stays-same v w h.held.keys h.held.scripts).same c.args.content c.requires.there in
+    marking-after v w c.let_go.new.heaps h.marking (λ k. marking-then w u c.let_go.new.heaps
+    (stored-marking w u (the_number w c.args.key.0) c.args.i (held_name w c.args.content) c.store_native.ensures.heap c.store_native.ensures.marks
+    (λ its. subst (IsPastIfAny w) (sym same) (λ y i. h.marking.past k y (past k y i))))
+    c.let_go.ensures.marking)

@@ -8,6 +8,8 @@ use Rattle.cc_heaps.specs.Standing.{IsReached}
 use Rattle.cc_host.specs.Changes.{IsChange}
 use Rattle.cc_host.proofs.Composing.{change-after, tells-after}
 use Rattle.cc_host.proofs.Storing.{live-same, native_name-same, within-same}
+use Rattle.cc_host.proofs.Marked.{marking-after}
+use Rattle.cc_host.specs.Marked.{IsPastIfAny}
 use Rattle.cc_host.proofs.changes.store_native.Goals as goal
 
 pub store_black-requires : goal.store_black-requires
@@ -48,3 +50,10 @@ returns-clause-tells g c =
 
 pub returns-clause-none_came : goal.returns-clause-none_came
 returns-clause-none_came g c x m = subst (Among x) c.expose_held.ensures.names (c.store_black.ensures.none_came x m)
+
+pub returns-clause-marking : goal.returns-clause-marking
+returns-clause-marking g c =
+    let w = c.expose_held.new.heaps in
+    let e = c.expose_held.ensures in
+    marking-after c.args.heaps.now w c.store_black.new.heaps e.marking
+    (λ k. c.store_black.ensures.marking (λ its. subst (IsPastIfAny w) (sym (e.stays.same c.args.content c.requires.there)) (e.past k)))

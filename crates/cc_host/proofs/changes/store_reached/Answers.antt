@@ -9,6 +9,9 @@ use Rattle.cc_host.proofs.Composing.{tells-after}
 use Rattle.cc_host.proofs.BelowWritten.{reached-change, stored-made, stored-reaches}
 use Rattle.cc_host.proofs.Rooted.{stored-registers}
 use Rattle.cc_host.proofs.Storing.{live-same, slot_held-same, stored-none_came, within-same}
+use Rattle.cc_host.proofs.MarkedCalls.{stored-marking}
+use Rattle.cc_host.proofs.Marked.{marking-after}
+use Rattle.cc_host.specs.Marked.{IsPastIfAny}
 use Rattle.cc_host.proofs.changes.store_reached.Goals as goal
 
 pub store_native-requires : goal.store_native-requires
@@ -65,3 +68,11 @@ returns-clause-made g c =
     let v = c.expose_held.new.heaps in
     ap (λ (u : Keyed). u.heap.natives_made) c.store_native.ensures.heap
     ∙ (stored-made v.heap (the_number v c.args.key.0) c.args.i (held_name v c.args.content) ∙ c.expose_held.ensures.made)
+
+pub returns-clause-marking : goal.returns-clause-marking
+returns-clause-marking g c =
+    let w = c.expose_held.new.heaps in
+    let e = c.expose_held.ensures in
+    marking-after c.args.heaps.now w c.store_native.new.self e.marking (λ k.
+    stored-marking w c.store_native.new.self (the_number w c.args.key.0) c.args.i (held_name w c.args.content) c.store_native.ensures.heap c.store_native.ensures.marks
+    (λ its. subst (IsPastIfAny w) (sym (e.stays.same c.args.content c.requires.there)) (e.past k)))

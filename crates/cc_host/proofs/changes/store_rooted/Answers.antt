@@ -8,6 +8,9 @@ use Rattle.cc_heaps.proofs.FewCounts.{none-owned}
 use Rattle.cc_host.proofs.Composing.{tells-after}
 use Rattle.cc_host.proofs.Rooted.{rooted-change, stored-registers}
 use Rattle.cc_host.proofs.Storing.{live-same, stored-none_came, within-same}
+use Rattle.cc_host.proofs.MarkedCalls.{stored-marking}
+use Rattle.cc_host.proofs.Marked.{marking-after}
+use Rattle.cc_host.specs.Marked.{IsPastIfAny}
 use Rattle.cc_host.proofs.changes.store_rooted.Goals as goal
 
 pub store_native-requires : goal.store_native-requires
@@ -47,3 +50,11 @@ returns-clause-registers g c =
     let v = c.expose_held.new.heaps in
     ap (λ (u : Keyed). u.heap.native_registers) c.store_native.ensures.heap
     ∙ (stored-registers v.heap (the_number v c.args.key.0) c.args.i (held_name v c.args.content) ∙ c.expose_held.ensures.registers)
+
+pub returns-clause-marking : goal.returns-clause-marking
+returns-clause-marking g c =
+    let w = c.expose_held.new.heaps in
+    let e = c.expose_held.ensures in
+    marking-after c.args.heaps.now w c.store_native.new.self e.marking (λ k.
+    stored-marking w c.store_native.new.self (the_number w c.args.key.0) c.args.i (held_name w c.args.content) c.store_native.ensures.heap c.store_native.ensures.marks
+    (λ its. subst (IsPastIfAny w) (sym (e.stays.same c.args.content c.requires.there)) (e.past k)))

@@ -21,6 +21,8 @@ use Rattle.cc_host.proofs.Wrapping.{wrapped-natives, wrapped-none_left}
 use Rattle.cc_model.specs.WellFormed.{names_there}
 use Rattle.cc_host.proofs.Coming.{OneCame-named, if_ok-with, wrapped-came}
 use Rattle.cc_host.proofs.changes.wrap_native.Given as given
+use Rattle.cc_host.proofs.MarkedCalls.{wrapped-marking}
+use Rattle.cc_host.proofs.Marked.{marking-then}
 use Rattle.cc_host.proofs.changes.wrap_native.Goals as goal
 
 pub wrap-made-requires-clause-order : goal.wrap-made-requires-clause-order
@@ -88,3 +90,13 @@ pub returns-clause-none_came : goal.returns-clause-none_came
 returns-clause-none_came g c =
     on_err_weaker c.wrap-made.result (λ same. around-none_came c.args.heaps.now c.hold.new.heaps c.wrap-made.new.heaps c.let_go.new.heaps c.requires.ready c.hold.ensures.held (kept g c) c.let_go.ensures.empty
     (λ x m. subst (λ (w : Keyed). Among x (names_there w.heap)) same m)) c.wrap-made.ensures.same
+
+pub returns-clause-marking : goal.returns-clause-marking
+returns-clause-marking g c =
+    let w = c.hold.new.heaps in
+    let u = c.wrap-made.new.heaps in
+    let e = c.wrap-made.ensures in
+    marking-then c.args.heaps.now w c.let_go.new.heaps c.hold.ensures.marking (marking-then w u c.let_go.new.heaps
+    (wrapped-marking w u c.wrap-made.result (the_number w c.args.key.0) (c.hold.ensures.held.kept.order [] c.requires.ready.order).sound.well_formed
+    e.heap e.same e.marking e.kept.marks)
+    c.let_go.ensures.marking)

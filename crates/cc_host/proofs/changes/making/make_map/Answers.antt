@@ -10,6 +10,7 @@ use Rattle.cc_names.specs.declared.kind.Kind.TheVariants.{Map}
 use Rattle.cc_model.specs.WellFormed.{names_there}
 use Rattle.cc_heaps.specs.Changes.{script_name}
 use Rattle.cc_host.proofs.Coming.{OneCame-named, object-came}
+use Rattle.cc_host.proofs.MarkedCalls.{made_object-marking}
 use Rattle.cc_host.proofs.changes.making.make_map.Goals as goal
 
 pub new_map-requires-clause-within : goal.new_map-requires-clause-within
@@ -32,3 +33,8 @@ returns-clause-came c =
     let w = c.new_map.new.self in
     OneCame-named h w.heap (object (h.scripts_made + 1)) (script_name w (Some c.in-Some.key)) (search rules)
     (λ y m. object-came h c.args.r Map 0 None y (subst (λ (k : Heap). Among y (names_there k)) c.in_ok-new_map.ensures.heap m))
+
+pub returns-clause-marking : goal.returns-clause-marking
+returns-clause-marking c =
+    let e = c.in_ok-new_map.ensures in
+    made_object-marking c.args.heaps.now c.new_map.new.self c.args.r Map 0 c.requires.ready.order.sound.well_formed e.heap c.new_map.ensures.marks

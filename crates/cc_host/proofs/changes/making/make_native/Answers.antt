@@ -7,6 +7,7 @@ use Rattle.cc_host.proofs.KeptDoomed.{make_native-doomed}
 use Rattle.cc_host.proofs.Making.{native-beside, native-came, native-held, native-reaches}
 use Rattle.cc_host.proofs.MadeTaken.{made-whole}
 use Rattle.cc_host.proofs.Coming.{OneCame-named}
+use Rattle.cc_host.proofs.MarkedCalls.{made_native-marking}
 use Rattle.cc_host.proofs.changes.making.make_native.Goals as goal
 
 pub new_native-requires-clause-within : goal.new_native-requires-clause-within
@@ -62,3 +63,6 @@ returns-clause-came g c =
 pub returns-clause-whole : goal.returns-clause-whole
 returns-clause-whole g c =
     made-whole c.args.heaps.now.heap c.new_native.new.self.heap c.args.r c.args.slots c.requires.ready.order.sound.well_formed c.in_ok-new_native.ensures.heap
+
+pub returns-clause-marking : goal.returns-clause-marking
+returns-clause-marking g c = made_native-marking c.args.heaps.now c.new_native.new.self c.args.r c.args.slots c.in_ok-new_native.ensures.heap c.new_native.ensures.marks

@@ -14,6 +14,9 @@ use Rattle.cc_names.specs.Names.{object}
 use Rattle.cc_model.specs.WellFormed.{names_there}
 use Rattle.cc_heaps.specs.Changes.{script_name}
 use Rattle.cc_host.proofs.Coming.{OneCame-named, proxy-came}
+use Rattle.cc_host.proofs.MarkedCalls.{made_proxy-marking}
+use Rattle.cc_host.proofs.Marked.{marking-after}
+use Rattle.cc_host.specs.Marked.{IsPastIfAny}
 use Rattle.cc_host.proofs.changes.making.make_proxy.Goals as goal
 
 pub new_proxy-requires-clause-within : goal.new_proxy-requires-clause-within
@@ -47,3 +50,13 @@ returns-clause-came c =
     (λ y m. ⊎_elim (λ l. inl (exposed-none_came u v c.expose_key.ensures.exposes y l))
     (λ e. inr (e ∙ ap (λ (k : Heap). object (k.scripts_made + 1)) c.expose_key.ensures.exposes.rest))
     (proxy-came v.heap c.args.r (name_at v.scripts c.args.delegate.0) y (subst (λ (k : Heap). Among y (names_there k)) c.in_ok-new_proxy.ensures.heap m)))
+
+pub returns-clause-marking : goal.returns-clause-marking
+returns-clause-marking c =
+    let u = c.args.heaps.now in
+    let v = c.expose_key.new.heaps in
+    let w = c.new_proxy.new.self in
+    let e = c.expose_key.ensures in
+    marking-after u v w e.marking (λ k. made_proxy-marking v w c.args.r (name_at v.scripts c.args.delegate.0) e.ready.order.sound.well_formed
+    c.in_ok-new_proxy.ensures.heap c.new_proxy.ensures.marks
+    (λ its. subst (IsPastIfAny v) (sym (e.exposes.same c.args.delegate.0 c.requires.live).name) (e.past k)))

@@ -3,6 +3,7 @@ use Rattle.cc_script.specs.Objects.{name_at}
 use Rattle.cc_heaps.specs.Standing.{IsReached}
 use Rattle.cc_host.specs.Exposing.{Exposes}
 use Rattle.cc_host.proofs.Exposed.{exposed-colour, exposed-ready, exposes}
+use Rattle.cc_host.proofs.MarkedCalls.{exposed-is_past, exposed-marking}
 use Rattle.cc_host.proofs.changes.scripts.expose_key.Goals as goal
 
 pub expose-requires-clause-order : goal.expose-requires-clause-order
@@ -23,3 +24,15 @@ returns-clause-ready c = exposed-ready c.args.heaps.now c.expose.new.self (given
 pub returns-clause-black : goal.returns-clause-black
 returns-clause-black c =
     exposed-colour c.args.heaps.now c.expose.new.self ((given c).kept.order [] c.requires.ready.order) (given c) c.args.key.0 c.requires.live c.expose.ensures.heap
+
+pub returns-clause-marking : goal.returns-clause-marking
+returns-clause-marking c =
+    let v = c.args.heaps.now in
+    let e = c.expose.ensures in
+    exposed-marking v c.expose.new.self (name_at v.scripts c.args.key.0) e.marking e.kept.marks c.requires.ready.order.sound.well_formed e.heap
+
+pub returns-clause-past : goal.returns-clause-past
+returns-clause-past c =
+    let v = c.args.heaps.now in
+    let e = c.expose.ensures in
+    exposed-is_past v c.expose.new.self (name_at v.scripts c.args.key.0) e.marking e.kept.marks c.requires.ready.order.sound.well_formed

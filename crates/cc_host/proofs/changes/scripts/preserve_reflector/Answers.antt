@@ -9,6 +9,9 @@ use Rattle.cc_host.specs.Missing.{KeepsDoomed}
 use Rattle.cc_host.proofs.KeptDoomed.{doomed-then, preserve-doomed}
 use Rattle.cc_host.proofs.Exposed.{KeepsAll-after, StandsAfter-still, exposed-none_came, exposed-none_left}
 use Rattle.cc_host.proofs.ScriptSteps.{StaysBeside, beside-none_came, beside-none_left, beside-spared, preserve-beside}
+use Rattle.cc_host.proofs.MarkedCalls.{preserved-marking}
+use Rattle.cc_host.proofs.Marked.{marking-after}
+use Rattle.cc_host.specs.Marked.{IsPastIfAny}
 use Rattle.cc_host.proofs.changes.scripts.preserve_reflector.Goals as goal
 
 pub preserve-requires-clause-order : goal.preserve-requires-clause-order
@@ -61,3 +64,11 @@ returns-clause-none_left c x i =
 pub returns-clause-none_came : goal.returns-clause-none_came
 returns-clause-none_came c x i =
     exposed-none_came c.args.heaps.now c.expose_key.new.heaps c.expose_key.ensures.exposes x (beside-none_came c.expose_key.new.heaps c.preserve.new.heaps (beside c) x i)
+
+pub returns-clause-marking : goal.returns-clause-marking
+returns-clause-marking c =
+    let u = c.args.heaps.now in
+    let v = c.expose_key.new.heaps in
+    let e = c.expose_key.ensures in
+    marking-after u v c.preserve.new.heaps e.marking (λ k. preserved-marking v c.preserve.new.heaps (name_at v.scripts c.args.key.0) c.preserve.ensures.heap
+    (λ its. subst (IsPastIfAny v) (sym (name c)) (e.past k)))

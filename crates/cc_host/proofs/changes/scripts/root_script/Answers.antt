@@ -3,6 +3,7 @@ use Rattle.cc_heaps.specs.Changes.{script_name}
 use Rattle.cc_host.specs.Missing.{KeepsDoomed}
 use Rattle.cc_host.proofs.KeptDoomed.{hold_script-doomed}
 use Rattle.cc_host.proofs.ScriptSteps.{StaysBeside, beside-none_came, beside-none_left, beside-spared, hold_script-beside}
+use Rattle.cc_host.proofs.MarkedCalls.{held_script-marking}
 use Rattle.cc_host.proofs.changes.scripts.root_script.Goals as goal
 
 pub set_script_reg-requires-clause-within : goal.set_script_reg-requires-clause-within
@@ -27,3 +28,9 @@ returns-clause-none_left c = beside-none_left c.args.heaps.now c.set_script_reg.
 
 pub returns-clause-none_came : goal.returns-clause-none_came
 returns-clause-none_came c = beside-none_came c.args.heaps.now c.set_script_reg.new.self (beside c)
+
+pub returns-clause-marking : goal.returns-clause-marking
+returns-clause-marking c =
+    let v = c.args.heaps.now in
+    let e = c.set_script_reg.ensures in
+    held_script-marking v c.set_script_reg.new.self (script_name v c.args.content) e.marking e.kept.marks c.requires.ready.order.sound.well_formed c.args.r e.heap

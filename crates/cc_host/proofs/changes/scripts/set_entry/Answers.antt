@@ -18,6 +18,9 @@ use Rattle.cc_host.proofs.Exposed.{AreSame-then, Exposes-then, KeepsAll-after, S
 use Rattle.cc_host.proofs.ScriptSteps.{StaysBeside, beside-none_came, beside-none_left, beside-spared, either-way, entry-beside, ok-both}
 use Rattle.cc_lists.specs.Members.{Among}
 use Rattle.cc_model.specs.WellFormed.{names_there}
+use Rattle.cc_host.proofs.MarkedCalls.{entry-marking}
+use Rattle.cc_host.proofs.Marked.{marking-after, marking-same}
+use Rattle.cc_host.specs.Marked.{IsPastIfAny}
 use Rattle.cc_host.proofs.changes.scripts.set_entry.Goals as goal
 
 pub expose_key-requires-2-clause-ready : goal.expose_key-requires-2-clause-ready
@@ -118,3 +121,18 @@ returns-clause-change c =
           (subst (IsReached v.heap) (sym key.name) (b.reached _ d.1))
           (subst (IsReached v.heap) (sym (b.same c.args.value.0 c.requires.value).name) (b.reached _ d.2))));
     })
+
+pub returns-clause-marking : goal.returns-clause-marking
+returns-clause-marking c =
+    let t = c.args.heaps.now in
+    let u = c.expose_key.new.heaps in
+    let v = c.expose_key-2.new.heaps in
+    let w = c.set_entry.new.self in
+    let e = c.expose_key.ensures in
+    let p = c.expose_key-2.ensures in
+    let s = c.set_entry.ensures in
+    marking-after t u w e.marking (λ k. marking-after u v w p.marking (λ l.
+    either-way c.set_entry.result s.heap s.same
+    (λ heap. entry-marking v w (name_at v.scripts c.args.the_map.0) (name_at v.scripts c.args.key.0) (name_at v.scripts c.args.value.0) heap s.marks
+    (λ its. subst (IsPastIfAny v) (sym ((both c).same c.args.key.0 c.requires.key).name) (λ y i. p.marking.past l y (e.past k y i))))
+    (λ same. marking-same v w same)))

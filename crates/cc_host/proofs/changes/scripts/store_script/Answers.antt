@@ -9,6 +9,9 @@ use Rattle.cc_host.proofs.KeptDoomed.{doomed-then, slot-doomed}
 use Rattle.cc_host.proofs.Exposed.{AreSame-then, KeepsAll-after, StandsAfter-still, exposed-none_came, exposed-none_left}
 use Rattle.cc_host.proofs.Composing.{stands-then}
 use Rattle.cc_host.proofs.ScriptSteps.{StaysBeside, beside-none_came, beside-none_left, beside-spared, content-black, content-name, content-there, slot-beside}
+use Rattle.cc_host.proofs.MarkedCalls.{slot-marking}
+use Rattle.cc_host.proofs.Marked.{marking-after}
+use Rattle.cc_host.specs.Marked.{IsPastIfAny}
 use Rattle.cc_host.proofs.changes.scripts.store_script.Goals as goal
 
 pub preserve_reflector-requires-clause-ready : goal.preserve_reflector-requires-clause-ready
@@ -84,3 +87,15 @@ returns-clause-change c =
 pub returns-clause-none_came : goal.returns-clause-none_came
 returns-clause-none_came c x i = exposed-none_came c.args.heaps.now c.expose_content.new.heaps c.expose_content.ensures.exposes x
     (c.preserve_reflector.ensures.none_came x (beside-none_came c.preserve_reflector.new.heaps c.store_script.new.self (beside c) x i))
+
+pub returns-clause-marking : goal.returns-clause-marking
+returns-clause-marking c =
+    let t = c.args.heaps.now in
+    let u = c.expose_content.new.heaps in
+    let v = c.preserve_reflector.new.heaps in
+    let w = c.store_script.new.self in
+    let e = c.expose_content.ensures in
+    let p = c.preserve_reflector.ensures in
+    marking-after t u w e.marking (λ k. marking-after u v w p.marking (λ l. slot-marking v w (name_at v.scripts c.args.key.0) c.args.i (script_name v c.args.content)
+    c.store_script.ensures.heap c.store_script.ensures.marks
+    (λ its. subst (IsPastIfAny v) (sym (content-name t v (same c) c.args.content c.requires.there)) (λ y i. p.marking.past l y (e.past k y i)))))

@@ -3,6 +3,7 @@ use Rattle.cc_script.specs.Objects.{name_at}
 use Rattle.cc_host.specs.Missing.{KeepsDoomed}
 use Rattle.cc_host.proofs.KeptDoomed.{set_entry-doomed}
 use Rattle.cc_host.proofs.ScriptSteps.{StaysBeside, beside-none_came, beside-none_left, beside-spared, entry-beside}
+use Rattle.cc_host.proofs.MarkedCalls.{unset-marking}
 use Rattle.cc_host.proofs.changes.scripts.unset_entry.Goals as goal
 
 pub unset_entry-requires-clause-order : goal.unset_entry-requires-clause-order
@@ -30,3 +31,8 @@ returns-clause-none_left c = beside-none_left c.args.heaps.now c.unset_entry.new
 
 pub returns-clause-none_came : goal.returns-clause-none_came
 returns-clause-none_came c = beside-none_came c.args.heaps.now c.unset_entry.new.self (beside c)
+
+pub returns-clause-marking : goal.returns-clause-marking
+returns-clause-marking c =
+    let v = c.args.heaps.now in
+    unset-marking v c.unset_entry.new.self (name_at v.scripts c.args.the_map.0) (name_at v.scripts c.args.key.0) c.unset_entry.ensures.heap c.unset_entry.ensures.marks

@@ -9,7 +9,7 @@ use Rattle.cc_host.specs.Hosted.{Hosted, machine}
 use Rattle.cc_host.specs.Missing.{CannotMiss, IsOfAGraph, Takes, TakesGarbage, TellsUnlinked}
 use Rattle.cc_host.proofs.Keeping.{hosted}
 use Rattle.cc_host.proofs.Collecting.{collected-keeps}
-use Rattle.cc_host.proofs.Taking.{on_both, collect-takes, collect-unlinks, collect-takes_lost}
+use Rattle.cc_host.proofs.Taking.{on_both, collect-takes, collect-unlinks, collect-takes_lost, marking-now}
 use Rattle.cc_host.specs.Calls.{TellsFew}
 use Rattle.cc_host.proofs.Telling.{collected-few, few-told}
 use Rattle.cc_host.proofs.host.Host.collect.Goals as goal
@@ -25,7 +25,7 @@ returns-clause-takes g c =
     let r = c.whole.result in
     let telling = g.N.Notices.telling in
     let old : Hosted = hosted c.self.inside.heaps c.self.inside.collector c.self.inside.mark in
-    let takes = collect-takes old c.self.invariant.runs (machine_of c.whole.new.heaps.heap c.whole.new.self) in
+    let takes = collect-takes old c.self.invariant.runs (machine_of c.whole.new.heaps c.whole.new.self) in
     subst (λ (h : Hosted). (ds : List Name) → CannotMiss h ds → Takes ds (telling c.args.out.now) (telling c.whole.new.out)) c.self.view_is
     (on_both r
     (on_ok_weaker r (takes at_end (telling c.args.out.now) (telling c.whole.new.out)) e.done)
@@ -37,7 +37,7 @@ returns-clause-takes_if_done g c =
     let telling = g.N.Notices.telling in
     let old : Hosted = hosted c.self.inside.heaps c.self.inside.collector c.self.inside.mark in
     subst (λ (h : Hosted). OnOk r ((ds : List Name) → CannotMiss h ds → TellsUnlinked ds (telling c.args.out.now) (telling c.whole.new.out))) c.self.view_is
-    (on_ok_weaker r (collect-unlinks old c.self.invariant.runs (machine_of c.whole.new.heaps.heap c.whole.new.self) (telling c.args.out.now) (telling c.whole.new.out)) c.whole.ensures.done)
+    (on_ok_weaker r (collect-unlinks old c.self.invariant.runs (machine_of c.whole.new.heaps c.whole.new.self) (telling c.args.out.now) (telling c.whole.new.out)) c.whole.ensures.done)
 
 pub returns-clause-begins : goal.returns-clause-begins
 returns-clause-begins g c =
@@ -45,7 +45,7 @@ returns-clause-begins g c =
     let telling = g.N.Notices.telling in
     let old : Hosted = hosted c.self.inside.heaps c.self.inside.collector c.self.inside.mark in
     subst (λ (h : Hosted). OnOk r (IsOfAGraph h → TakesGarbage h → TellsUnlinked (lost h.heaps.heap) (telling c.args.out.now) (telling c.whole.new.out))) c.self.view_is
-    (on_ok_weaker r (collect-takes_lost old c.self.invariant.runs (machine_of c.whole.new.heaps.heap c.whole.new.self) (telling c.args.out.now) (telling c.whole.new.out)) c.whole.ensures.done)
+    (on_ok_weaker r (collect-takes_lost old c.self.invariant.runs (machine_of c.whole.new.heaps c.whole.new.self) (telling c.args.out.now) (telling c.whole.new.out)) c.whole.ensures.done)
 
 pub returns-clause-few : goal.returns-clause-few
 returns-clause-few g c =
@@ -56,7 +56,7 @@ returns-clause-few g c =
     let sound = c.self.invariant.runs.order.sound in
     let before = telling c.args.out.now in
     let after = telling c.whole.new.out in
-    let few = collected-few (machine old) (machine new) before after sound in
+    let few = collected-few (machine old) (machine new) before after sound (marking-now old c.self.invariant.runs) in
     subst (λ (h : Hosted). TellsFew (length h.heaps.heap.natives + (length h.heaps.heap.natives + 1)) h new before after) c.self.view_is
     (few-told (length old.heaps.heap.natives + (length old.heaps.heap.natives + 1)) old new before after
     (on_both c.whole.result (on_ok_weaker c.whole.result (few at_end) e.done) (on_err_weaker c.whole.result (few refused) e.refused)))

@@ -3,7 +3,7 @@ use Rattle.cc_heaps.specs.Leaving.{NoneCame}
 use Rattle.cc_host.specs.Calls.{Always, Does, Forgets}
 use Rattle.cc_host.specs.Hosted.{Hosted}
 use Rattle.cc_host.proofs.Keeping.{hosted, change-keeps}
-use Rattle.cc_host.proofs.Forgetting.{forgotten-change, forgotten-does, forgotten-forgets, forgotten-none_came}
+use Rattle.cc_host.proofs.Forgetting.{forgotten-change, forgotten-does, forgotten-forgets, forgotten-marking, forgotten-none_came}
 use Rattle.cc_host.proofs.host.Host.forget.Goals as goal
 
 pub forget-requires : goal.forget-requires
@@ -16,7 +16,7 @@ invariant_of-self c =
     let e = c.forget.ensures in
     let b = c.self.inside.collector in
     let m = c.self.inside.mark in
-    change-keeps v w b m (forgotten-change v w b m e.forgotten e.kept e.stands c.self.invariant.spared) c.self.invariant
+    change-keeps v w b m (forgotten-change v w b m e.forgotten e.kept e.stands c.self.invariant.spared) (forgotten-marking v w b m e.forgotten e.kept e.stands) c.self.invariant
 
 pub returns-clause-does : goal.returns-clause-does
 returns-clause-does c =

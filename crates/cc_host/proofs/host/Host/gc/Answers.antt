@@ -1,6 +1,6 @@
-use Rattle.std.proofs.Common.{List, subst, ◌+◌, length}
+use Rattle.std.proofs.Common.{List, ap, subst, ◌+◌, length}
 use Rattle.cc_names.specs.declared.name.Name.{Name}
-use Rattle.cc_collector.specs.Kept.{machine_of}
+use Rattle.cc_collector.specs.Kept.{Kept, machine_of}
 use Rattle.cc_host.specs.Hosted.{Hosted, machine}
 use Rattle.cc_host.specs.Missing.{CannotMiss, Takes}
 use Rattle.cc_host.proofs.Keeping.{hosted}
@@ -20,14 +20,14 @@ returns-clause-takes g c =
     let telling = g.N.Notices.telling in
     let old : Hosted = hosted c.self.inside.heaps c.self.inside.collector c.self.inside.mark in
     subst (λ (h : Hosted). (ds : List Name) → CannotMiss h ds → Takes ds (telling c.args.out.now) (telling c.gc.new.out)) c.self.view_is
-    (gc-takes old c.self.invariant.runs (machine_of c.gc.new.heaps.heap c.gc.new.self) (telling c.args.out.now) (telling c.gc.new.out) c.gc.ensures.swept)
+    (gc-takes old c.self.invariant.runs (machine_of c.gc.new.heaps c.gc.new.self) (telling c.args.out.now) (telling c.gc.new.out) c.gc.ensures.swept)
 
 pub returns-clause-garbage : goal.returns-clause-garbage
 returns-clause-garbage g c =
     let telling = g.N.Notices.telling in
     let old : Hosted = hosted c.self.inside.heaps c.self.inside.collector c.self.inside.mark in
     let new : Hosted = hosted c.gc.new.heaps c.gc.new.self c.self.inside.mark in
-    gc-takes_garbage old new (telling c.args.out.now) (telling c.gc.new.out) c.self.invariant c.gc.ensures.over c.gc.ensures.swept
+    gc-takes_garbage old new (telling c.args.out.now) (telling c.gc.new.out) c.self.invariant (ap (λ (k : Kept). k.running) c.gc.ensures.over) (ap (λ (k : Kept). k.marking) c.gc.ensures.over) c.gc.ensures.swept
 
 pub returns-clause-few : goal.returns-clause-few
 returns-clause-few g c =

@@ -14,7 +14,7 @@ use Rattle.cc_host.proofs.host.Host.move_slot.Goals.{then-i-slots-via-then-i-slo
 
 pub invariant_of-self : goal.invariant_of-self
 invariant_of-self g c =
-    change-keeps c.self.inside.heaps c.move_native.new.heaps c.self.inside.collector c.self.inside.mark c.move_native.ensures.change c.self.invariant
+    change-keeps c.self.inside.heaps c.move_native.new.heaps c.self.inside.collector c.self.inside.mark c.move_native.ensures.change c.move_native.ensures.marking.well c.self.invariant
 
 pub returns-in_err-from-clause-stops : goal.returns-in_err-from-clause-stops
 returns-in_err-from-clause-stops g c =

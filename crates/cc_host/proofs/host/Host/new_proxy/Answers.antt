@@ -8,11 +8,11 @@ use Rattle.cc_host.proofs.host.Host.new_proxy.Goals as goal
 
 pub invariant_of-self : goal.invariant_of-self
 invariant_of-self c =
-    tried-keeps c.self.inside.heaps c.make_proxy.new.heaps c.self.inside.collector c.self.inside.mark c.in_err-key.ensures.tried c.self.invariant
+    tried-keeps c.self.inside.heaps c.make_proxy.new.heaps c.self.inside.collector c.self.inside.mark c.in_err-key.ensures.tried c.make_proxy.ensures.marking.well c.self.invariant
 
 pub invariant_of-self-2 : goal.invariant_of-self-2
 invariant_of-self-2 c =
-    change-keeps c.self.inside.heaps c.make_proxy.new.heaps c.self.inside.collector c.self.inside.mark c.in_ok-key.ensures.change c.self.invariant
+    change-keeps c.self.inside.heaps c.make_proxy.new.heaps c.self.inside.collector c.self.inside.mark c.in_ok-key.ensures.change c.make_proxy.ensures.marking.well c.self.invariant
 
 pub returns-clause-came : goal.returns-clause-came
 returns-clause-came c = came-here c.self.view_is c.make_proxy.new.heaps.heap (sym (ap named c.in-Some.is) ∙ c.of_script.ensures.name) c.in_ok-key.ensures.came

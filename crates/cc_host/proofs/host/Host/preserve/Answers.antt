@@ -6,7 +6,7 @@ use Rattle.cc_host.proofs.host.Host.preserve.Goals as goal
 
 pub invariant_of-self : goal.invariant_of-self
 invariant_of-self c =
-    change-keeps c.self.inside.heaps c.preserve_reflector.new.heaps c.self.inside.collector c.self.inside.mark c.preserve_reflector.ensures.change c.self.invariant
+    change-keeps c.self.inside.heaps c.preserve_reflector.new.heaps c.self.inside.collector c.self.inside.mark c.preserve_reflector.ensures.change c.preserve_reflector.ensures.marking.well c.self.invariant
 
 pub returns-clause-none_came : goal.returns-clause-none_came
 returns-clause-none_came c = subst (λ (k : Hosted). NoneCame k.heaps.heap c.preserve_reflector.new.heaps.heap) c.self.view_is c.preserve_reflector.ensures.none_came

@@ -57,11 +57,11 @@ returns-clause-stops c =
 
 pub invariant_of-self : goal.invariant_of-self
 invariant_of-self c =
-    tried-keeps c.self.inside.heaps c.set_entry.new.heaps c.self.inside.collector c.self.inside.mark c.in_err-set_entry.ensures.tried c.self.invariant
+    tried-keeps c.self.inside.heaps c.set_entry.new.heaps c.self.inside.collector c.self.inside.mark c.in_err-set_entry.ensures.tried c.set_entry.ensures.marking.well c.self.invariant
 
 pub invariant_of-self-2 : goal.invariant_of-self-2
 invariant_of-self-2 c =
-    change-keeps c.self.inside.heaps c.set_entry.new.heaps c.self.inside.collector c.self.inside.mark c.in_ok-set_entry.ensures.change c.self.invariant
+    change-keeps c.self.inside.heaps c.set_entry.new.heaps c.self.inside.collector c.self.inside.mark c.in_ok-set_entry.ensures.change c.set_entry.ensures.marking.well c.self.invariant
 
 pub returns-clause-none_came : goal.returns-clause-none_came
 returns-clause-none_came c = subst (λ (k : Hosted). NoneCame k.heaps.heap c.set_entry.new.heaps.heap) c.self.view_is c.set_entry.ensures.none_came

@@ -23,7 +23,7 @@ returns-clause-takes g c =
     let r = c.settle.result in
     let telling = g.N.Notices.telling in
     let old : Hosted = hosted c.self.inside.heaps c.self.inside.collector c.self.inside.mark in
-    let last = machine_of c.settle.new.heaps.heap c.settle.new.self in
+    let last = machine_of c.settle.new.heaps c.settle.new.self in
     subst (λ (h : Hosted). (ds : List Name) → CannotMiss h ds → Takes ds (telling c.args.out.now) (telling c.settle.new.out)) c.self.view_is
     (on_both r
     (on_ok_weaker r (settle-takes old c.self.invariant.runs last (telling c.args.out.now) (telling c.settle.new.out)) e.done)

@@ -6,7 +6,7 @@ use Rattle.cc_host.specs.Hosted.{Hosted, machine}
 use Rattle.cc_host.specs.Missing.{CannotMiss, IsOfAGraph, TakesBySlice, TakesGarbage}
 use Rattle.cc_host.proofs.Keeping.{hosted}
 use Rattle.cc_host.proofs.Collecting.{collected-keeps}
-use Rattle.cc_host.proofs.Taking.{slice-takes, slice-takes_lost}
+use Rattle.cc_host.proofs.Taking.{slice-takes, slice-takes_lost, marking-now}
 use Rattle.cc_host.specs.Calls.{TellsFew}
 use Rattle.cc_host.proofs.Telling.{few-told, sliced-few}
 use Rattle.cc_host.proofs.host.Host.slice.Goals as goal
@@ -46,4 +46,4 @@ returns-clause-few g c =
     let after = telling c.slice.new.out in
     subst (λ (h : Hosted). TellsFew (length h.heaps.heap.natives + 1) h new before after) c.self.view_is
     (few-told (length old.heaps.heap.natives + 1) old new before after
-    (sliced-few (machine old) (machine new) before after sound c.args.units (progress_of c.slice.result) 0 e.sliced.0 e.sliced.1))
+    (sliced-few (machine old) (machine new) before after sound (marking-now old c.self.invariant.runs) c.args.units (progress_of c.slice.result) 0 e.sliced.0 e.sliced.1))

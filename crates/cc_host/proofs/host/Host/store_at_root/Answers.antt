@@ -17,7 +17,7 @@ use Rattle.cc_host.proofs.host.Host.store_at_root.Goals.{After-slots}
 
 pub invariant_of-self : goal.invariant_of-self
 invariant_of-self g c =
-    change-keeps c.self.inside.heaps c.store_rooted.new.heaps c.self.inside.collector c.self.inside.mark c.store_rooted.ensures.change c.self.invariant
+    change-keeps c.self.inside.heaps c.store_rooted.new.heaps c.self.inside.collector c.self.inside.mark c.store_rooted.ensures.change c.store_rooted.ensures.marking.well c.self.invariant
 
 -- the index decides, and the slots counted by key are those of the root
 module _ (g : given.Over) (c : After-slots g) where

@@ -18,7 +18,7 @@ use Rattle.cc_host.proofs.host.Host.store_below_root.Goals.{After-slots}
 
 pub invariant_of-self : goal.invariant_of-self
 invariant_of-self g c =
-    change-keeps c.self.inside.heaps c.store_reached.new.heaps c.self.inside.collector c.self.inside.mark c.store_reached.ensures.change c.self.invariant
+    change-keeps c.self.inside.heaps c.store_reached.new.heaps c.self.inside.collector c.self.inside.mark c.store_reached.ensures.change c.store_reached.ensures.marking.well c.self.invariant
 
 -- the index decides, and the slots counted by key are those of the native below the root
 module _ (g : given.Over) (c : After-slots g) where

@@ -11,7 +11,7 @@ use Rattle.cc_host.proofs.host.Host.store_in_native.Goals as goal
 
 pub invariant_of-self : goal.invariant_of-self
 invariant_of-self g c =
-    change-keeps c.self.inside.heaps c.store_native.new.heaps c.self.inside.collector c.self.inside.mark c.store_native.ensures.change c.self.invariant
+    change-keeps c.self.inside.heaps c.store_native.new.heaps c.self.inside.collector c.self.inside.mark c.store_native.ensures.change c.store_native.ensures.marking.well c.self.invariant
 
 pub returns-then-i-slots-clause-stops : goal.returns-then-i-slots-clause-stops
 returns-then-i-slots-clause-stops g c =

@@ -10,7 +10,7 @@ use Rattle.cc_host.proofs.host.Host.store_in_script.Goals as goal
 
 pub invariant_of-self : goal.invariant_of-self
 invariant_of-self c =
-    change-keeps c.self.inside.heaps c.store_script.new.heaps c.self.inside.collector c.self.inside.mark c.store_script.ensures.change c.self.invariant
+    change-keeps c.self.inside.heaps c.store_script.new.heaps c.self.inside.collector c.self.inside.mark c.store_script.ensures.change c.store_script.ensures.marking.well c.self.invariant
 
 pub returns-then-i-slots-clause-stops : goal.returns-then-i-slots-clause-stops
 returns-then-i-slots-clause-stops c =

@@ -6,7 +6,7 @@ use Rattle.cc_host.proofs.host.Host.unset_entry.Goals as goal
 
 pub invariant_of-self : goal.invariant_of-self
 invariant_of-self c =
-    change-keeps c.self.inside.heaps c.unset_entry.new.heaps c.self.inside.collector c.self.inside.mark c.unset_entry.ensures.change c.self.invariant
+    change-keeps c.self.inside.heaps c.unset_entry.new.heaps c.self.inside.collector c.self.inside.mark c.unset_entry.ensures.change c.unset_entry.ensures.marking.well c.self.invariant
 
 pub returns-clause-none_came : goal.returns-clause-none_came
 returns-clause-none_came c = subst (λ (k : Hosted). NoneCame k.heaps.heap c.unset_entry.new.heaps.heap) c.self.view_is c.unset_entry.ensures.none_came

@@ -11,7 +11,7 @@ use Rattle.cc_host.proofs.host.Host.wrap.Goals as goal
 
 pub invariant_of-self : goal.invariant_of-self
 invariant_of-self g c =
-    tried-keeps c.self.inside.heaps c.wrap_native.new.heaps c.self.inside.collector c.self.inside.mark c.in_err-made.ensures.tried c.self.invariant
+    tried-keeps c.self.inside.heaps c.wrap_native.new.heaps c.self.inside.collector c.self.inside.mark c.in_err-made.ensures.tried c.wrap_native.ensures.marking.well c.self.invariant
 
 pub returns-in_err-made-clause-tried : goal.returns-in_err-made-clause-tried
 returns-in_err-made-clause-tried g c =
@@ -25,7 +25,7 @@ returns-in_err-made-clause-tried g c =
 
 pub invariant_of-self-2 : goal.invariant_of-self-2
 invariant_of-self-2 g c =
-    change-keeps c.self.inside.heaps c.wrap_native.new.heaps c.self.inside.collector c.self.inside.mark c.in_ok-made.ensures.change c.self.invariant
+    change-keeps c.self.inside.heaps c.wrap_native.new.heaps c.self.inside.collector c.self.inside.mark c.in_ok-made.ensures.change c.wrap_native.ensures.marking.well c.self.invariant
 
 pub returns-in_err-made-clause-none_came : goal.returns-in_err-made-clause-none_came
 returns-in_err-made-clause-none_came g c = on_err_of c.from_residual-in_err-made.result
