@@ -43,6 +43,14 @@
  * So it is unless the collection is abandoned, or a call between was handed an object that no root reached any more. cc_forget
  * between cc_gc and the first slice changes nothing of this, and spares the collection suspects that are alive.
  *
+ * MARKINGS. cc_gc looks at every script object in one call. cc_mark does the same in units: a begin, one for each object that
+ * it scans, and an end. Call it for some units in each frame until *over is 1. Whatever calls come between, it takes nothing
+ * that a root reaches. Each script object that neither script roots nor natives led to when it began is told as freed at its
+ * end, unless cc_wrap answered it meanwhile (this is tested, by tools/c/churn.c). What is let go meanwhile may stay until the
+ * next one. A marking and a collection never go on side by side: cc_mark first brings a collection to its end, and cc_slice and
+ * cc_collect a marking, which are no units of theirs; cc_gc and cc_settle drop a marking. So a frame has units of one of the
+ * two. cc_mark wants no memory: a collection that it ends may be given up, which is told.
+ *
  * STATUS. Each call answers one of the CC_ numbers: of those that apply the first of CC_CLOSED; CC_INDEX of a numbered root; then
  * of the objects in the order in which they are handed in CC_FOREIGN, CC_GONE, CC_KIND of each; CC_INDEX of slots; CC_FULL. Where
  * memory is wanted CC_NO_MEMORY may come in place of any of these but CC_CLOSED and CC_INDEX of a numbered root. Unless it is
@@ -142,6 +150,10 @@ uint32_t cc_entry(cc_collector *, const cc_object *map, const cc_object *key, cc
 uint32_t cc_slice(cc_collector *, uint32_t units, uint32_t *over);
 uint32_t cc_collect(cc_collector *);
 uint32_t cc_gc(cc_collector *);
+/* Units of a script marking, of the one that goes on, or of one that begins here; *over is 1 where it came to its end, else 0. It
+ * answers CC_OK or CC_UNFETCHED. *marking is 1 where one goes on. */
+uint32_t cc_mark(cc_collector *, uint32_t units, uint32_t *over);
+uint32_t cc_marking(cc_collector *, uint32_t *marking);
 /* Leaves exactly what the roots reach. (cc_gc wants no memory: where a collection that it ends is refused some, that is told.) */
 uint32_t cc_settle(cc_collector *);
 uint32_t cc_running(cc_collector *, uint32_t *running);

@@ -8,6 +8,7 @@
  * - What a call answers is what the model says: contents of slots, roots and entries, and the status of a call that can't be
  *   done.
  * - What is told as unlinked or freed is not reached at that time, and nothing is freed twice.
+ * - A script object that nothing led to when a marking began was told as freed by its end, unless cc_wrap answered it meanwhile.
  * - After each settle the library has exactly what the model reaches: as many natives and script objects, each of them there
  *   with the contents of the model, and all others gone and told as freed.
  * - The steps of cc_why are steps in the model, and there are none where nothing leads to the object.
@@ -65,7 +66,8 @@ struct thing {
     uint8_t slots;
     uint32_t slot[MOST_SLOTS];
     uint32_t other;        /* a native's reflector, a reflector's native, a proxy's delegate; or 0 */
-    uint32_t reached;      /* the number of the last marking that came here */
+    uint32_t reached;      /* the number of the last walk that came here */
+    uint32_t lost_in;      /* the library's marking that has to free it; or 0 */
     uint64_t data;         /* of a native */
 };
 struct entry {
@@ -88,6 +90,8 @@ static uint32_t native_at[NATIVE_LIMIT + 1], script_at[SCRIPT_LIMIT + 1]; /* by 
 static uint32_t live; /* things that were not told as freed */
 static uint32_t tables; /* natives that cc_hold made for its roots, as far as cc_natives counts them */
 static uint32_t last_native, last_script, natives_made; /* the last numbers; without the tables */
+static uint32_t markings; /* that began */
+static bool is_marking;   /* whether the last of them goes on */
 
 static cc_object stale[STALE]; /* objects that are gone for good */
 static uint32_t stale_count;
@@ -95,7 +99,7 @@ static uint32_t stale_count;
 static cc_collector c = CC_COLLECTOR_CLOSED;
 static uint64_t mark;
 static unsigned long operation;
-static unsigned long told_freed, told_unlinked, settles, refused, steps_seen, collectors, most_live;
+static unsigned long told_freed, told_unlinked, settles, refused, steps_seen, collectors, most_live, markings_ended;
 
 static void fail(const char *what, uint32_t t) {
     printf("churn: operation %lu: %s", operation, what);
@@ -133,35 +137,28 @@ static uint32_t add_thing(const cc_object *made, uint8_t what, uint8_t slots, ui
 
 /* What the roots reach. */
 
-static uint32_t marking;
+static uint32_t walk;
 static uint32_t to_visit[MOST_THINGS], to_visit_count;
 
 static void reach(uint32_t t) {
-    if (t == 0 || things[t].reached == marking) return;
-    things[t].reached = marking;
+    if (t == 0 || things[t].reached == walk) return;
+    things[t].reached = walk;
     to_visit[to_visit_count++] = t;
 }
-static bool is_reached(uint32_t t) { return things[t].reached == marking; }
+static bool is_reached(uint32_t t) { return things[t].reached == walk; }
 
 /* What a thing refers to, but for entries. */
 static bool refers_to_other(const struct thing *x) {
     return x->other != 0 && (x->object.kind != CC_NATIVE || (!things[x->other].is_freed && things[x->other].is_preserved));
 }
 
-static void mark_reached(void) {
-    marking++;
-    to_visit_count = 0;
-    for (unsigned r = 0; r < NUMBERED; r++) {
-        reach(native_roots[r]);
-        reach(script_roots[r]);
-    }
-    for (unsigned i = 0; i < HELD; i++)
-        if (helds[i].is_used) reach(helds[i].thing);
+/* Goes on from what was come to: through all things, or through script objects alone. */
+static void visit(bool natives) {
     do {
         while (to_visit_count > 0) {
             const struct thing *x = &things[to_visit[--to_visit_count]];
             for (unsigned i = 0; i < x->slots; i++) reach(x->slot[i]);
-            if (refers_to_other(x)) reach(x->other);
+            if (refers_to_other(x) && (natives || is_script(x->other))) reach(x->other);
         }
         for (uint32_t i = 0; i < entry_count; i++) {
             const struct entry *e = &entries[i];
@@ -170,6 +167,18 @@ static void mark_reached(void) {
             if (is_reached(e->key)) reach(e->value);
         }
     } while (to_visit_count > 0);
+}
+
+static void mark_reached(void) {
+    walk++;
+    to_visit_count = 0;
+    for (unsigned r = 0; r < NUMBERED; r++) {
+        reach(native_roots[r]);
+        reach(script_roots[r]);
+    }
+    for (unsigned i = 0; i < HELD; i++)
+        if (helds[i].is_used) reach(helds[i].thing);
+    visit(true);
 }
 
 /* WHAT WAS TOLD is fetched after each operation. */
@@ -380,8 +389,10 @@ static void store(void) {
  * reached, and would be preserved. */
 static void store_unreached(void) {
     uint32_t x = draw_unreached(), y = draw_script();
-    if (x == 0 || things[x].slots == 0 || things[x].what == CC_REFLECTS) return;
-    WANT(cc_store(&c, object_of(x), (uint16_t)draw(things[x].slots), object_of(y)), things[x].is_unlinked ? CC_GONE : CC_OK);
+    if (x == 0 || things[x].slots == 0 || things[x].what == CC_REFLECTS || (is_marking && is_script(x))) return;
+    uint32_t i = draw(things[x].slots);
+    WANT(cc_store(&c, object_of(x), (uint16_t)i, object_of(y)), things[x].is_unlinked ? CC_GONE : CC_OK);
+    if (!things[x].is_unlinked) things[x].slot[i] = y;
 }
 
 static void move_slot(void) {
@@ -405,6 +416,7 @@ static void wrap(void) {
     if (has_reflector(native)) {
         t = things[native].other;
         SO(is_same(&made, &things[t].object), "a native has another reflector, though it lost none", native);
+        things[t].lost_in = 0;
     } else {
         t = add_thing(&made, CC_REFLECTS, 4, native);
         things[native].other = t;
@@ -596,7 +608,7 @@ static void ask_why(void) {
     if (asked == 0) return;
     TRY(cc_why(&c, object_of(asked), &led));
     SO(led == 1, "no root leads to an object that is reached", asked);
-    marking++; /* what the steps have reached */
+    walk++; /* what the steps have reached */
     table_step_count = 0;
     while ((status = cc_next_step(&c, &s)) == CC_OK) {
         steps_seen++;
@@ -608,7 +620,7 @@ static void ask_why(void) {
         }
         t = thing_named(s.kind, s.number);
         SO(t != 0 && !is_reached(t) && is_step(&s, t), "a step is none of the model", t);
-        things[t].reached = marking;
+        things[t].reached = walk;
     }
     SO(status == CC_NONE && t == asked, "the last step is another object's", asked);
 }
@@ -682,13 +694,71 @@ static void call_wrongly(void) {
     }
 }
 
-/* COLLECTIONS. */
+/* COLLECTIONS AND MARKINGS. */
+
+/* What neither script roots nor natives lead to, through script objects and entries, is lost when a marking begins. */
+static void note_lost(void) {
+    walk++;
+    to_visit_count = 0;
+    for (unsigned r = 0; r < NUMBERED; r++) reach(script_roots[r]);
+    for (unsigned i = 0; i < HELD; i++)
+        if (helds[i].is_used && is_script(helds[i].thing)) reach(helds[i].thing);
+    for (uint32_t t = 1; t < thing_count; t++) {
+        const struct thing *x = &things[t];
+        if (x->what == UNUSED || !is_native(t) || x->is_freed || x->is_unlinked) continue;
+        for (unsigned i = 0; i < x->slots; i++)
+            if (is_script(x->slot[i])) reach(x->slot[i]);
+        if (refers_to_other(x)) reach(x->other);
+    }
+    visit(false);
+    markings++;
+    for (uint32_t t = 1; t < thing_count; t++)
+        if (things[t].what != UNUSED && is_script(t) && !things[t].is_freed && !is_reached(t)) things[t].lost_in = markings;
+}
+
+/* The marking came to its end. */
+static void check_lost(void) {
+    fetch();
+    for (uint32_t t = 1; t < thing_count; t++)
+        SO(things[t].lost_in != markings || things[t].is_freed, "a marking left what nothing led to when it began", t);
+    is_marking = false;
+}
+
+static void check_marking(void) {
+    uint32_t goes_on;
+    TRY(cc_marking(&c, &goes_on));
+    SO(goes_on == (is_marking ? 1 : 0), "a marking goes on, or does not, against the model", 0);
+}
 
 static void slice(void) {
     uint32_t over, running;
     TRY(cc_slice(&c, 1 + draw(60), &over));
     TRY(cc_running(&c, &running));
     SO(over + running == 1, "a slice ended its collection and left it running, or neither", 0);
+    if (is_marking) check_lost();
+    check_marking();
+}
+
+static void mark_scripts(void) {
+    uint32_t over, running;
+    if (!is_marking) note_lost();
+    is_marking = true;
+    TRY(cc_mark(&c, 1 + draw(60), &over));
+    TRY(cc_running(&c, &running));
+    SO(running == 0, "a collection runs beside a marking", 0);
+    if (over == 1) {
+        check_lost();
+        markings_ended++;
+    }
+    check_marking();
+}
+
+/* They take turns, so that each goes on for a while; now and then one comes in the turn of the other. */
+static void do_units(void) {
+    if ((operation / 512 % 2 == 0) != (draw(16) == 0))
+        slice();
+    else
+        mark_scripts();
 }
 
 static void collect(void) {
@@ -696,9 +766,14 @@ static void collect(void) {
     TRY(cc_collect(&c));
     TRY(cc_running(&c, &running));
     SO(running == 0, "a collection runs after cc_collect", 0);
+    if (is_marking) check_lost();
 }
 
-static void collect_scripts(void) { TRY(cc_gc(&c)); }
+static void collect_scripts(void) {
+    TRY(cc_gc(&c));
+    is_marking = false;
+    check_marking();
+}
 
 /* Suspects that are alive are forgotten once. A collection that runs goes on. */
 static void forget_suspects(void) {
@@ -790,6 +865,7 @@ static void check_all(void) {
 static void settle(void) {
     uint32_t running;
     TRY(cc_settle(&c));
+    is_marking = false;
     fetch();
     TRY(cc_running(&c, &running));
     SO(running == 0, "a collection runs", 0);
@@ -849,7 +925,7 @@ static const struct {
     {210, store},      {10, store_unreached}, {30, move_slot},    {70, wrap},       {80, set_script_root},
     {50, set_entry},   {20, unset_entry},     {30, read_entry},   {25, hold},       {25, release},
     {60, read_thing},  {10, change_data},     {30, call_wrongly}, {6, ask_why},     {4, ask_why_not},
-    {50, slice},       {2, collect},          {6, collect_scripts}, {4, forget_suspects},
+    {50, do_units},    {2, collect},          {6, collect_scripts}, {4, forget_suspects},
 };
 enum { KINDS = sizeof operations / sizeof operations[0] };
 
@@ -869,6 +945,7 @@ int main(int count, char **words) {
     }
     close_collector();
     printf("%lu operations, %lu calls refused, %lu collectors, %lu settles\n", wanted, refused, collectors, settles);
+    printf("%lu markings, of which %lu came to their end in units\n", (unsigned long)markings, markings_ended);
     printf("%lu objects freed, natives unlinked %lu times, at most %lu objects; %lu steps of why\n", told_freed, told_unlinked,
            most_live, steps_seen);
     return 0;

@@ -1,7 +1,7 @@
 /* One cycle through both heaps, from C.
  *
  * A page has a button, and the button has a listener, which knows the button. All three are let go, and are collected in
- * slices. The program has an element of its own for each native, and frees it when the native is told as freed. Then each
+ * slices. Script objects that nothing holds are freed in slices, too. The program has an element of its own for each native, and frees it when the native is told as freed. Then each
  * status is met once. The program prints what it does, and ends with 0 where all was as the header says. */
 #include "ccollect.h"
 #include "expect.h"
@@ -192,6 +192,52 @@ static void collect_in_slices(cc_collector *c, struct page *p) {
     print_counts(c, "now there are");
 }
 
+/* Script objects that nothing holds are freed in slices, too. */
+static void mark_in_slices(cc_collector *c) {
+    cc_object first, read, lost;
+    uint32_t over, marking, running, units;
+    printf("Script objects are freed in slices, and script goes on between two of them.\n");
+    TRY(cc_new_plain(c, 0, 1, &first));
+    TRY(cc_new_plain(c, 1, 0, &read));
+    TRY(cc_store(c, &first, 0, &read));
+    TRY(cc_new_plain(c, 1, 0, &lost));
+    TRY(cc_set_script_root(c, 1, &nothing));
+    TRY(cc_mark(c, 1, &over));
+    TRY(cc_marking(c, &marking));
+    HOLDS(over == 0 && marking == 1);
+    /* script takes what the marking has not come to out of where it stood */
+    TRY(cc_set_script_root(c, 1, &read));
+    TRY(cc_store(c, &first, 0, &nothing));
+    HOLDS(fetch(c) == 0);
+    for (units = 1; over == 0; units++) {
+        HOLDS(units < 1000);
+        TRY(cc_mark(c, 1, &over));
+    }
+    TRY(cc_marking(c, &marking));
+    HOLDS(marking == 0 && fetch(c) == 1);
+    WANT(cc_is_there(c, &lost), CC_GONE);
+    TRY(cc_is_there(c, &read));
+    printf("  the marking took %u units\n", units);
+    /* a slice first ends a marking, and a marking a collection; gc drops it */
+    TRY(cc_set_script_root(c, 1, &nothing));
+    TRY(cc_mark(c, 1, &over));
+    HOLDS(over == 0 && fetch(c) == 0);
+    TRY(cc_slice(c, 1, &over));
+    TRY(cc_marking(c, &marking));
+    TRY(cc_running(c, &running));
+    HOLDS(over == 0 && marking == 0 && running == 1 && fetch(c) == 1);
+    WANT(cc_is_there(c, &read), CC_GONE);
+    TRY(cc_mark(c, 1, &over));
+    TRY(cc_marking(c, &marking));
+    TRY(cc_running(c, &running));
+    HOLDS(over == 0 && marking == 1 && running == 0);
+    TRY(cc_set_script_root(c, 0, &nothing));
+    TRY(cc_gc(c));
+    TRY(cc_marking(c, &marking));
+    HOLDS(marking == 0 && fetch(c) == 1);
+    WANT(cc_is_there(c, &first), CC_GONE);
+}
+
 /* Other things that a program does. */
 static void move_and_proxy(cc_collector *c) {
     cc_object parent, child, proxy, found, reflector;
@@ -310,13 +356,14 @@ static void meet_each_status(cc_collector *c, const struct page *p) {
     cc_root root, strange_root;
     cc_told told;
     uint64_t natives, natives_after;
-    uint32_t marks;
+    uint32_t marks, over;
     uint16_t slots;
     printf("Each status is met.\n");
 
     WANT(cc_gc(&closed), CC_CLOSED);
     WANT(cc_natives(&closed, &natives), CC_CLOSED);
     WANT(cc_forget(&closed, &marks), CC_CLOSED);
+    WANT(cc_mark(&closed, 1, &over), CC_CLOSED);
     cc_close(&closed);
     printf("  CC_CLOSED: a collector that was never opened\n");
     WANT(cc_open(c, 8, 10, 10), CC_OPEN);
@@ -416,6 +463,7 @@ int main(void) {
     build(&c, &page);
     let_go(&c, &page);
     collect_in_slices(&c, &page);
+    mark_in_slices(&c);
     move_and_proxy(&c);
     refer_weakly(&c);
     meet_each_status(&c, &page);

@@ -229,6 +229,16 @@ static void go_through_slices(struct program *m) {
     HOLDS(over == 1);
 }
 
+static void go_through_marking(struct program *m) {
+    uint32_t over = 0, marking = 0;
+    for (unsigned i = 0; over == 0 && i < 1000; i++) {
+        COLLECT(m, cc_mark(&m->c, 3, &over));
+        TRY(cc_marking(&m->c, &marking));
+        HOLDS(marking == 1 - over);
+    }
+    HOLDS(over == 1);
+}
+
 /* The weak references of a round answer that their natives have ended, and no memory is asked for. */
 static void follow_none(struct program *m) {
     const long before = asked;
@@ -258,9 +268,13 @@ static void go_round(struct program *m) {
     }
     COLLECT(m, cc_gc(&m->c));
     go_through_slices(m);
-    COLLECT(m, cc_gc(&m->c));
+    go_through_marking(m);
     ask_why(m, &m->note[0]);
+    /* a marking goes on, and collect brings it to its end; then a collection runs, and mark brings that to its end */
+    ASK(m, cc_mark(&m->c, 1, &over));
     COLLECT(m, cc_collect(&m->c));
+    ASK(m, cc_slice(&m->c, 2, &over));
+    COLLECT(m, cc_mark(&m->c, 2, &over));
     /* a collection runs while the rest is let go, and gc brings it to its end */
     ASK(m, cc_slice(&m->c, 2, &over));
     for (uint16_t i = 0; i < ELEMENTS / 2; i++) {
@@ -358,6 +372,7 @@ static void fetch_nothing(struct program *m) {
     WANT(cc_slice(&m->c, 1, &over), CC_UNFETCHED);
     WANT(cc_settle(&m->c), CC_UNFETCHED);
     WANT(cc_gc(&m->c), CC_UNFETCHED);
+    WANT(cc_mark(&m->c, 1, &over), CC_UNFETCHED);
     TRY(cc_is_there(&m->c, &made));
     while (cc_next_told(&m->c, &told) == CC_OK) {
         HOLDS(told.what == CC_ABANDONED);

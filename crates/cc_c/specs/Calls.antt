@@ -1,5 +1,5 @@
 -- WHAT A CALL MAKES OF A COLLECTOR.
-use Rattle.std.specs.Prelude.{◌≡◌, ℕ, [], Option, None, Some, IsSome}
+use Rattle.std.specs.Prelude.{◌≡◌, ℕ, false, [], Option, None, Some, IsSome}
 use Rattle.cc_model.specs.Heap.{empty_heap}
 use Rattle.cc_session.specs.Sessions.{State}
 
@@ -20,6 +20,7 @@ Reads now R = (s : State) → now ≡ Some s → R s
 pub record IsNew (its_mark natives scripts : ℕ) (s : State) : Type 0 where
   pub heap : s.host.heaps.heap ≡ empty_heap (record { natives = natives; scripts = scripts; bytes = 0 })
   pub idle : s.host.running ≡ None
+  pub unmarked : s.host.marking ≡ false
   pub mark : s.host.mark ≡ its_mark
   pub told : s.told ≡ []
   pub books : s.books ≡ record { given = []; roots = []; last = 0 }

@@ -5,6 +5,8 @@ use Rattle.cc_names.specs.declared.kind.Kind.{Kind as KindOfScript}
 use Rattle.cc_names.specs.declared.kind.Kind.TheVariants as kind
 use Rattle.cc_names.specs.Names.{native, object, reflector}
 use Rattle.cc_model.specs.End.{Progress, went_on, at_end, refused}
+use Rattle.cc_collector.specs.declared.collector.Ended.{Ended}
+use Rattle.cc_collector.specs.declared.collector.Ended.TheVariants.{Yes, No}
 use Rattle.cc_host.specs.declared.object.Object.{Object}
 use Rattle.cc_host.specs.declared.weak.Weak.{Weak}
 use Rattle.cc_host.specs.declared.stop.Stop.{Stop}
@@ -67,6 +69,10 @@ progress_in status over = elim (status == 0) [
   | true ↦ elim (over == 1) [ true ↦ at_end | false ↦ went_on ]
   | false ↦ refused
 ]
+
+-- whether units of a marking reached its end
+abbrev pub ended_in : ℕ → Ended
+ended_in over = elim (over == 1) [ true ↦ Yes | false ↦ No ]
 
 -- Status
 

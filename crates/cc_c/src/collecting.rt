@@ -1,8 +1,8 @@
-//! Collections, whole and in slices.
-ghost use Rattle.std.specs.Prelude.{◌≡◌, ◌≢◌, ◌<◌, ◌⊎◌, ℕ, List, None, is_some};
+//! Collections, whole and in slices, and script markings.
+ghost use Rattle.std.specs.Prelude.{◌≡◌, ◌≢◌, ◌<◌, ◌⊎◌, ℕ, true, false, List, None, is_some};
 ghost use Rattle.cc_names.specs.declared.name.Name.{Name};
 ghost use Rattle.cc_model.specs.End.{at_end, refused};
-ghost use Rattle.cc_collector.specs.Collected.{IsCollected, IsSliced, IsSwept};
+ghost use Rattle.cc_collector.specs.Collected.{IsCollected, IsMarkedOn, IsSliced, IsSwept};
 ghost use Rattle.cc_collector.specs.Settled.{HasWhatIsReached};
 ghost use Rattle.cc_host.specs.Calls.{Always, Collects, Does, Forgets};
 ghost use Rattle.cc_host.specs.Hosted.{machine};
@@ -10,7 +10,7 @@ ghost use Rattle.cc_host.specs.Missing.{CannotMiss, IsOfAGraph, Takes, TakesBySl
 ghost use Rattle.cc_host.specs.Queues.{told_all};
 ghost use Rattle.cc_session.specs.Sessions.{Aside, IsUnfetched, Quiet};
 ghost use Rattle.cc_c.specs.Calls.{Open, Reads, Stays};
-ghost use Rattle.cc_c.specs.Values.{flag, progress_in};
+ghost use Rattle.cc_c.specs.Values.{ended_in, flag, progress_in};
 
 use crate::collector::Collector;
 use crate::status::{CLOSED, OK, of_hindrance};
@@ -18,7 +18,8 @@ use crate::values::flag;
 use cc_collector::Ended;
 use std::alloc::Global;
 
-/// A few units of the running collection, or of one that begins here where none runs. `over` is 1 where it came to its end.
+/// A few units of the running collection, or of one that begins here where none runs. `over` is 1 where it came to its end. A script
+/// marking that goes on is ended first.
 #[unsafe(no_mangle)]
 pub extern "C" fn cc_slice(alloc: Global, c: &mut Collector, units: u32, over: &mut u32) -> u32
     ensures stays { Stays c.old.handle.session c.new.handle.session result }
@@ -28,6 +29,7 @@ pub extern "C" fn cc_slice(alloc: Global, c: &mut Collector, units: u32, over: &
     ensures collects { result ≢ 11 → Open c.old.handle.session c.new.handle.session (λ s t. Collects s.host t.host (told_all s.told) (told_all t.told)) }
     ensures sliced { result ≢ 11 → Open c.old.handle.session c.new.handle.session (λ s t. (steps : ℕ) × IsSliced units (machine s.host) (machine t.host) (progress_in result over.new) 0 steps (told_all s.told) (told_all t.told)) }
     ensures ended { (result ≡ 8) ⊎ ((result ≡ 0) × (over.new ≡ 1)) → Open c.old.handle.session c.new.handle.session (λ s t. t.host.running ≡ None) }
+    ensures unmarked { result ≢ 11 → Open c.old.handle.session c.new.handle.session (λ s t. t.host.marking ≡ false) }
     ensures left { result ≢ 0 → over.new ≡ over.old }
     ensures aside { Open c.old.handle.session c.new.handle.session Aside }
     // what the running collection can't miss is told unlinked at its end; what one can't miss that begins after `cc_gc`
@@ -54,7 +56,7 @@ pub extern "C" fn cc_slice(alloc: Global, c: &mut Collector, units: u32, over: &
     }
 }
 
-/// A whole collection; one that runs is ended first.
+/// A whole collection; one that runs is ended first, and so is a script marking that goes on.
 #[unsafe(no_mangle)]
 pub extern "C" fn cc_collect(alloc: Global, c: &mut Collector) -> u32
     ensures stays { Stays c.old.handle.session c.new.handle.session result }
@@ -64,6 +66,7 @@ pub extern "C" fn cc_collect(alloc: Global, c: &mut Collector) -> u32
     ensures done { result ≡ 0 → Open c.old.handle.session c.new.handle.session (λ s t. IsCollected (machine s.host) (machine t.host) at_end (told_all s.told) (told_all t.told)) }
     ensures refused { result ≡ 8 → Open c.old.handle.session c.new.handle.session (λ s t. IsCollected (machine s.host) (machine t.host) refused (told_all s.told) (told_all t.told)) }
     ensures over { result ≢ 11 → Open c.old.handle.session c.new.handle.session (λ s t. t.host.running ≡ None) }
+    ensures unmarked { result ≢ 11 → Open c.old.handle.session c.new.handle.session (λ s t. t.host.marking ≡ false) }
     ensures aside { Open c.old.handle.session c.new.handle.session Aside }
     ensures takes { result ≢ 11 → Open c.old.handle.session c.new.handle.session (λ s t. (ds : List Name) → CannotMiss s.host ds → Takes ds (told_all s.told) (told_all t.told)) }
     ensures takes_if_done { result ≡ 0 → Open c.old.handle.session c.new.handle.session (λ s t. (ds : List Name) → CannotMiss s.host ds → TellsUnlinked ds (told_all s.told) (told_all t.told)) }
@@ -80,7 +83,7 @@ pub extern "C" fn cc_collect(alloc: Global, c: &mut Collector) -> u32
     }
 }
 
-/// A script collection, before which a collection that runs is ended.
+/// A script collection, before which a script marking that goes on is dropped and a collection that runs is ended.
 #[unsafe(no_mangle)]
 pub extern "C" fn cc_gc(alloc: Global, c: &mut Collector) -> u32
     ensures stays { Stays c.old.handle.session c.new.handle.session result }
@@ -89,6 +92,7 @@ pub extern "C" fn cc_gc(alloc: Global, c: &mut Collector) -> u32
     ensures collects { result ≡ 0 → Open c.old.handle.session c.new.handle.session (λ s t. Collects s.host t.host (told_all s.told) (told_all t.told)) }
     ensures swept { result ≡ 0 → Open c.old.handle.session c.new.handle.session (λ s t. IsSwept (machine s.host) (machine t.host) (told_all s.told) (told_all t.told)) }
     ensures over { result ≡ 0 → Open c.old.handle.session c.new.handle.session (λ s t. t.host.running ≡ None) }
+    ensures unmarked { result ≡ 0 → Open c.old.handle.session c.new.handle.session (λ s t. t.host.marking ≡ false) }
     ensures aside { Open c.old.handle.session c.new.handle.session Aside }
     ensures takes { result ≡ 0 → Open c.old.handle.session c.new.handle.session (λ s t. (ds : List Name) → CannotMiss s.host ds → Takes ds (told_all s.told) (told_all t.told)) }
     ensures garbage { result ≡ 0 → Open c.old.handle.session c.new.handle.session (λ s t. TakesGarbage t.host) }
@@ -104,6 +108,43 @@ pub extern "C" fn cc_gc(alloc: Global, c: &mut Collector) -> u32
     }
 }
 
+/// A few units of the script marking that goes on, or of one that begins here where none does. `over` is 1 where it came to its end. A
+/// collection that runs is ended first.
+#[unsafe(no_mangle)]
+pub extern "C" fn cc_mark(alloc: Global, c: &mut Collector, units: u32, over: &mut u32) -> u32
+    ensures stays { Stays c.old.handle.session c.new.handle.session result }
+    ensures status { Reads c.old.handle.session (λ s. (result ≡ 0) ⊎ (result ≡ 11)) }
+    ensures unfetched { result ≡ 11 → Open c.old.handle.session c.new.handle.session IsUnfetched }
+    ensures flag { result ≡ 0 → (over.new ≡ 0) ⊎ (over.new ≡ 1) }
+    ensures collects { result ≡ 0 → Open c.old.handle.session c.new.handle.session (λ s t. Collects s.host t.host (told_all s.told) (told_all t.told)) }
+    ensures marked { result ≡ 0 → Open c.old.handle.session c.new.handle.session (λ s t. (steps : ℕ) ×
+        IsMarkedOn units (machine s.host) (machine t.host) (ended_in over.new) 0 steps (told_all s.told) (told_all t.told)) }
+    ensures idle { result ≡ 0 → Open c.old.handle.session c.new.handle.session (λ s t. t.host.running ≡ None) }
+    ensures ended { result ≡ 0 → over.new ≡ 1 → Open c.old.handle.session c.new.handle.session (λ s t. t.host.marking ≡ false) }
+    ensures goes_on { result ≡ 0 → over.new ≡ 0 → 0 < units → Open c.old.handle.session c.new.handle.session (λ s t. t.host.marking ≡ true) }
+    ensures left { result ≢ 0 → over.new ≡ over.old }
+    ensures aside { Open c.old.handle.session c.new.handle.session Aside }
+    ensures takes { result ≡ 0 → Open c.old.handle.session c.new.handle.session (λ s t. (ds : List Name) →
+        CannotMiss s.host ds → Takes ds (told_all s.told) (told_all t.told)) }
+{
+    let Some(mut session) = c.take(alloc) else {
+        return CLOSED;
+    };
+    let answer = session.mark(units);
+    *c = Collector::of(session);
+    match answer {
+        Ok(Ended::Yes) => {
+            *over = 1;
+            OK
+        }
+        Ok(Ended::No) => {
+            *over = 0;
+            OK
+        }
+        Err(hindrance) => of_hindrance(hindrance),
+    }
+}
+
 /// Leaves exactly what the roots reach.
 #[unsafe(no_mangle)]
 pub extern "C" fn cc_settle(alloc: Global, c: &mut Collector) -> u32
@@ -113,6 +154,7 @@ pub extern "C" fn cc_settle(alloc: Global, c: &mut Collector) -> u32
     ensures exact { result ≡ 0 → Open c.old.handle.session c.new.handle.session (λ s t. HasWhatIsReached t.host.heaps.heap) }
     ensures collects { result ≢ 11 → Open c.old.handle.session c.new.handle.session (λ s t. Collects s.host t.host (told_all s.told) (told_all t.told)) }
     ensures over { result ≢ 11 → Open c.old.handle.session c.new.handle.session (λ s t. t.host.running ≡ None) }
+    ensures unmarked { result ≢ 11 → Open c.old.handle.session c.new.handle.session (λ s t. t.host.marking ≡ false) }
     ensures aside { Open c.old.handle.session c.new.handle.session Aside }
     ensures takes { result ≢ 11 → Open c.old.handle.session c.new.handle.session (λ s t. (ds : List Name) → CannotMiss s.host ds → Takes ds (told_all s.told) (told_all t.told)) }
 {
@@ -161,5 +203,23 @@ pub extern "C" fn cc_running(alloc: Global, c: &mut Collector, running: &mut u32
     let answer = session.running();
     *c = Collector::of(session);
     *running = flag(answer);
+    OK
+}
+
+/// Whether a script marking goes on.
+#[unsafe(no_mangle)]
+pub extern "C" fn cc_marking(alloc: Global, c: &mut Collector, marking: &mut u32) -> u32
+    ensures closed { c.old.handle.session ≡ None → result ≡ 1 }
+    ensures ok { Reads c.old.handle.session (λ s. result ≡ 0) }
+    ensures goes_on { result ≡ 0 → Reads c.old.handle.session (λ s. marking.new ≡ flag s.host.marking) }
+    ensures left { result ≢ 0 → marking.new ≡ marking.old }
+    ensures same { c.new.handle.session ≡ c.old.handle.session }
+{
+    let Some(session) = c.take(alloc) else {
+        return CLOSED;
+    };
+    let answer = session.marking();
+    *c = Collector::of(session);
+    *marking = flag(answer);
     OK
 }

@@ -36,6 +36,8 @@ pub struct Document {
     pub session: Session,
     titles: Slab<&'static str>,
     index: Vec<Entry>,
+    // whether a script marking ended that no collection has followed yet
+    is_marked: bool,
 }
 
 impl Document {
@@ -48,6 +50,7 @@ impl Document {
             session,
             titles,
             index: Vec::new(alloc),
+            is_marked: false,
         })
     }
 
@@ -147,14 +150,23 @@ impl Document {
         self.session.set_script_root(REFLECTOR, None)
     }
 
-    /// A few units of a collection, in a frame. One that begins here begins right after `gc`, and can miss no garbage. It does not
-    /// begin at what is alive.
-    pub fn frame(&mut self, units: u32) -> Result<Ended, Hindrance> {
-        if !self.session.running() {
-            self.session.gc()?;
-            if self.session.has_suspects() {
-                self.session.forget();
-            }
+    /// A few units, in a frame: of a script marking until it ends, and then of a collection, which does not begin at what is alive.
+    pub fn frame(&mut self, units: u32) -> Result<(), Hindrance> {
+        let ended = if self.is_marked {
+            self.collect(units)?
+        } else {
+            self.session.mark(units)?
+        };
+        if let Ended::Yes = ended {
+            self.is_marked = !self.is_marked;
+        }
+        Ok(())
+    }
+
+    // Units of a collection, of the one that runs, or of one that begins here.
+    fn collect(&mut self, units: u32) -> Result<Ended, Hindrance> {
+        if !self.session.running() && self.session.has_suspects() {
+            self.session.forget();
         }
         self.session.slice(units)
     }

@@ -87,7 +87,7 @@ fn build(document: &mut Document) -> Result<(Root, Object, Object)> {
 
 /// Goes on with the page in frames. All that was told is fetched, so want of memory alone can hinder one.
 fn go_on(rt: &impl Print, document: &mut Document, page: Object) -> Result<()> {
-    for _ in 0..4 {
+    for _ in 0..6 {
         document.append(page, "note")?;
         document.frame(6).map_err(|_| Stop::NoMemory)?;
         report(rt, document, "a note is added, and a frame done")?;
