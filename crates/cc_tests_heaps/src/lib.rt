@@ -3,6 +3,8 @@
 #![tactic(auto)]
 
 #[cfg(test)]
+mod collectors;
+#[cfg(test)]
 mod forgetting;
 #[cfg(test)]
 mod mark_steps;
