@@ -125,10 +125,35 @@ def suspects_forgotten(size):
 def script_chain_walked(size):
     """A chain of script objects whose last a register holds: suspects are forgotten, of which there is none, so the time is that of
     the walk over script objects."""
+    return Shape(script_chain(size), ["forget"], 0, 0, times=8)
+
+
+def script_chain(size):
+    """A chain of script objects, whose last a register holds: all live."""
     lines = ["script s1 1"]
     for _ in range(1, size):
         lines += ["script s2 1", "put s2 0 s1", "copy s1 s2"]
-    return Shape(["version 2"] + lines + ["drop s2"], ["forget"], 0, 0, times=8)
+    return ["version 2"] + lines + ["drop s2"]
+
+
+def script_chain_traced(size):
+    """It is marked in one piece."""
+    return Shape(script_chain(size), ["gc"], 0, 0, times=8)
+
+
+def script_chain_marked(size, units):
+    """It is marked in slices of so many units: the begin is one, each object, and the end."""
+    return Shape(script_chain(size), [f"mark {units}"] * -(-(size + 2) // units), 0, 0, times=8)
+
+
+def script_chain_by_hundreds(size):
+    """It is marked in slices of 100 units."""
+    return script_chain_marked(size, 100)
+
+
+def script_chain_singly(size):
+    """It is marked a unit at a time."""
+    return script_chain_marked(size, 1)
 
 
 def script_ring(size):
@@ -282,6 +307,9 @@ SHAPES = [
     ("live chain, a unit at a time", live_chain_in_slices),
     ("live chain, its suspects forgotten", suspects_forgotten),
     ("chain of script objects, walked to forget", script_chain_walked),
+    ("chain of script objects, marked by `gc`", script_chain_traced),
+    ("chain of script objects, marked 100 units at a time", script_chain_by_hundreds),
+    ("chain of script objects, marked a unit at a time", script_chain_singly),
     ("ring of script objects, swept", script_ring),
     ("ring through reflectors, collected and swept", reflector_ring),
     ("chain of entries, marked", entry_chain),
