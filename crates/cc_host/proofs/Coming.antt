@@ -15,7 +15,7 @@ use Rattle.cc_model.specs.Cascade.{let_go, take_up}
 use Rattle.cc_model.specs.Effects.{hold_native, make_object, make_proxy, with_reflector, with_script, wrapped}
 use Rattle.cc_model.specs.WellFormed.{IsWellFormed, native_names, names_there, script_names}
 use Rattle.cc_laws_heap.proofs.Face.{HoldsTheSame-add_ref, Leaves-let_go, names_there-alike}
-use Rattle.cc_heaps.specs.Leaving.{NoneCame}
+use Rattle.cc_heaps.specs.Leaving.{NoneCame, NothingLeft}
 use Rattle.cc_heaps.proofs.ReflectingMade.{wrapped_by}
 use Rattle.cc_host.specs.Hosted.{Hosted}
 use Rattle.cc_host.specs.Changes.{OneCame}
@@ -47,6 +47,20 @@ module _ (h : Heap) where
       (Among-append y (script_names h) (x ∷ []) (subst (Among y) named s)))
       (Among-append y (native_names h) (script_names (with_script h x kind n d)) m)
 
+  -- and nothing leaves
+  script-left : (x : Name) (kind : Kind) (n : ℕ) (d : Option Name) → NothingLeft h (with_script h x kind n d)
+  script-left x kind n d y m =
+      let named = map-append (λ (o : HeapScript). o.name) h.scripts (new_script x kind n d ∷ []) in
+      let more = script_names (with_script h x kind n d) in
+      ⊎_elim
+      (λ l. Among-left y (native_names h) more l)
+      (λ s. Among-right y (native_names h) more (subst (Among y) (sym named) (Among-left y (script_names h) (x ∷ []) s)))
+      (Among-append y (native_names h) (script_names h) m)
+
+  -- NOTHING LEAVES where an object is made,
+  pub object-left : (r : ℕ) (kind : Kind) (n : ℕ) (d : Option Name) → NothingLeft h (make_object h r kind n d)
+  object-left r kind n d = script-left (object (h.scripts_made + 1)) kind n d
+
   -- AN OBJECT MADE is all that comes,
   pub object-came : (r : ℕ) (kind : Kind) (n : ℕ) (d : Option Name) (y : Name) → Among y (names_there (make_object h r kind n d)) →
       Among y (names_there h) ⊎ (y ≡ object (h.scripts_made + 1))
@@ -69,6 +83,19 @@ proxy-came h r (Some (name.Script k)) y m = object-came h r proxy_kind 0 (Some (
 proxy-came h r (Some (name.Reflector k)) y m =
     let p = preserve h (Some (name.Reflector k)) in
     ⊎_elim (λ l. inl (subst (Among y) (preserve-beside h (Some (name.Reflector k))).names l)) (λ e. inr e) (object-came p r proxy_kind 0 (Some (name.Reflector k)) y m)
+
+-- and nothing leaves where one is made
+pub proxy-left : (h : Heap) (r : ℕ) (x : Option Name) → NothingLeft h (make_proxy h r x)
+proxy-left h r None y m = m
+proxy-left h r (Some (name.Native k)) y m = object-left h r proxy_kind 0 (Some (name.Native k)) y m
+proxy-left h r (Some (name.Script k)) y m = object-left h r proxy_kind 0 (Some (name.Script k)) y m
+proxy-left h r (Some (name.Reflector k)) y m =
+    let p = preserve h (Some (name.Reflector k)) in
+    object-left p r proxy_kind 0 (Some (name.Reflector k)) y (subst (Among y) (sym (preserve-beside h (Some (name.Reflector k))).names) m)
+
+-- into a heap that is this one
+pub left-into : (h k l : Heap) → l ≡ k → NothingLeft h k → NothingLeft h l
+left-into h k l is left x i = subst (λ m. Among x (names_there m)) (sym is) (left x i)
 
 -- OF A HOST, by the name that the call answers
 some-same : {x y : Name} → Some x ≡ Some y → x ≡ y

@@ -31,7 +31,7 @@ use Rattle.cc_names.specs.declared.kind.Walked.TheVariants.{Out}
 use Rattle.cc_counted.specs.Counts.{unlinked_at, unlinked_of}
 use Rattle.cc_heaps.specs.Keyed.{Keyed, changed_to, counts_of, number_at, the_number}
 use Rattle.cc_heaps.specs.Keeping.{KeepsAll}
-use Rattle.cc_heaps.specs.Leaving.{NoneCame}
+use Rattle.cc_heaps.specs.Leaving.{NoneCame, NothingLeft}
 use Rattle.cc_heaps.specs.Standing.{StillStands}
 use Rattle.cc_heaps.specs.Walking.{unwalked}
 use Rattle.cc_collector.specs.Kept.{Kept}
@@ -44,11 +44,13 @@ use Rattle.cc_host.specs.Calls.{Always, Does, Forgets}
 use Rattle.cc_host.specs.Changes.{IsChange}
 use Rattle.cc_host.specs.Hosted.{is_found, is_name, spare}
 use Rattle.cc_host.specs.Missing.{KeepsDoomed}
-use Rattle.cc_host.specs.Stops.{first, stop_at, where_so}
+use Rattle.cc_host.specs.Stops.{first, is_nothing, stop_at, where_so}
 use Rattle.cc_host.specs.declared.object.Object.{Object}
-use Rattle.cc_host.specs.declared.stop.Stop.TheVariants.{Foreign, Gone}
+use Rattle.cc_host.specs.declared.stop.Stop.TheVariants.{Foreign, Gone, Kind}
 use Rattle.cc_host.proofs.Keeping.{hosted}
 use Rattle.cc_host.proofs.Referring.{unlinked-of}
+use Rattle.cc_host.specs.Places.{KeepsPlaces}
+use Rattle.cc_host.proofs.PlacesKept.{places-as, registers-places}
 
 -- THE BUFFER HAS THE NAMES THAT IT HAD, and all but marks is as it was. So what is doomed stays so.
 pub forgotten-doomed : (h : Heap) → KeepsDoomed h (forgotten h)
@@ -160,7 +162,7 @@ name-unwalked os key = ap (option_map (λ (o : OfScript). o.name)) (object_at-ma
 
 -- EACH OBJECT IS THERE THAT WAS THERE, and no other, where no walk goes on and the heaps have the same natives and script objects.
 unwalked-stays : (v : Keyed) (h : Heap) → h.natives ≡ v.heap.natives → (c : Kept) (m : ℕ) (x : Object) → stop_at (hosted (unwalked (changed_to v h)) c m) x ≡ stop_at (hosted v c m) x
-unwalked-stays v h same c m x = ap (λ f. first (where_so (not (x.mark == m)) Foreign) (where_so (not f) Gone)) (go x.name)
+unwalked-stays v h same c m x = ap (λ f. first (where_so (is_nothing x) Kind) (first (where_so (not (x.mark == m)) Foreign) (where_so (not f) Gone))) (go x.name)
   where
     flag : unlinked_of (counts_of (unwalked (changed_to v h))) x.key ≡ unlinked_of (counts_of v) x.key
     flag = unlinked-of (unwalked (changed_to v h)) x.key
@@ -202,6 +204,14 @@ module _ (v w : Keyed) (c : Kept) (m : ℕ) (is : w ≡ unwalked (changed_to v (
   pub forgotten-none_came : NoneCame v.heap w.heap
   unfolding forgotten
   forgotten-none_came x i = subst (λ (u : Heap). Among x (names_there u)) heap i
+
+  pub forgotten-none_left : NothingLeft v.heap w.heap
+  unfolding forgotten
+  forgotten-none_left x i = subst (λ (u : Heap). Among x (names_there u)) (sym heap) i
+
+  pub forgotten-places : KeepsPlaces v.heap w.heap
+  unfolding forgotten
+  forgotten-places = places-as v.heap (forgotten v.heap) w.heap heap (registers-places v.heap (forgotten v.heap) refl refl)
 
   pub forgotten-forgets : (marks : ℕ) → marks + length (view w.heap).purple ≡ length (view v.heap).purple →
       ((k : ℕ) → Among (native k) (view v.heap).purple → (¬ (Among (native k) (view w.heap).purple)) ↔ IsSkippable v.heap (native k)) →

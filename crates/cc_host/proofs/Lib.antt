@@ -1,5 +1,8 @@
 pub mod Referring
 pub mod KeptDoomed
+pub mod Lengthened
+pub mod Placed
+pub mod AtPlaces
 pub mod Keeping
 pub mod Spare
 pub mod Composing
@@ -19,15 +22,9 @@ pub mod Forgetting
 pub mod Beside
 pub mod Taking
 pub mod Telling
-pub mod Rooted
-pub mod Below
-pub mod BelowWritten
-pub mod Growing
-pub mod LettingGo
-pub mod MadeBelow
-pub mod MadeChange
 pub mod MadeTaken
 pub mod Counting
 pub mod Marked
 pub mod MarkedSteps
 pub mod MarkedCalls
+pub mod PlacesKept

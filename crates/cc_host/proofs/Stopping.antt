@@ -1,7 +1,9 @@
 -- WHAT A CALL ANSWERS: its tests pass, or one of them stops it.
-use Rattle.std.proofs.Common.{◌≡◌, ◌≤◌, ◌<◌, ℕ, length, true, false, nat_le, Option, Some, None, Ok, Err, refl, sym, ◌∙◌, ap, subst, arith}
+use Rattle.std.proofs.Common.{◌≡◌, ◌≤◌, ◌<◌, ℕ, length, true, false, nat_le, Option, Some, None, Result, Ok, Err, OnErr, refl, sym, ◌∙◌, ap, subst, arith}
+use Rattle.std.specs.Prelude.{IsOk, IsSome}
 use Rattle.std.proofs.lemmas.Bool.{false≢true}
 use Rattle.std.proofs.lemmas.Bool.Decides.{nat_tests}
+use Rattle.cc_names.specs.declared.name.Name.{Name}
 use Rattle.cc_names.specs.Names.{is_native}
 use Rattle.cc_host.specs.declared.stop.Stop.{Stop}
 use Rattle.cc_host.specs.declared.stop.Stop.TheVariants.{Index, NoMemory}
@@ -79,3 +81,11 @@ pub moving : (h : Hosted) (x : Object) (i : ℕ) (y : Object) (j : ℕ) (s : Opt
 moving h x i y j s a b t =
     at-second (stop_native h x) (first (stop_native h y) (first (stop_slot h x i) (stop_slot h y j))) s a
     (at-second (stop_native h y) (first (stop_slot h x i) (stop_slot h y j)) s b t)
+
+-- What is refused
+
+-- is not there, where what is there is never refused
+pub refused-none : {A E : Type 0} (r : Result A E) (o : Option Name) → (IsSome o → IsOk r) → OnErr r (o ≡ None)
+refused-none (Ok a) o f = tt
+refused-none (Err e) None f = refl
+refused-none (Err e) (Some x) f = absurd (false≢true (f refl))

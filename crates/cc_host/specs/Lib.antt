@@ -1,8 +1,9 @@
 pub mod Hosted
 pub mod Missing
+pub mod Places
+pub mod Writing
 pub mod Stops
 pub mod Referring
-pub mod Paths
 pub mod Calls
 pub mod Changes
 pub mod Holding

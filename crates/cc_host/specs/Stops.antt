@@ -1,13 +1,9 @@
 -- WHEN A CALL IS REFUSED: each cause is tested, in one order, and the first that is so is the answer.
-use Rattle.std.specs.Prelude.{◌≡◌, ◌==◌, ◌&&◌, ℕ, List, Bool, true, false, not, length, nat_le, nat_lt, Option, Some, None, is_none, option_and_then, slice_index_or, Result, Err, IsOk}
+use Rattle.std.specs.Prelude.{◌≡◌, ◌==◌, ℕ, Bool, true, false, not, length, nat_le, nat_lt, Option, Some, None, Result, Err, IsOk}
 use Rattle.cc_names.specs.declared.kind.Kind.{Kind}
 use Rattle.cc_names.specs.declared.kind.Kind.TheVariants as kind
-use Rattle.cc_names.specs.declared.register.Reg.TheVariants.{N}
-use Rattle.cc_names.specs.Names.{is_native, is_reflector}
+use Rattle.cc_names.specs.Names.{is_native, is_reflector, number_of}
 use Rattle.cc_names.specs.Sizes.{most_slots}
-use Rattle.cc_model.specs.Checks.{slots_or_none}
-use Rattle.cc_model.specs.Heap.{register, slots_in}
-use Rattle.cc_model.specs.Slots.{Slots}
 use Rattle.cc_heaps.specs.declared.make_stop.MakeStop.{MakeStop}
 use Rattle.cc_heaps.specs.declared.make_stop.MakeStop.TheVariants as make
 use Rattle.cc_script.specs.Objects.{kind_at}
@@ -15,7 +11,7 @@ use Rattle.cc_host.specs.declared.object.Object.{Object}
 use Rattle.cc_host.specs.declared.stop.Stop.{Stop}
 use Rattle.cc_host.specs.declared.stop.Stop.TheVariants.{Foreign, Gone, Kind as wrong_kind, Index, Full, NoMemory}
 use Rattle.cc_host.specs.Hosted.{Hosted, is_found, slots_of, roots}
-use Rattle.cc_host.specs.Paths.{native_below, slots_below}
+use Rattle.cc_host.specs.Places.{places}
 
 -- a stop of the heaps, as the host's
 abbrev pub stop_of_making : MakeStop → Stop
@@ -49,9 +45,13 @@ abbrev pub where_so : Bool → Stop → Option Stop
 where_so true s = Some s
 where_so false s = None
 
--- an object is of another host, or not there
+-- nothing is handed in: its name has the number 0, which no object ever has
+abbrev pub is_nothing : Object → Bool
+is_nothing x = number_of x.name == 0
+
+-- no object is handed in; or it is of another host, or not there
 abbrev pub stop_at : Hosted → Object → Option Stop
-stop_at h x = first (where_so (not (x.mark == h.mark)) Foreign) (where_so (not (is_found h x)) Gone)
+stop_at h x = first (where_so (is_nothing x) wrong_kind) (first (where_so (not (x.mark == h.mark)) Foreign) (where_so (not (is_found h x)) Gone))
 
 -- or no native
 abbrev pub stop_native : Hosted → Object → Option Stop
@@ -131,35 +131,10 @@ stop_entry h m k = first (stop_map h m) (stop_script h k)
 abbrev pub stop_setting : Hosted → Object → Object → Object → Option Stop
 stop_setting h m k v = first (stop_entry h m k) (stop_script h v)
 
--- a slot of the native in a root is written: of what a root does not hold, it is gone
-abbrev pub slots_at_root : Hosted → ℕ → Slots
-slots_at_root h r = slots_or_none (option_and_then (slots_in h.heaps.heap) (register h.heaps.heap (N r)))
+-- there is no such place
+abbrev pub stop_place : ℕ → Option Stop
+stop_place p = where_so (nat_le places p) Index
 
-abbrev pub stop_storing_at_root : Hosted → ℕ → ℕ → Option Object → Option Stop
-stop_storing_at_root h r i y =
-    first (stop_root r)
-    (first (where_so (is_none (register h.heaps.heap (N r))) Gone)
-    (first (stop_if_any stop_at h y) (where_so (nat_le (length (slots_at_root h r)) i) Index)))
-
--- a slot of the native below a root is written
-abbrev pub stop_storing_below_root : Hosted → ℕ → List ℕ → ℕ → Option Object → Option Stop
-stop_storing_below_root h r path i y =
-    first (stop_root r)
-    (first (where_so (is_none (native_below h r path)) Gone)
-    (first (stop_if_any stop_at h y) (where_so (nat_le (length (slots_below h r path)) i) Index)))
-
--- a slot of the native below a root is read
-abbrev pub stop_slot_below_root : Hosted → ℕ → List ℕ → ℕ → Option Stop
-stop_slot_below_root h r path i =
-    first (stop_root r) (first (where_so (is_none (native_below h r path)) Gone) (where_so (nat_le (length (slots_below h r path)) i) Index))
-
--- a native is made in an empty slot of the native below a root
-abbrev pub is_free : Slots → ℕ → Bool
-is_free slots i = nat_lt i (length slots) && is_none (slice_index_or slots i None)
-
-abbrev pub stop_free_below_root : Hosted → ℕ → List ℕ → ℕ → Option Stop
-stop_free_below_root h r path i = first (where_so (is_none (native_below h r path)) Gone) (where_so (not (is_free (slots_below h r path) i)) Index)
-
-abbrev pub stop_making_below_root : Hosted → ℕ → List ℕ → ℕ → ℕ → Option Stop
-stop_making_below_root h r path i slots =
-    first (stop_root r) (first (where_so (nat_lt most_slots slots) Index) (first (stop_free_below_root h r path i) (where_so (are_natives_made h) Full)))
+-- a place takes an object
+abbrev pub stop_placing : Hosted → ℕ → Object → Option Stop
+stop_placing h p x = first (stop_at h x) (stop_place p)

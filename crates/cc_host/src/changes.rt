@@ -1,8 +1,7 @@
 //! The changes that a host makes: each is one change of the heaps, which keeps all that the collector wants of them.
 //!
 //! What is written is in a register of the host's own meanwhile, so that it is reached; what is stored is exposed before, so
-//! that it is black. When the native leaves that register again it is a suspect, and the next collection looks at it. What a
-//! root holds needs no other register, and stays what it was.
+//! that it is black. When the native leaves that register again it is a suspect, and the next collection looks at it.
 ghost use Rattle.std.specs.Prelude.{◌≡◌, ◌⊎◌, ◌+◌, ◌<◌, ◌≤◌, ℕ, false, [], length, Option, Some, None, Err, IsSome, IfOk, OnOk, OnErr};
 ghost use Rattle.cc_lists.specs.Members.{Among};
 ghost use Rattle.cc_names.specs.declared.name.Name.{Name};
@@ -12,7 +11,7 @@ ghost use Rattle.cc_names.specs.Sizes.{most_slots};
 ghost use Rattle.cc_model.specs.Checks.{reflector_of};
 ghost use Rattle.cc_model.specs.End.{slots_now};
 ghost use Rattle.cc_model.specs.Graph as graph;
-ghost use Rattle.cc_model.specs.Heap.{native_at, register};
+ghost use Rattle.cc_model.specs.Heap.{has_reflector, native_at, register};
 ghost use Rattle.cc_model.specs.Telling.{TellsEvents};
 ghost use Rattle.cc_model.specs.WellFormed.{names_there};
 ghost use Rattle.cc_counted.specs.Counts.{slots_of, unlinked_at};
@@ -23,21 +22,23 @@ ghost use Rattle.cc_heaps.specs.Standing.{IsReached, MayBeHeld, StandsAfter};
 ghost use Rattle.cc_host.specs.Hosted.{roots};
 ghost use Rattle.cc_host.specs.Missing.{KeepsDoomedBut};
 ghost use Rattle.cc_host.specs.Holding.{IsHeld, IsLetGo};
-ghost use Rattle.cc_host.specs.Paths.{hung};
 ghost use Rattle.cc_host.specs.Changes.{IsReady, IsChange, IsTried, OneCame, StaysThere};
+ghost use Rattle.cc_host.specs.Places.{KeepsPlaces};
 ghost use Rattle.cc_host.specs.Marked.{IsPastIfAny, KeepsMarking};
 ghost use Rattle.cc_markslice.specs.Going.{IsMarkingWell};
 
 mod making;
+mod placing;
 mod scripts;
 
 use crate::host::ROOTS;
 use cc_counted::Held;
-use cc_heaps::{Heaps, MakeStop};
+use cc_heaps::Heaps;
 use cc_model::Notices;
 use cc_names::{NKey, NoMemory, RegNo, SKey, SlotNo};
 use cc_wrappers::wrap;
 pub(crate) use making::{make_map, make_native, make_plain, make_proxy};
+pub(crate) use placing::{place_native, place_script, unplace_native, unplace_script};
 use scripts::expose_key;
 pub(crate) use scripts::{preserve_reflector, root_script, set_entry, store_script, unset_entry};
 
@@ -51,8 +52,10 @@ pub(crate) fn root_native<N: Notices>(
     requires ready { IsReady heaps.old }
     requires within { r < roots }
     requires there { IsNativeThere heaps.old content }
-    ensures change { IsChange (IsReached heaps.old.heap (native_name heaps.old content)) (λ g. graph.set_register g (n_register r) (native_name heaps.old content)) heaps.old heaps.new }
+    ensures change { IsChange (IsReached heaps.old.heap (native_name heaps.old content))
+        (λ g. graph.set_register g (n_register r) (native_name heaps.old content)) heaps.old heaps.new }
     ensures marking { KeepsMarking heaps.old heaps.new }
+    ensures places { KeepsPlaces heaps.old.heap heaps.new.heap }
     ensures stands { MayBeHeld heaps.old.heap (native_name heaps.old content) →
         StandsAfter heaps.old.heap heaps.new.heap (λ g. graph.set_register g (n_register r) (native_name heaps.old content)) }
     ensures doomed { KeepsDoomedBut (native_name heaps.old content) heaps.old.heap heaps.new.heap }
@@ -69,6 +72,7 @@ fn expose_held(heaps: &mut Heaps, content: Option<Held>)
     requires there { IsThere heaps.old content }
     ensures change { IsTried (IsReached heaps.old.heap (held_name heaps.old content)) heaps.old heaps.new }
     ensures marking { KeepsMarking heaps.old heaps.new }
+    ensures places { KeepsPlaces heaps.old.heap heaps.new.heap }
     ensures past { IsMarkingWell heaps.old → IsPastIfAny heaps.new (held_name heaps.old content) }
     ensures black { IsBlackHeld heaps.new content }
     ensures stays { StaysThere heaps.old heaps.new }
@@ -92,6 +96,7 @@ fn hold<N: Notices>(heaps: &mut Heaps, key: NKey, out: &mut N)
     requires live { IsSome (number_at heaps.old key.0) }
     ensures held { IsHeld key heaps.old heaps.new }
     ensures marking { KeepsMarking heaps.old heaps.new }
+    ensures places { KeepsPlaces heaps.old.heap heaps.new.heap }
     ensures told { TellsEvents (N.telling out.old) (N.telling out.new) [] }
 {
     heaps.set_native_reg(ROOTS, Some(key), out);
@@ -102,6 +107,7 @@ fn let_go<N: Notices>(heaps: &mut Heaps, out: &mut N)
     requires order { IsInOrder [] heaps.old }
     ensures empty { IsLetGo heaps.old heaps.new }
     ensures marking { KeepsMarking heaps.old heaps.new }
+    ensures places { KeepsPlaces heaps.old.heap heaps.new.heap }
     ensures tells { TellsWhatIsFreed heaps.old.heap heaps.new.heap (N.telling out.old) (N.telling out.new) }
 {
     heaps.set_native_reg(ROOTS, None, out);
@@ -123,6 +129,7 @@ fn store_black<N: Notices>(
     ensures change { IsChange (IsReached heaps.old.heap (native_name heaps.old (Some key)) × IsReached heaps.old.heap (held_name heaps.old content))
         (λ g. graph.set_slot g (native_name heaps.old (Some key)) i (held_name heaps.old content)) heaps.old heaps.new }
     ensures marking { (IsMarkingWell heaps.old → IsPastIfAny heaps.old (held_name heaps.old content)) → KeepsMarking heaps.old heaps.new }
+    ensures places { KeepsPlaces heaps.old.heap heaps.new.heap }
     ensures none_came { NoneCame heaps.old.heap heaps.new.heap }
     ensures tells { TellsWhatIsFreed heaps.old.heap heaps.new.heap (N.telling out.old) (N.telling out.new) }
 {
@@ -146,36 +153,12 @@ pub(crate) fn store_native<N: Notices>(
     ensures change { IsChange (IsReached heaps.old.heap (native_name heaps.old (Some key)) × IsReached heaps.old.heap (held_name heaps.old content))
         (λ g. graph.set_slot g (native_name heaps.old (Some key)) i (held_name heaps.old content)) heaps.old heaps.new }
     ensures marking { KeepsMarking heaps.old heaps.new }
+    ensures places { KeepsPlaces heaps.old.heap heaps.new.heap }
     ensures none_came { NoneCame heaps.old.heap heaps.new.heap }
     ensures tells { TellsWhatIsFreed heaps.old.heap heaps.new.heap (N.telling out.old) (N.telling out.new) }
 {
     expose_held(heaps, content);
     store_black(heaps, key, i, content, out);
-}
-
-/// Slot `i` of the native in a root holds a native or a script object from then on, or nothing. The root keeps the native
-/// reached, so being written makes it no suspect.
-pub(crate) fn store_rooted<N: Notices>(
-    heaps: &mut Heaps,
-    r: RegNo,
-    key: NKey,
-    i: SlotNo,
-    content: Option<Held>,
-    out: &mut N,
-)
-    requires ready { IsReady heaps.old }
-    requires rooted { register heaps.old.heap (n_register r) ≡ native_name heaps.old (Some key) }
-    requires live { IsSome (number_at heaps.old key.0) }
-    requires within { i < length (slots_of (counts_of heaps.old) key.0) }
-    requires there { IsThere heaps.old content }
-    ensures change { IsChange (IsReached heaps.old.heap (held_name heaps.old content)) (λ g. graph.set_slot g (native_name heaps.old (Some key)) i (held_name heaps.old content)) heaps.old heaps.new }
-    ensures marking { KeepsMarking heaps.old heaps.new }
-    ensures none_came { NoneCame heaps.old.heap heaps.new.heap }
-    ensures registers { heaps.new.heap.native_registers ≡ heaps.old.heap.native_registers }
-    ensures tells { TellsWhatIsFreed heaps.old.heap heaps.new.heap (N.telling out.old) (N.telling out.new) }
-{
-    expose_held(heaps, content);
-    heaps.store_native(key, i, content, out);
 }
 
 /// Slot `i` of `to` holds from then on what slot `j` of `from` held, which is empty then.
@@ -193,8 +176,10 @@ pub(crate) fn move_native<N: Notices>(
     requires from_live { IsSome (number_at heaps.old from.0) }
     requires from_within { j < length (slots_of (counts_of heaps.old) from.0) }
     ensures change { IsChange (IsReached heaps.old.heap (native_name heaps.old (Some to)) × IsReached heaps.old.heap (native_name heaps.old (Some from)))
-        (λ g. graph.move_slot g (native_name heaps.old (Some to)) i (native_name heaps.old (Some from)) j (slot_held heaps.old.heap (the_number heaps.old from.0) j)) heaps.old heaps.new }
+        (λ g. graph.move_slot g (native_name heaps.old (Some to)) i (native_name heaps.old (Some from)) j
+        (slot_held heaps.old.heap (the_number heaps.old from.0) j)) heaps.old heaps.new }
     ensures marking { KeepsMarking heaps.old heaps.new }
+    ensures places { KeepsPlaces heaps.old.heap heaps.new.heap }
     ensures none_came { NoneCame heaps.old.heap heaps.new.heap }
     ensures tells { TellsWhatIsFreed heaps.old.heap heaps.new.heap (N.telling out.old) (N.telling out.new) }
 {
@@ -213,9 +198,12 @@ pub(crate) fn wrap_native<N: Notices>(
 ) -> Result<SKey, NoMemory>
     requires ready { IsReady heaps.old }
     requires live { IsSome (number_at heaps.old key.0) }
-    ensures change { OnOk result (IsChange (IsReached heaps.old.heap (native_name heaps.old (Some key))) (λ g. graph.wrapped g (native_name heaps.old (Some key))) heaps.old heaps.new) }
+    ensures change { OnOk result (IsChange (IsReached heaps.old.heap (native_name heaps.old (Some key)))
+        (λ g. graph.wrapped g (native_name heaps.old (Some key))) heaps.old heaps.new) }
     ensures marking { KeepsMarking heaps.old heaps.new }
+    ensures places { KeepsPlaces heaps.old.heap heaps.new.heap }
     ensures tried { OnErr result (IsTried (IsReached heaps.old.heap (native_name heaps.old (Some key))) heaps.old heaps.new) }
+    ensures wanted { OnErr result (has_reflector heaps.old.heap (the_number heaps.old key.0) ≡ false) }
     ensures name { IfOk result (λ made. script_name heaps.new (Some made) ≡ reflector_of (native_name heaps.old (Some key))) }
     ensures came { IfOk result (λ made. OneCame (script_name heaps.new (Some made)) heaps.old.heap heaps.new.heap) }
     ensures none_came { OnErr result (NoneCame heaps.old.heap heaps.new.heap) }
@@ -225,68 +213,4 @@ pub(crate) fn wrap_native<N: Notices>(
     let made = wrap(heaps, key);
     let_go(heaps, out);
     made
-}
-
-/// The same of a native that is reached.
-pub(crate) fn store_reached<N: Notices>(
-    heaps: &mut Heaps,
-    key: NKey,
-    i: SlotNo,
-    content: Option<Held>,
-    out: &mut N,
-)
-    requires ready { IsReady heaps.old }
-    requires reached { IsReached heaps.old.heap (native_name heaps.old (Some key)) }
-    requires live { IsSome (number_at heaps.old key.0) }
-    requires within { i < length (slots_of (counts_of heaps.old) key.0) }
-    requires there { IsThere heaps.old content }
-    ensures change { IsChange (IsReached heaps.old.heap (held_name heaps.old content)) (λ g. graph.set_slot g (native_name heaps.old (Some key)) i (held_name heaps.old content)) heaps.old heaps.new }
-    ensures marking { KeepsMarking heaps.old heaps.new }
-    ensures none_came { NoneCame heaps.old.heap heaps.new.heap }
-    ensures registers { heaps.new.heap.native_registers ≡ heaps.old.heap.native_registers }
-    ensures made { heaps.new.heap.natives_made ≡ heaps.old.heap.natives_made }
-    ensures reaches { slot_held heaps.old.heap (the_number heaps.old key.0) i ≡ None → (x : Option Name) → IsReached heaps.old.heap x → IsReached heaps.new.heap x }
-    ensures tells { TellsWhatIsFreed heaps.old.heap heaps.new.heap (N.telling out.old) (N.telling out.new) }
-{
-    expose_held(heaps, content);
-    heaps.store_native(key, i, content, out);
-}
-
-/// Makes a native with `slots` empty slots, which an empty slot of a reached native holds from then on. It is a suspect, since
-/// the host's own register held it meanwhile.
-pub(crate) fn make_below<N: Notices>(
-    heaps: &mut Heaps,
-    above: NKey,
-    i: SlotNo,
-    slots: SlotNo,
-    out: &mut N,
-) -> Result<NKey, MakeStop>
-    requires ready { IsReady heaps.old }
-    requires reached { IsReached heaps.old.heap (native_name heaps.old (Some above)) }
-    requires live { IsSome (number_at heaps.old above.0) }
-    requires within { i < length (slots_of (counts_of heaps.old) above.0) }
-    requires empty { slot_held heaps.old.heap (the_number heaps.old above.0) i ≡ None }
-    requires slots { slots ≤ most_slots }
-    ensures change { OnOk result (IsChange (Unit {0}) (hung (native_name heaps.old (Some above)) i slots (Some (native (heaps.old.heap.natives_made + 1)))) heaps.old heaps.new) }
-    ensures marking { KeepsMarking heaps.old heaps.new }
-    ensures name { IfOk result (λ key. native_name heaps.new (Some key) ≡ Some (native (heaps.old.heap.natives_made + 1))) }
-    ensures whole { OnOk result (unlinked_at (native_at heaps.new.heap (heaps.old.heap.natives_made + 1)) ≡ false) }
-    ensures full { result ≡ Err MakeStop.Full → heaps.old.heap.limits.natives ≤ heaps.old.heap.natives_made }
-    ensures full_always { heaps.old.heap.limits.natives ≤ heaps.old.heap.natives_made → result ≡ Err MakeStop.Full }
-    ensures same { OnErr result (heaps.new ≡ heaps.old) }
-    ensures tells { TellsWhatIsFreed heaps.old.heap heaps.new.heap (N.telling out.old) (N.telling out.new) }
-    ensures silent { OnErr result (N.telling out.new ≡ N.telling out.old) }
-    ensures came { OnOk result ((x : Name) → Among x (names_there heaps.new.heap) → Among x (names_there heaps.old.heap) ⊎ (x ≡ native (heaps.old.heap.natives_made + 1))) }
-    ensures reaches { OnOk result ((x : Option Name) → IsReached heaps.old.heap x → IsReached heaps.new.heap x) }
-    ensures reached { OnOk result (IsReached heaps.new.heap (Some (native (heaps.old.heap.natives_made + 1)))) }
-{
-    heaps.new_native(ROOTS, slots, out)?;
-    match heaps.native_reg(ROOTS) {
-        Some(key) => {
-            heaps.store_native(above, i, Some(Held::Native(key)), out);
-            let_go(heaps, out);
-            Ok(key)
-        }
-        None => unreachable!(),
-    }
 }

@@ -7,7 +7,7 @@ ghost use Rattle.cc_heaps.specs.Keyed.{number_at};
 ghost use Rattle.cc_heaps.specs.Changes.{IsNativeThere, IsScriptThere, IsThere as IsHeldThere, held_name, native_name, script_name};
 ghost use Rattle.cc_heaps.specs.Standing.{MayBeHeld};
 ghost use Rattle.cc_host.specs.Hosted.{Hosted, IsKept, IsThereIfAny, is_found, is_usable_at, named};
-ghost use Rattle.cc_host.specs.Stops.{IsStoppedBy, stop_at, stop_content, stop_if_any, stop_map, stop_native, stop_reflector, stop_script};
+ghost use Rattle.cc_host.specs.Stops.{IsStoppedBy, is_nothing, stop_at, stop_content, stop_if_any, stop_map, stop_native, stop_reflector, stop_script};
 
 mod collecting;
 mod entries;
@@ -23,6 +23,7 @@ use cc_collector::Collector;
 use cc_counted::Held;
 use cc_heaps::Heaps;
 use cc_names::{Kind, Limits, NKey, Name, NativeNo, NoMemory, RegNo, SKey};
+pub use rooted::{FIRST_PLACE, PLACES};
 use std::alloc::Global;
 use std::marker::Model;
 
@@ -47,10 +48,21 @@ impl Model for Host {
     ghost invariant = { λ h. IsKept (record { heaps = h.heaps; running = h.collector.running; marking = h.collector.marking; mark = h.mark }) };
 }
 
+// Whether what is handed in is no object: its name has the number 0.
+fn is_nothing(x: Object) -> bool
+    ensures { result ≡ is_nothing x }
+{
+    match x.name {
+        Name::Native(number) => number.0 == 0,
+        Name::Script(number) => number.0 == 0,
+        Name::Reflector(number) => number.0 == 0,
+    }
+}
+
 impl Host {
     /// A host without objects, whose roots hold nothing; as many natives, and as many script objects, may ever be made as the
     /// limits say. Its objects have this mark. An object of a host with another mark is `Foreign`, so hosts of one program
-    /// need different ones.
+    /// need different ones. What is no object at all, with the number 0 in its name, is `Kind`, whatever its mark.
     pub fn new(alloc: Global, limits: Limits, mark: u64) -> Result<Host, NoMemory>
         ensures heap { IfOk result (λ h. h.heaps.heap ≡ empty_heap limits) }
         ensures idle { IfOk result (λ h. h.running ≡ None) }
@@ -79,7 +91,8 @@ impl Host {
         let _ = &self.heaps;
     }
 
-    /// Whether an object is there, and of this host: it was not freed, and is no native that was unlinked.
+    /// Whether an object is there, and of this host: it was not freed, and is no native that was unlinked. What has no name (its number
+    /// is 0) is not there.
     pub fn is_there(&self, x: Object) -> bool
         ensures { result ≡ is_none (stop_at self.now x) }
     {
@@ -112,6 +125,9 @@ impl Host {
     fn look(&self, x: Object) -> Result<(), Stop>
         ensures { IsStoppedBy (stop_at self.now x) result }
     {
+        if is_nothing(x) {
+            return Err(Stop::Kind);
+        }
         if x.mark != self.mark {
             return Err(Stop::Foreign);
         }

@@ -10,7 +10,7 @@ use thiserror::Error;
 /// `Full` in the last, an object may have been exposed, or have become a suspect. The graph is as it was then too.
 ///
 /// The objects of a call are tried in the order in which they are handed in, each for the first three; then the indexes,
-/// then the limit, then memory.
+/// then the limit, then memory. What is no object (its name has the number 0) is of the wrong kind before it is of another host.
 #[derive(Clone, Copy, Debug, PartialEq, Eq, Drop, Error)]
 pub enum Stop {
     /// An object is of another host.
@@ -19,7 +19,7 @@ pub enum Stop {
     /// An object of this host is not there: it was freed, or it is a native that was unlinked, or there never was one.
     #[error("an object is gone")]
     Gone,
-    /// An object is of the wrong kind.
+    /// An object is of the wrong kind; or no object is handed in: its name has the number 0, which no object ever has.
     #[error("an object is of the wrong kind")]
     Kind,
     /// An index is not below the number of roots, or of an object's slots; or a number of slots is above 256.

@@ -10,10 +10,11 @@ ghost use Rattle.cc_model.specs.Heap.{native_at, register};
 ghost use Rattle.cc_counted.specs.Counts.{unlinked_at};
 ghost use Rattle.cc_script.specs.Objects.{is_there};
 ghost use Rattle.cc_heaps.specs.Changes.{native_name, script_name};
-ghost use Rattle.cc_heaps.specs.Leaving.{NoneCame, TellsWhatIsFreed};
+ghost use Rattle.cc_heaps.specs.Leaving.{NoneCame, NothingLeft, TellsWhatIsFreed};
 ghost use Rattle.cc_heaps.specs.Standing.{IsReached};
 ghost use Rattle.cc_host.specs.Hosted.{roots};
 ghost use Rattle.cc_host.specs.Changes.{IsReady, IsChange, IsTried, OneCame};
+ghost use Rattle.cc_host.specs.Places.{KeepsPlaces};
 ghost use Rattle.cc_host.specs.Marked.{KeepsMarking};
 
 use crate::changes::scripts::expose_key;
@@ -33,6 +34,7 @@ pub(crate) fn make_native<N: Notices>(
     requires slots { slots ≤ most_slots }
     ensures change { OnOk result (IsChange (Unit {0}) (λ g. graph.step g (command.Native r slots)) heaps.old heaps.new) }
     ensures marking { KeepsMarking heaps.old heaps.new }
+    ensures places { KeepsPlaces heaps.old.heap heaps.new.heap }
     ensures name { IfOk result (λ key. native_name heaps.new (Some key) ≡ Some (native (heaps.old.heap.natives_made + 1))) }
     ensures held { OnOk result (register heaps.new.heap (n_register r) ≡ Some (native (heaps.old.heap.natives_made + 1))) }
     ensures whole { OnOk result (unlinked_at (native_at heaps.new.heap (heaps.old.heap.natives_made + 1)) ≡ false) }
@@ -42,7 +44,8 @@ pub(crate) fn make_native<N: Notices>(
     ensures tells { TellsWhatIsFreed heaps.old.heap heaps.new.heap (N.telling out.old) (N.telling out.new) }
     ensures silent { OnErr result (N.telling out.new ≡ N.telling out.old) }
     ensures came { IfOk result (λ key. OneCame (native_name heaps.new (Some key)) heaps.old.heap heaps.new.heap) }
-    ensures reaches { OnOk result (register heaps.old.heap (n_register r) ≡ None → (x : Option Name) → IsReached heaps.old.heap x → IsReached heaps.new.heap x) }
+    ensures reaches { OnOk result (register heaps.old.heap (n_register r) ≡ None → (x : Option Name) → IsReached heaps.old.heap x →
+        IsReached heaps.new.heap x) }
 {
     heaps.new_native(r, slots, out)?;
     match heaps.native_reg(r) {
@@ -58,11 +61,13 @@ pub(crate) fn make_plain(heaps: &mut Heaps, r: RegNo, slots: SlotNo) -> Result<S
     requires slots { slots ≤ most_slots }
     ensures change { OnOk result (IsChange (Unit {0}) (λ g. graph.step g (command.Script r slots)) heaps.old heaps.new) }
     ensures marking { KeepsMarking heaps.old heaps.new }
+    ensures places { KeepsPlaces heaps.old.heap heaps.new.heap }
     ensures name { IfOk result (λ key. script_name heaps.new (Some key) ≡ Some (object (heaps.old.heap.scripts_made + 1))) }
     ensures held { OnOk result (register heaps.new.heap (s_register r) ≡ Some (object (heaps.old.heap.scripts_made + 1))) }
     ensures full { result ≡ Err MakeStop.Full → heaps.old.heap.limits.scripts ≤ heaps.old.heap.scripts_made }
     ensures full_always { heaps.old.heap.limits.scripts ≤ heaps.old.heap.scripts_made → result ≡ Err MakeStop.Full }
     ensures same { OnErr result (heaps.new ≡ heaps.old) }
+    ensures none_left { NothingLeft heaps.old.heap heaps.new.heap }
     ensures came { IfOk result (λ key. OneCame (script_name heaps.new (Some key)) heaps.old.heap heaps.new.heap) }
 {
     heaps.new_plain(r, slots)?;
@@ -78,11 +83,13 @@ pub(crate) fn make_map(heaps: &mut Heaps, r: RegNo) -> Result<SKey, MakeStop>
     requires within { r < roots }
     ensures change { OnOk result (IsChange (Unit {0}) (λ g. graph.step g (command.WeakMap r)) heaps.old heaps.new) }
     ensures marking { KeepsMarking heaps.old heaps.new }
+    ensures places { KeepsPlaces heaps.old.heap heaps.new.heap }
     ensures name { IfOk result (λ key. script_name heaps.new (Some key) ≡ Some (object (heaps.old.heap.scripts_made + 1))) }
     ensures held { OnOk result (register heaps.new.heap (s_register r) ≡ Some (object (heaps.old.heap.scripts_made + 1))) }
     ensures full { result ≡ Err MakeStop.Full → heaps.old.heap.limits.scripts ≤ heaps.old.heap.scripts_made }
     ensures full_always { heaps.old.heap.limits.scripts ≤ heaps.old.heap.scripts_made → result ≡ Err MakeStop.Full }
     ensures same { OnErr result (heaps.new ≡ heaps.old) }
+    ensures none_left { NothingLeft heaps.old.heap heaps.new.heap }
     ensures came { IfOk result (λ key. OneCame (script_name heaps.new (Some key)) heaps.old.heap heaps.new.heap) }
 {
     heaps.new_map(r)?;
@@ -99,13 +106,16 @@ pub(crate) fn make_proxy(heaps: &mut Heaps, r: RegNo, delegate: SKey) -> Result<
     requires ready { IsReady heaps.old }
     requires within { r < roots }
     requires live { IsTrue (is_there heaps.old.scripts delegate.0) }
-    ensures change { OnOk result (IsChange (IsReached heaps.old.heap (script_name heaps.old (Some delegate))) (λ g. graph.with_proxy g r (script_name heaps.old (Some delegate))) heaps.old heaps.new) }
+    ensures change { OnOk result (IsChange (IsReached heaps.old.heap (script_name heaps.old (Some delegate)))
+        (λ g. graph.with_proxy g r (script_name heaps.old (Some delegate))) heaps.old heaps.new) }
     ensures marking { KeepsMarking heaps.old heaps.new }
+    ensures places { KeepsPlaces heaps.old.heap heaps.new.heap }
     ensures name { IfOk result (λ key. script_name heaps.new (Some key) ≡ Some (object (heaps.old.heap.scripts_made + 1))) }
     ensures held { OnOk result (register heaps.new.heap (s_register r) ≡ Some (object (heaps.old.heap.scripts_made + 1))) }
     ensures full { result ≡ Err MakeStop.Full → heaps.old.heap.limits.scripts ≤ heaps.old.heap.scripts_made }
     ensures full_always { heaps.old.heap.limits.scripts ≤ heaps.old.heap.scripts_made → result ≡ Err MakeStop.Full }
     ensures tried { OnErr result (IsTried (IsReached heaps.old.heap (script_name heaps.old (Some delegate))) heaps.old heaps.new) }
+    ensures none_left { NothingLeft heaps.old.heap heaps.new.heap }
     ensures came { IfOk result (λ key. OneCame (script_name heaps.new (Some key)) heaps.old.heap heaps.new.heap) }
     ensures none_came { OnErr result (NoneCame heaps.old.heap heaps.new.heap) }
 {

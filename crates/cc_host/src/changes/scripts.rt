@@ -5,13 +5,16 @@ ghost use Rattle.cc_names.specs.declared.kind.Kind.TheVariants.{Map};
 ghost use Rattle.cc_names.specs.declared.name.Name.{Name};
 ghost use Rattle.cc_names.specs.declared.register.Reg.TheVariants.{S as s_register};
 ghost use Rattle.cc_host.specs.Hosted.{roots};
+ghost use Rattle.cc_model.specs.Checks.{value_at};
 ghost use Rattle.cc_model.specs.Graph as graph;
+ghost use Rattle.cc_model.specs.Heap.{objects_of};
 ghost use Rattle.cc_script.specs.Objects.{colour_at, is_there, kind_at, slots_at};
 ghost use Rattle.cc_heaps.specs.Changes.{IsScriptThere, script_name};
 ghost use Rattle.cc_heaps.specs.Leaving.{NoneCame, NothingLeft};
 ghost use Rattle.cc_heaps.specs.Standing.{IsReached, IsReachedOrReflects, MayHold};
 ghost use Rattle.cc_host.specs.Exposing.{AreSame, Exposes};
 ghost use Rattle.cc_host.specs.Changes.{IsReady, IsChange, IsTried};
+ghost use Rattle.cc_host.specs.Places.{KeepsPlaces};
 ghost use Rattle.cc_host.specs.Marked.{IsPastIfAny, KeepsMarking};
 ghost use Rattle.cc_markslice.specs.Going.{IsMarkingWell};
 
@@ -25,6 +28,7 @@ pub(crate) fn expose_key(heaps: &mut Heaps, key: SKey)
     requires live { IsTrue (is_there heaps.old.scripts key.0) }
     ensures exposes { Exposes (IsReached heaps.old.heap (script_name heaps.old (Some key))) heaps.old heaps.new }
     ensures marking { KeepsMarking heaps.old heaps.new }
+    ensures places { KeepsPlaces heaps.old.heap heaps.new.heap }
     ensures past { IsMarkingWell heaps.old → IsPastIfAny heaps.new (script_name heaps.old (Some key)) }
     ensures ready { IsReady heaps.new }
     ensures black { colour_at heaps.new.scripts key.0 ≡ Some Black }
@@ -38,6 +42,7 @@ fn expose_content(heaps: &mut Heaps, content: Option<SKey>)
     requires there { IsScriptThere heaps.old content }
     ensures exposes { Exposes (IsReached heaps.old.heap (script_name heaps.old content)) heaps.old heaps.new }
     ensures marking { KeepsMarking heaps.old heaps.new }
+    ensures places { KeepsPlaces heaps.old.heap heaps.new.heap }
     ensures past { IsMarkingWell heaps.old → IsPastIfAny heaps.new (script_name heaps.old content) }
     ensures ready { IsReady heaps.new }
     ensures black { IfSome content (λ k. colour_at heaps.new.scripts k.0 ≡ Some Black) }
@@ -52,8 +57,10 @@ pub(crate) fn root_script(heaps: &mut Heaps, r: RegNo, content: Option<SKey>)
     requires ready { IsReady heaps.old }
     requires within { r < roots }
     requires there { IsScriptThere heaps.old content }
-    ensures change { IsChange (IsReachedOrReflects heaps.old.heap (script_name heaps.old content)) (λ g. graph.set_register g (s_register r) (script_name heaps.old content)) heaps.old heaps.new }
+    ensures change { IsChange (IsReachedOrReflects heaps.old.heap (script_name heaps.old content))
+        (λ g. graph.set_register g (s_register r) (script_name heaps.old content)) heaps.old heaps.new }
     ensures marking { KeepsMarking heaps.old heaps.new }
+    ensures places { KeepsPlaces heaps.old.heap heaps.new.heap }
     ensures none_left { NothingLeft heaps.old.heap heaps.new.heap }
     ensures none_came { NoneCame heaps.old.heap heaps.new.heap }
 {
@@ -67,8 +74,10 @@ pub(crate) fn store_script(heaps: &mut Heaps, key: SKey, i: SlotNo, content: Opt
     requires within { i < length (slots_at heaps.old.scripts key.0) }
     requires there { IsScriptThere heaps.old content }
     ensures change { IsChange (IsReached heaps.old.heap (script_name heaps.old (Some key)) × IsReached heaps.old.heap (script_name heaps.old content))
-        (λ g. graph.set_slot (graph.preserve g (script_name heaps.old (Some key))) (script_name heaps.old (Some key)) i (script_name heaps.old content)) heaps.old heaps.new }
+        (λ g. graph.set_slot (graph.preserve g (script_name heaps.old (Some key))) (script_name heaps.old (Some key)) i
+        (script_name heaps.old content)) heaps.old heaps.new }
     ensures marking { KeepsMarking heaps.old heaps.new }
+    ensures places { KeepsPlaces heaps.old.heap heaps.new.heap }
     ensures none_left { NothingLeft heaps.old.heap heaps.new.heap }
     ensures none_came { NoneCame heaps.old.heap heaps.new.heap }
 {
@@ -81,8 +90,10 @@ pub(crate) fn store_script(heaps: &mut Heaps, key: SKey, i: SlotNo, content: Opt
 pub(crate) fn preserve_reflector(heaps: &mut Heaps, key: SKey)
     requires ready { IsReady heaps.old }
     requires live { IsTrue (is_there heaps.old.scripts key.0) }
-    ensures change { IsChange (IsReached heaps.old.heap (script_name heaps.old (Some key))) (λ g. graph.preserve g (script_name heaps.old (Some key))) heaps.old heaps.new }
+    ensures change { IsChange (IsReached heaps.old.heap (script_name heaps.old (Some key)))
+        (λ g. graph.preserve g (script_name heaps.old (Some key))) heaps.old heaps.new }
     ensures marking { KeepsMarking heaps.old heaps.new }
+    ensures places { KeepsPlaces heaps.old.heap heaps.new.heap }
     ensures keys { heaps.new.keys ≡ heaps.old.keys }
     ensures same { AreSame heaps.old.scripts heaps.new.scripts }
     ensures reached { (x : Option Name) → IsReached heaps.old.heap x → IsReached heaps.new.heap x }
@@ -96,7 +107,7 @@ pub(crate) fn preserve_reflector(heaps: &mut Heaps, key: SKey)
 
 /// A key has a value in a weak map from then on.
 ///
-/// `NoMemory` leaves what is there, its key and its value exposed.
+/// `NoMemory` leaves what is there, its key and its value exposed, and comes only where there was no entry.
 pub(crate) fn set_entry(
     heaps: &mut Heaps,
     the_map: SKey,
@@ -107,10 +118,15 @@ pub(crate) fn set_entry(
     requires the_map { kind_at heaps.old.scripts the_map.0 ≡ Some Map }
     requires key { IsTrue (is_there heaps.old.scripts key.0) }
     requires value { IsTrue (is_there heaps.old.scripts value.0) }
-    ensures change { OnOk result (IsChange (IsReached heaps.old.heap (script_name heaps.old (Some the_map)) × IsReached heaps.old.heap (script_name heaps.old (Some key)) × IsReached heaps.old.heap (script_name heaps.old (Some value)))
-        (λ g. graph.set_entry g (script_name heaps.old (Some the_map)) (script_name heaps.old (Some key)) (script_name heaps.old (Some value))) heaps.old heaps.new) }
-    ensures tried { OnErr result (IsTried (IsReached heaps.old.heap (script_name heaps.old (Some key)) × IsReached heaps.old.heap (script_name heaps.old (Some value))) heaps.old heaps.new) }
+    ensures change { OnOk result (IsChange (IsReached heaps.old.heap (script_name heaps.old (Some the_map)) ×
+        IsReached heaps.old.heap (script_name heaps.old (Some key)) × IsReached heaps.old.heap (script_name heaps.old (Some value)))
+        (λ g. graph.set_entry g (script_name heaps.old (Some the_map)) (script_name heaps.old (Some key))
+        (script_name heaps.old (Some value))) heaps.old heaps.new) }
+    ensures tried { OnErr result (IsTried (IsReached heaps.old.heap (script_name heaps.old (Some key)) ×
+        IsReached heaps.old.heap (script_name heaps.old (Some value))) heaps.old heaps.new) }
+    ensures wanted { OnErr result (value_at (objects_of heaps.old.heap) (script_name heaps.old (Some the_map)) (script_name heaps.old (Some key)) ≡ None) }
     ensures marking { KeepsMarking heaps.old heaps.new }
+    ensures places { KeepsPlaces heaps.old.heap heaps.new.heap }
     ensures none_left { NothingLeft heaps.old.heap heaps.new.heap }
     ensures none_came { NoneCame heaps.old.heap heaps.new.heap }
 {
@@ -127,6 +143,7 @@ pub(crate) fn unset_entry(heaps: &mut Heaps, the_map: SKey, key: SKey)
     ensures change { IsChange (IsReached heaps.old.heap (script_name heaps.old (Some the_map)) × IsReached heaps.old.heap (script_name heaps.old (Some key)))
         (λ g. graph.set_entry g (script_name heaps.old (Some the_map)) (script_name heaps.old (Some key)) None) heaps.old heaps.new }
     ensures marking { KeepsMarking heaps.old heaps.new }
+    ensures places { KeepsPlaces heaps.old.heap heaps.new.heap }
     ensures none_left { NothingLeft heaps.old.heap heaps.new.heap }
     ensures none_came { NoneCame heaps.old.heap heaps.new.heap }
 {

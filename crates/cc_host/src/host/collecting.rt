@@ -9,8 +9,10 @@ ghost use Rattle.cc_gc.specs.Sparing.{KeepsWhatIsReached};
 ghost use Rattle.cc_collector.specs.Collected.{IsCollected, IsMarkedOn, IsSliced, IsSwept, TellsWhatLeaves, progress_of};
 ghost use Rattle.cc_collector.specs.Kept.{RunsIn, machine_of};
 ghost use Rattle.cc_collector.specs.Settled.{HasWhatIsReached};
+ghost use Rattle.cc_heaps.specs.Leaving.{NothingLeft};
 ghost use Rattle.cc_host.specs.Calls.{Always, Collects, Does, Forgets, NoneComes, TellsFew};
 ghost use Rattle.cc_host.specs.Hosted.{machine};
+ghost use Rattle.cc_host.specs.Places.{KeepsPlaces};
 ghost use Rattle.cc_host.specs.Missing.{CannotMiss, IsOfAGraph, Takes, TakesBySlice, TakesGarbage, TellsUnlinked, lost_in};
 
 use crate::host::Host;
@@ -42,11 +44,14 @@ impl Host {
     ///
     /// Entries of weak maps are left aside: what is reached by them alone stays a suspect. A native that is written afterwards,
     /// or loses a reference, is a suspect again. This may be called at any time, also while a collection runs or a script marking
-    /// goes on, which goes on as it did. It tells nothing and takes no memory, and time by what the roots reach and by how many suspects there are.
+    /// goes on, which goes on as it did. No object leaves or comes. It tells
+    /// nothing and takes no memory, and time by what the roots reach and by how many suspects there are.
     pub fn forget(&mut self) -> u32
         ensures does { Does Always (λ g. g) self.old self.new }
         ensures forgets { Forgets self.old self.new result }
+        ensures none_left { NothingLeft self.old.heaps.heap self.new.heaps.heap }
         ensures none_came { NoneComes self.old self.new }
+        ensures places { KeepsPlaces self.old.heaps.heap self.new.heaps.heap }
     {
         forget(&mut self.heaps)
     }
@@ -59,13 +64,15 @@ impl Host {
     pub fn slice<N: Notices>(&mut self, units: u32, out: &mut N) -> Result<Ended, NoMemory>
         ensures collects { Collects self.old self.new (N.telling out.old) (N.telling out.new) }
         ensures few { TellsFew (length self.old.heaps.heap.natives + 1) self.old self.new (N.telling out.old) (N.telling out.new) }
-        ensures sliced { (steps : ℕ) × IsSliced units (machine self.old) (machine self.new) (progress_of result) 0 steps (N.telling out.old) (N.telling out.new) }
+        ensures sliced { (steps : ℕ) × IsSliced units (machine self.old) (machine self.new) (progress_of result) 0 steps (N.telling out.old)
+            (N.telling out.new) }
         ensures over { result ≢ Ok Ended.No → self.new.running ≡ None }
         ensures unmarked { self.new.marking ≡ false }
         // what the running collection can't miss is told unlinked at its end; what one can't miss that begins after `gc`
         ensures takes { (ds : List Name) → CannotMiss self.old ds → TakesBySlice ds self.new (progress_of result) (N.telling out.old) (N.telling out.new) }
         ensures begins { 0 < units → IsOfAGraph self.old → TakesGarbage self.old →
             TakesBySlice (lost_in self.old) self.new (progress_of result) (N.telling out.old) (N.telling out.new) }
+        ensures places { KeepsPlaces self.old.heaps.heap self.new.heaps.heap }
     {
         slice::<Brand, N>(
             &mut self.heaps,
@@ -81,7 +88,8 @@ impl Host {
     /// `NoMemory` as in a slice.
     pub fn collect<N: Notices>(&mut self, out: &mut N) -> Result<(), NoMemory>
         ensures collects { Collects self.old self.new (N.telling out.old) (N.telling out.new) }
-        ensures few { TellsFew (length self.old.heaps.heap.natives + (length self.old.heaps.heap.natives + 1)) self.old self.new (N.telling out.old) (N.telling out.new) }
+        ensures few { TellsFew (length self.old.heaps.heap.natives + (length self.old.heaps.heap.natives + 1)) self.old self.new
+            (N.telling out.old) (N.telling out.new) }
         ensures done { OnOk result (IsCollected (machine self.old) (machine self.new) at_end (N.telling out.old) (N.telling out.new)) }
         ensures refused { OnErr result (IsCollected (machine self.old) (machine self.new) refused (N.telling out.old) (N.telling out.new)) }
         ensures over { self.new.running ≡ None }
@@ -89,6 +97,7 @@ impl Host {
         ensures takes { (ds : List Name) → CannotMiss self.old ds → Takes ds (N.telling out.old) (N.telling out.new) }
         ensures takes_if_done { OnOk result ((ds : List Name) → CannotMiss self.old ds → TellsUnlinked ds (N.telling out.old) (N.telling out.new)) }
         ensures begins { OnOk result (IsOfAGraph self.old → TakesGarbage self.old → TellsUnlinked (lost_in self.old) (N.telling out.old) (N.telling out.new)) }
+        ensures places { KeepsPlaces self.old.heaps.heap self.new.heaps.heap }
     {
         self.collector.whole(&mut self.heaps, out)
     }
@@ -104,6 +113,7 @@ impl Host {
         ensures takes { (ds : List Name) → CannotMiss self.old ds → Takes ds (N.telling out.old) (N.telling out.new) }
         // a collection that begins now can't miss what nothing reaches
         ensures garbage { TakesGarbage self.new }
+        ensures places { KeepsPlaces self.old.heaps.heap self.new.heaps.heap }
     {
         self.collector.gc(&mut self.heaps, out);
     }
@@ -120,6 +130,7 @@ impl Host {
         ensures ended { result ≡ Ended.Yes → self.new.marking ≡ false }
         ensures goes_on { result ≡ Ended.No → 0 < units → self.new.marking ≡ true }
         ensures takes { (ds : List Name) → CannotMiss self.old ds → Takes ds (N.telling out.old) (N.telling out.new) }
+        ensures places { KeepsPlaces self.old.heaps.heap self.new.heaps.heap }
     {
         mark::<Brand, N>(
             &mut self.heaps,
@@ -136,10 +147,12 @@ impl Host {
     pub fn settle<N: Notices>(&mut self, out: &mut N) -> Result<(), NoMemory>
         ensures exact { OnOk result (HasWhatIsReached self.new.heaps.heap) }
         ensures collects { Collects self.old self.new (N.telling out.old) (N.telling out.new) }
-        ensures few { TellsFew ((length self.old.heaps.heap.natives + 1) + (length self.old.heaps.heap.natives + 1)) self.old self.new (N.telling out.old) (N.telling out.new) }
+        ensures few { TellsFew ((length self.old.heaps.heap.natives + 1) + (length self.old.heaps.heap.natives + 1)) self.old self.new
+            (N.telling out.old) (N.telling out.new) }
         ensures over { self.new.running ≡ None }
         ensures unmarked { self.new.marking ≡ false }
         ensures takes { (ds : List Name) → CannotMiss self.old ds → Takes ds (N.telling out.old) (N.telling out.new) }
+        ensures places { KeepsPlaces self.old.heaps.heap self.new.heaps.heap }
     {
         self.collector.settle(&mut self.heaps, out)
     }

@@ -1,8 +1,12 @@
 //! Entries of weak maps.
-ghost use Rattle.std.specs.Prelude.{◌≡◌, Some, None, OnErr, OnOk};
+ghost use Rattle.std.specs.Prelude.{◌≡◌, ◌≢◌, Some, None, OnErr, OnOk};
+ghost use Rattle.cc_model.specs.Checks.{value_at};
 ghost use Rattle.cc_model.specs.Graph as graph;
+ghost use Rattle.cc_model.specs.Heap.{objects_of};
+ghost use Rattle.cc_heaps.specs.Leaving.{NothingLeft};
 ghost use Rattle.cc_host.specs.Calls.{Does, NoneComes, Tries};
 ghost use Rattle.cc_host.specs.Hosted.{IsRooted};
+ghost use Rattle.cc_host.specs.Places.{KeepsPlaces};
 ghost use Rattle.cc_host.specs.Stops.{IsStoppedBy, IsStoppedOrRefused, stop_entry, stop_setting};
 
 use crate::changes;
@@ -14,14 +18,20 @@ impl Host {
     /// A key has a value in a weak map from then on: its entry keeps its place, or goes last where there was none. A key that
     /// is a reflector is preserved.
     ///
-    /// `NoMemory` leaves the graph as it is (`tried`), and comes only where there was no entry.
+    /// `NoMemory` leaves the graph as it is (`tried`), and comes only where there was no entry (`wanted`). Each other refusal changes
+    /// nothing at all (`same`). No object leaves or comes in any case.
     #[tactic(auto, using(crate::proofs::KeptDoomed::still_doomed))]
     pub fn set_entry(&mut self, the_map: Object, key: Object, value: Object) -> Result<(), Stop>
         ensures stops { IsStoppedOrRefused (stop_setting self.old the_map key value) result }
         ensures does { OnOk result (Does (IsRooted self.old the_map × IsRooted self.old key × IsRooted self.old value)
             (λ g. graph.set_entry g (Some the_map.name) (Some key.name) (Some value.name)) self.old self.new) }
+        // each other cause is told before anything is done; memory is wanted only for an entry that is not there
+        ensures same { (s : Stop) → result ≡ Err s → s ≢ Stop.NoMemory → self.new ≡ self.old }
+        ensures wanted { result ≡ Err Stop.NoMemory → value_at (objects_of self.old.heaps.heap) (Some the_map.name) (Some key.name) ≡ None }
         ensures tried { OnErr result (Tries (IsRooted self.old key × IsRooted self.old value) self.old self.new) }
+        ensures none_left { NothingLeft self.old.heaps.heap self.new.heaps.heap }
         ensures none_came { NoneComes self.old self.new }
+        ensures places { KeepsPlaces self.old.heaps.heap self.new.heaps.heap }
     {
         let the_map = self.map(the_map)?;
         let key = self.script(key)?;
@@ -30,13 +40,15 @@ impl Host {
         Ok(())
     }
 
-    /// A key has no value in a weak map from then on. Takes no memory.
+    /// A key has no value in a weak map from then on. No object leaves or comes by it. Takes no memory.
     pub fn unset_entry(&mut self, the_map: Object, key: Object) -> Result<(), Stop>
         ensures stops { IsStoppedBy (stop_entry self.old the_map key) result }
         ensures does { OnOk result (Does (IsRooted self.old the_map × IsRooted self.old key)
             (λ g. graph.set_entry g (Some the_map.name) (Some key.name) None) self.old self.new) }
         ensures same { OnErr result (self.new ≡ self.old) }
+        ensures none_left { NothingLeft self.old.heaps.heap self.new.heaps.heap }
         ensures none_came { NoneComes self.old self.new }
+        ensures places { KeepsPlaces self.old.heaps.heap self.new.heaps.heap }
     {
         let the_map = self.map(the_map)?;
         let key = self.script(key)?;

@@ -1,14 +1,16 @@
 //! Objects made. Each stands in a root from then on.
-ghost use Rattle.std.specs.Prelude.{◌≡◌, ◌+◌, Option, Some, None, Err, IfOk, OnErr, OnOk};
+ghost use Rattle.std.specs.Prelude.{◌≡◌, ◌≢◌, ◌+◌, Option, Some, None, Err, IfOk, OnErr, OnOk};
 ghost use Rattle.cc_names.specs.declared.name.Name.{Name};
 ghost use Rattle.cc_names.specs.Names.{native, object};
 ghost use Rattle.cc_names.specs.declared.register.Reg.TheVariants.{N as n_register, S as s_register};
 ghost use Rattle.cc_model.specs.declared.command.Command.TheVariants as command;
 ghost use Rattle.cc_model.specs.Graph as graph;
 ghost use Rattle.cc_model.specs.Heap.{register};
+ghost use Rattle.cc_heaps.specs.Leaving.{NothingLeft};
 ghost use Rattle.cc_heaps.specs.Standing.{IsReached};
 ghost use Rattle.cc_host.specs.Calls.{Always, Comes, Does, NoneComes, TellsFreed, Tries};
 ghost use Rattle.cc_host.specs.Hosted.{IsRooted, IsThere};
+ghost use Rattle.cc_host.specs.Places.{KeepsPlaces};
 ghost use Rattle.cc_host.specs.Stops.{IsStoppedOrRefused, are_natives_made, are_scripts_made, stop_at, stop_making, stop_proxy};
 
 use crate::changes::{make_map, make_native, make_plain, make_proxy};
@@ -40,7 +42,9 @@ impl Host {
         // no other object comes
         ensures came { IfOk result (λ x. Comes x.name self.old self.new) }
         // what is reached stays so, where the root held nothing
-        ensures reaches { OnOk result (register self.old.heaps.heap (n_register r) ≡ None → (x : Option Name) → IsReached self.old.heaps.heap x → IsReached self.new.heaps.heap x) }
+        ensures reaches { OnOk result (register self.old.heaps.heap (n_register r) ≡ None → (x : Option Name) → IsReached self.old.heaps.heap x →
+            IsReached self.new.heaps.heap x) }
+        ensures places { KeepsPlaces self.old.heaps.heap self.new.heaps.heap }
     {
         if r >= ROOTS || slots > MOST_SLOTS {
             return Err(Stop::Index);
@@ -52,7 +56,8 @@ impl Host {
         }
     }
 
-    /// Makes a plain script object with `slots` empty slots (0 to 256), which script root `r` holds from then on.
+    /// Makes a plain script object with `slots` empty slots (0 to 256), which script root `r` holds from then on. No object leaves,
+    /// whether the root held one or not.
     pub fn new_plain(&mut self, r: RegNo, slots: SlotNo) -> Result<Object, Stop>
         ensures stops { IsStoppedOrRefused (stop_making r slots (are_scripts_made self.old)) result }
         ensures does { OnOk result (Does Always (λ g. graph.step g (command.Script r slots)) self.old self.new) }
@@ -60,8 +65,10 @@ impl Host {
         ensures name { IfOk result (λ x. x.name ≡ object (self.old.heaps.heap.scripts_made + 1)) }
         ensures held { IfOk result (λ x. register self.new.heaps.heap (s_register r) ≡ Some x.name) }
         ensures same { OnErr result (self.new ≡ self.old) }
+        ensures none_left { NothingLeft self.old.heaps.heap self.new.heaps.heap }
         // no other object comes
         ensures came { IfOk result (λ x. Comes x.name self.old self.new) }
+        ensures places { KeepsPlaces self.old.heaps.heap self.new.heaps.heap }
     {
         if r >= ROOTS || slots > MOST_SLOTS {
             return Err(Stop::Index);
@@ -73,7 +80,7 @@ impl Host {
         }
     }
 
-    /// Makes a weak map without entries, which script root `r` holds from then on.
+    /// Makes a weak map without entries, which script root `r` holds from then on. No object leaves.
     pub fn new_map(&mut self, r: RegNo) -> Result<Object, Stop>
         ensures stops { IsStoppedOrRefused (stop_making r 0 (are_scripts_made self.old)) result }
         ensures does { OnOk result (Does Always (λ g. graph.step g (command.WeakMap r)) self.old self.new) }
@@ -81,8 +88,10 @@ impl Host {
         ensures name { IfOk result (λ x. x.name ≡ object (self.old.heaps.heap.scripts_made + 1)) }
         ensures held { IfOk result (λ x. register self.new.heaps.heap (s_register r) ≡ Some x.name) }
         ensures same { OnErr result (self.new ≡ self.old) }
+        ensures none_left { NothingLeft self.old.heaps.heap self.new.heaps.heap }
         // no other object comes
         ensures came { IfOk result (λ x. Comes x.name self.old self.new) }
+        ensures places { KeepsPlaces self.old.heaps.heap self.new.heaps.heap }
     {
         if r >= ROOTS {
             return Err(Stop::Index);
@@ -95,9 +104,10 @@ impl Host {
     }
 
     /// Makes a proxy of a script object, its delegate for good, which script root `r` holds from then on. A delegate that is a
-    /// reflector is preserved.
+    /// reflector is preserved. No object leaves.
     ///
-    /// `Full` and `NoMemory` leave the graph as it is (`tried`): the delegate was exposed to script.
+    /// `Full` and `NoMemory` leave the graph as it is (`tried`): the delegate was exposed to script. Each other refusal changes nothing
+    /// at all (`same`).
     #[tactic(auto, using(crate::proofs::KeptDoomed::still_doomed))]
     pub fn new_proxy(&mut self, r: RegNo, delegate: Object) -> Result<Object, Stop>
         ensures stops { IsStoppedOrRefused (stop_proxy self.old delegate r) result }
@@ -105,10 +115,14 @@ impl Host {
         ensures there { IfOk result (λ x. IsThere self.new x) }
         ensures name { IfOk result (λ x. x.name ≡ object (self.old.heaps.heap.scripts_made + 1)) }
         ensures held { IfOk result (λ x. register self.new.heaps.heap (s_register r) ≡ Some x.name) }
+        // each other cause is told before anything is done
+        ensures same { (s : Stop) → result ≡ Err s → s ≢ Stop.Full → s ≢ Stop.NoMemory → self.new ≡ self.old }
         ensures tried { OnErr result (Tries (IsRooted self.old delegate) self.old self.new) }
+        ensures none_left { NothingLeft self.old.heaps.heap self.new.heaps.heap }
         // no other object comes
         ensures came { IfOk result (λ x. Comes x.name self.old self.new) }
         ensures none_came { OnErr result (NoneComes self.old self.new) }
+        ensures places { KeepsPlaces self.old.heaps.heap self.new.heaps.heap }
     {
         let delegate = self.script(delegate)?;
         if r >= ROOTS {

@@ -8,6 +8,7 @@ ghost use Rattle.cc_heaps.specs.Standing.{MayBeHeld};
 ghost use Rattle.cc_host.specs.Calls.{Brings, NoneComes, TellsFreed};
 ghost use Rattle.cc_host.specs.Hosted.{named};
 ghost use Rattle.cc_host.specs.Referring.{HasEnded, has_ended, referent, stop_upgrade, stop_weak, upgraded};
+ghost use Rattle.cc_host.specs.Places.{KeepsPlaces};
 ghost use Rattle.cc_host.specs.Stops.{IsStoppedBy, stop_native};
 
 use crate::changes;
@@ -73,6 +74,7 @@ impl Host {
         ensures tells { TellsFreed self.old self.new (N.telling out.old) (N.telling out.new) }
         ensures silent { OnErr result (N.telling out.new ≡ N.telling out.old) }
         ensures none_came { NoneComes self.old self.new }
+        ensures places { KeepsPlaces self.old.heaps.heap self.new.heaps.heap }
     {
         if w.mark != self.mark {
             return Err(Stop::Foreign);

@@ -1,14 +1,16 @@
 //! Roots and slots written, and reflectors.
-ghost use Rattle.std.specs.Prelude.{◌≡◌, Some, None, Ok, Err, IfOk, OnErr, OnOk, true, false};
+ghost use Rattle.std.specs.Prelude.{◌≡◌, ◌≢◌, Some, None, Ok, Err, IfOk, OnErr, OnOk, true, false};
 ghost use Rattle.cc_names.specs.Names.{is_native, number_of};
 ghost use Rattle.cc_heaps.specs.Leaving.{NothingLeft};
 ghost use Rattle.cc_names.specs.declared.register.Reg.TheVariants.{N as n_register, S as s_register};
 ghost use Rattle.cc_model.specs.Checks.{reflector_of};
 ghost use Rattle.cc_model.specs.Graph as graph;
+ghost use Rattle.cc_model.specs.Heap.{has_reflector};
 ghost use Rattle.cc_heaps.specs.Changes.{slot_held};
 ghost use Rattle.cc_heaps.specs.Standing.{IsReachedOrReflects};
 ghost use Rattle.cc_host.specs.Calls.{Brings, Comes, Does, NoneComes, TellsFreed, Tries, stored};
 ghost use Rattle.cc_host.specs.Hosted.{IsRooted, IsRootedIfAny, IsThere, named};
+ghost use Rattle.cc_host.specs.Places.{KeepsPlaces};
 ghost use Rattle.cc_host.specs.Stops.{IsStoppedBy, IsStoppedOrRefused, stop_moving, stop_native, stop_reflector, stop_rooting, stop_script, stop_storing};
 
 use crate::changes;
@@ -36,6 +38,7 @@ impl Host {
         ensures tells { TellsFreed self.old self.new (N.telling out.old) (N.telling out.new) }
         ensures silent { OnErr result (N.telling out.new ≡ N.telling out.old) }
         ensures none_came { NoneComes self.old self.new }
+        ensures places { KeepsPlaces self.old.heaps.heap self.new.heaps.heap }
     {
         let content = self.native_if_any(x)?;
         if r >= ROOTS {
@@ -45,12 +48,15 @@ impl Host {
         Ok(())
     }
 
-    /// Script root `r` holds a script object from then on, or nothing. Takes no memory.
+    /// Script root `r` holds a script object from then on, or nothing. No object leaves or comes by it. Takes no memory.
     pub fn set_script_root(&mut self, r: RegNo, x: Option<Object>) -> Result<(), Stop>
         ensures stops { IsStoppedBy (stop_rooting stop_script self.old r x) result }
-        ensures does { OnOk result (Does (IsReachedOrReflects self.old.heaps.heap (named x)) (λ g. graph.set_register g (s_register r) (named x)) self.old self.new) }
+        ensures does { OnOk result (Does (IsReachedOrReflects self.old.heaps.heap (named x))
+            (λ g. graph.set_register g (s_register r) (named x)) self.old self.new) }
         ensures same { OnErr result (self.new ≡ self.old) }
+        ensures none_left { NothingLeft self.old.heaps.heap self.new.heaps.heap }
         ensures none_came { NoneComes self.old self.new }
+        ensures places { KeepsPlaces self.old.heaps.heap self.new.heaps.heap }
     {
         let content = self.script_if_any(x)?;
         if r >= ROOTS {
@@ -75,6 +81,7 @@ impl Host {
         ensures tells { TellsFreed self.old self.new (N.telling out.old) (N.telling out.new) }
         ensures silent { OnErr result (N.telling out.new ≡ N.telling out.old) }
         ensures none_came { NoneComes self.old self.new }
+        ensures places { KeepsPlaces self.old.heaps.heap self.new.heaps.heap }
     {
         let key = self.native(x)?;
         let content = self.held_if_any(y)?;
@@ -93,6 +100,7 @@ impl Host {
         ensures same { OnErr result (self.new ≡ self.old) }
         ensures none_left { NothingLeft self.old.heaps.heap self.new.heaps.heap }
         ensures none_came { NoneComes self.old self.new }
+        ensures places { KeepsPlaces self.old.heaps.heap self.new.heaps.heap }
     {
         let key = self.script(x)?;
         let content = self.script_if_any(y)?;
@@ -121,6 +129,7 @@ impl Host {
         ensures tells { TellsFreed self.old self.new (N.telling out.old) (N.telling out.new) }
         ensures silent { OnErr result (N.telling out.new ≡ N.telling out.old) }
         ensures none_came { NoneComes self.old self.new }
+        ensures places { KeepsPlaces self.old.heaps.heap self.new.heaps.heap }
     {
         match x.name {
             Name::Native(_) => self.store_in_native(x, i, y, out),
@@ -148,6 +157,7 @@ impl Host {
         ensures tells { TellsFreed self.old self.new (N.telling out.old) (N.telling out.new) }
         ensures silent { OnErr result (N.telling out.new ≡ N.telling out.old) }
         ensures none_came { NoneComes self.old self.new }
+        ensures places { KeepsPlaces self.old.heaps.heap self.new.heaps.heap }
     {
         let to = self.native(to)?;
         let from = self.native(from)?;
@@ -161,19 +171,24 @@ impl Host {
     /// The reflector of a native, for script. The one that it has, or one that is made: put it into a root, or into a slot, for
     /// by itself it is held by nothing.
     ///
-    /// `NoMemory` leaves the graph as it is (`tried`), and comes only where the native has no reflector. The native is a
-    /// suspect then.
+    /// `NoMemory` leaves the graph as it is (`tried`), and comes only where the native has no reflector (`wanted`). The native is a
+    /// suspect then. Each other refusal changes nothing at all and tells nothing (`same`, `silent`).
     #[tactic(auto, using(crate::proofs::KeptDoomed::still_doomed))]
     pub fn wrap<N: Notices>(&mut self, x: Object, out: &mut N) -> Result<Object, Stop>
         ensures stops { IsStoppedOrRefused (stop_native self.old x) result }
         ensures does { OnOk result (Does (IsRooted self.old x) (λ g. graph.wrapped g (Some x.name)) self.old self.new) }
         ensures there { IfOk result (λ y. IsThere self.new y) }
         ensures name { IfOk result (λ y. Some y.name ≡ reflector_of (Some x.name)) }
+        // each other cause is told before anything is done; memory is wanted only for a reflector that is not there
+        ensures same { (s : Stop) → result ≡ Err s → s ≢ Stop.NoMemory → self.new ≡ self.old }
+        ensures silent { (s : Stop) → result ≡ Err s → s ≢ Stop.NoMemory → N.telling out.new ≡ N.telling out.old }
+        ensures wanted { result ≡ Err Stop.NoMemory → has_reflector self.old.heaps.heap (number_of x.name) ≡ false }
         ensures tried { OnErr result (Tries (IsRooted self.old x) self.old self.new) }
         ensures tells { TellsFreed self.old self.new (N.telling out.old) (N.telling out.new) }
         // no object comes but that reflector
         ensures came { IfOk result (λ y. Comes y.name self.old self.new) }
         ensures none_came { OnErr result (NoneComes self.old self.new) }
+        ensures places { KeepsPlaces self.old.heaps.heap self.new.heaps.heap }
     {
         let key = self.native(x)?;
         let made = changes::wrap_native(&mut self.heaps, key, out)?;
@@ -183,12 +198,14 @@ impl Host {
         }
     }
 
-    /// A reflector is preserved from then on: its native holds it. Takes no memory.
+    /// A reflector is preserved from then on: its native holds it. No object leaves or comes by it. Takes no memory.
     pub fn preserve(&mut self, x: Object) -> Result<(), Stop>
         ensures stops { IsStoppedBy (stop_reflector self.old x) result }
         ensures does { OnOk result (Does (IsRooted self.old x) (λ g. graph.preserve g (Some x.name)) self.old self.new) }
         ensures same { OnErr result (self.new ≡ self.old) }
+        ensures none_left { NothingLeft self.old.heaps.heap self.new.heaps.heap }
         ensures none_came { NoneComes self.old self.new }
+        ensures places { KeepsPlaces self.old.heaps.heap self.new.heaps.heap }
     {
         let key = self.reflector(x)?;
         changes::preserve_reflector(&mut self.heaps, key);

@@ -7,6 +7,7 @@ use Rattle.cc_host.proofs.Referring.{reached-held}
 use Rattle.cc_host.proofs.Spare.{held-from, held-silently}
 use Rattle.cc_host.proofs.MarkedCalls.{held-marking}
 use Rattle.cc_host.specs.Hosted.{spare}
+use Rattle.cc_host.proofs.PlacesKept.{held-places}
 use Rattle.cc_host.proofs.changes.hold.Goals as goal
 
 pub set_native_reg-requires-clause-within : goal.set_native_reg-requires-clause-within
@@ -29,3 +30,8 @@ pub returns-clause-marking : goal.returns-clause-marking
 returns-clause-marking g c =
     let v = c.args.heaps.now in
     held-marking v c.set_native_reg.new.self spare (native_name v (Some c.args.key)) c.set_native_reg.ensures.heap c.set_native_reg.ensures.marks
+
+pub returns-clause-places : goal.returns-clause-places
+returns-clause-places g c =
+    let v = c.args.heaps.now in
+    held-places v c.set_native_reg.new.self spare (native_name v (Some c.args.key)) (omega (arith)) c.set_native_reg.ensures.heap

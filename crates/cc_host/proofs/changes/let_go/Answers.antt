@@ -3,6 +3,7 @@ use Rattle.cc_heaps.proofs.FewCounts.{none-owned}
 use Rattle.cc_host.proofs.Around.{let_go-from}
 use Rattle.cc_host.proofs.MarkedCalls.{held-marking}
 use Rattle.cc_host.specs.Hosted.{spare}
+use Rattle.cc_host.proofs.PlacesKept.{held-places}
 use Rattle.cc_host.proofs.changes.let_go.Goals as goal
 
 pub set_native_reg-requires-clause-within : goal.set_native_reg-requires-clause-within
@@ -20,3 +21,8 @@ pub returns-clause-marking : goal.returns-clause-marking
 returns-clause-marking g c =
     let v = c.args.heaps.now in
     held-marking v c.set_native_reg.new.self spare None c.set_native_reg.ensures.heap c.set_native_reg.ensures.marks
+
+pub returns-clause-places : goal.returns-clause-places
+returns-clause-places g c =
+    let v = c.args.heaps.now in
+    held-places v c.set_native_reg.new.self spare None (omega (arith)) c.set_native_reg.ensures.heap

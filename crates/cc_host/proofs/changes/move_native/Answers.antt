@@ -11,6 +11,7 @@ use Rattle.cc_host.proofs.Storing.{moved-kept, moved-leaves, moved-none_came, mo
 use Rattle.cc_host.proofs.changes.move_native.Given as given
 use Rattle.cc_host.proofs.MarkedCalls.{moved-marking}
 use Rattle.cc_host.proofs.Marked.{marking-then}
+use Rattle.cc_host.proofs.PlacesKept.{moved-places, places-round}
 use Rattle.cc_host.proofs.changes.move_native.Goals as goal
 
 pub move_slot-requires : goal.move_slot-requires
@@ -74,3 +75,11 @@ returns-clause-marking g c =
     (moved-marking w u (the_number w c.args.to.0) c.args.i (the_number w c.args.from.0) c.args.j
     (c.hold.ensures.held.kept.order [] c.requires.ready.order).sound.well_formed e.heap e.marking e.kept.marks)
     c.let_go.ensures.marking)
+
+pub returns-clause-places : goal.returns-clause-places
+returns-clause-places g c =
+    let w = c.hold.new.heaps in
+    let u = c.move_slot.new.self in
+    places-round c.args.heaps.now.heap w.heap u.heap c.let_go.new.heaps.heap c.hold.ensures.places
+    (moved-places w.heap u.heap (the_number w c.args.to.0) c.args.i (the_number w c.args.from.0) c.args.j c.move_slot.ensures.heap)
+    c.let_go.ensures.places

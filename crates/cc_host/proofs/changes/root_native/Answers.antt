@@ -10,6 +10,7 @@ use Rattle.cc_model.specs.WellFormed.{names_there}
 use Rattle.cc_host.proofs.Coming.{hold_native-none_came}
 use Rattle.cc_host.proofs.Referring.{reached-held}
 use Rattle.cc_host.proofs.MarkedCalls.{held-marking}
+use Rattle.cc_host.proofs.PlacesKept.{held-places}
 use Rattle.cc_host.proofs.changes.root_native.Goals as goal
 
 pub set_native_reg-requires-clause-within : goal.set_native_reg-requires-clause-within
@@ -49,3 +50,8 @@ pub returns-clause-marking : goal.returns-clause-marking
 returns-clause-marking g c =
     let v = c.args.heaps.now in
     held-marking v c.set_native_reg.new.self c.args.r (native_name v c.args.content) c.set_native_reg.ensures.heap c.set_native_reg.ensures.marks
+
+pub returns-clause-places : goal.returns-clause-places
+returns-clause-places g c =
+    let v = c.args.heaps.now in
+    held-places v c.set_native_reg.new.self c.args.r (native_name v c.args.content) (omega (arith, c.requires.within)) c.set_native_reg.ensures.heap

@@ -14,6 +14,7 @@ use Rattle.cc_host.proofs.changes.store_black.Given as given
 use Rattle.cc_host.proofs.MarkedCalls.{stored-marking}
 use Rattle.cc_host.proofs.Marked.{marking-after, marking-then}
 use Rattle.cc_host.specs.Marked.{IsPastIfAny}
+use Rattle.cc_host.proofs.PlacesKept.{places-round, stored-places}
 use Rattle.cc_host.proofs.changes.store_black.Goals as goal
 
 pub store_native-requires-clause-order : goal.store_native-requires-clause-order
@@ -77,3 +78,11 @@ returns-clause-marking g c past =
     (stored-marking w u (the_number w c.args.key.0) c.args.i (held_name w c.args.content) c.store_native.ensures.heap c.store_native.ensures.marks
     (λ its. subst (IsPastIfAny w) (sym same) (λ y i. h.marking.past k y (past k y i))))
     c.let_go.ensures.marking)
+
+pub returns-clause-places : goal.returns-clause-places
+returns-clause-places g c =
+    let w = c.hold.new.heaps in
+    let u = c.store_native.new.self in
+    places-round c.args.heaps.now.heap w.heap u.heap c.let_go.new.heaps.heap c.hold.ensures.places
+    (stored-places w u (the_number w c.args.key.0) c.args.i (held_name w c.args.content) c.store_native.ensures.heap)
+    c.let_go.ensures.places

@@ -12,17 +12,18 @@ use Rattle.cc_heaps.proofs.Kept.{KeepsAll-reached}
 use Rattle.cc_host.specs.Holding.{IsLetGo}
 use Rattle.cc_host.specs.Missing.{KeepsDoomed}
 use Rattle.cc_host.proofs.KeptDoomed.{wrapped-doomed}
-use Rattle.cc_host.proofs.ScriptSteps.{ok-both}
+use Rattle.cc_host.proofs.ScriptSteps.{either-way, ok-both}
 use Rattle.cc_host.proofs.Around.{around-none_came, around-change, nothing-change}
 use Rattle.cc_host.proofs.Composing.{tells-after}
 use Rattle.cc_host.proofs.Spare.{wrapped-leaves}
 use Rattle.cc_host.proofs.Storing.{held-reached, native_name-is}
-use Rattle.cc_host.proofs.Wrapping.{wrapped-natives, wrapped-none_left}
+use Rattle.cc_host.proofs.Wrapping.{held-lacks, wrapped-natives, wrapped-none_left}
 use Rattle.cc_model.specs.WellFormed.{names_there}
 use Rattle.cc_host.proofs.Coming.{OneCame-named, if_ok-with, wrapped-came}
 use Rattle.cc_host.proofs.changes.wrap_native.Given as given
 use Rattle.cc_host.proofs.MarkedCalls.{wrapped-marking}
 use Rattle.cc_host.proofs.Marked.{marking-then}
+use Rattle.cc_host.proofs.PlacesKept.{places-as, places-round, places-same, wrapped-places}
 use Rattle.cc_host.proofs.changes.wrap_native.Goals as goal
 
 pub wrap-made-requires-clause-order : goal.wrap-made-requires-clause-order
@@ -100,3 +101,22 @@ returns-clause-marking g c =
     (wrapped-marking w u c.wrap-made.result (the_number w c.args.key.0) (c.hold.ensures.held.kept.order [] c.requires.ready.order).sound.well_formed
     e.heap e.same e.marking e.kept.marks)
     c.let_go.ensures.marking)
+
+pub returns-clause-places : goal.returns-clause-places
+returns-clause-places g c =
+    let w = c.hold.new.heaps in
+    let u = c.wrap-made.new.heaps in
+    let e = c.wrap-made.ensures in
+    places-round c.args.heaps.now.heap w.heap u.heap c.let_go.new.heaps.heap c.hold.ensures.places
+    (either-way c.wrap-made.result e.heap e.same
+    (λ heap. places-as w.heap _ u.heap heap (wrapped-places w.heap (the_number w c.args.key.0)))
+    (λ same. places-as w.heap w.heap u.heap (ap (λ (k : Keyed). k.heap) same) (places-same w.heap)))
+    c.let_go.ensures.places
+
+pub returns-clause-wanted : goal.returns-clause-wanted
+returns-clause-wanted g c =
+    let v = c.args.heaps.now in
+    let w = c.hold.new.heaps in
+    on_err_weaker c.wrap-made.result
+    (λ lacks. held-lacks v w c.hold.ensures.held.keys c.args.key c.hold.ensures.held.heap lacks)
+    c.wrap-made.ensures.lacks

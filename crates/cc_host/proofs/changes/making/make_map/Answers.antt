@@ -9,7 +9,7 @@ use Rattle.cc_names.specs.Names.{object}
 use Rattle.cc_names.specs.declared.kind.Kind.TheVariants.{Map}
 use Rattle.cc_model.specs.WellFormed.{names_there}
 use Rattle.cc_heaps.specs.Changes.{script_name}
-use Rattle.cc_host.proofs.Coming.{OneCame-named, object-came}
+use Rattle.cc_host.proofs.Coming.{OneCame-named, left-into, object-came, object-left}
 use Rattle.cc_host.proofs.MarkedCalls.{made_object-marking}
 use Rattle.cc_host.proofs.changes.making.make_map.Goals as goal
 
@@ -38,3 +38,8 @@ pub returns-clause-marking : goal.returns-clause-marking
 returns-clause-marking c =
     let e = c.in_ok-new_map.ensures in
     made_object-marking c.args.heaps.now c.new_map.new.self c.args.r Map 0 c.requires.ready.order.sound.well_formed e.heap c.new_map.ensures.marks
+
+pub returns-clause-none_left : goal.returns-clause-none_left
+returns-clause-none_left c =
+    let h = c.args.heaps.now.heap in
+    left-into h _ c.new_map.new.self.heap c.in_ok-new_map.ensures.heap (object-left h c.args.r Map 0 None)

@@ -8,6 +8,7 @@ use Rattle.cc_host.proofs.Making.{native-beside, native-came, native-held, nativ
 use Rattle.cc_host.proofs.MadeTaken.{made-whole}
 use Rattle.cc_host.proofs.Coming.{OneCame-named}
 use Rattle.cc_host.proofs.MarkedCalls.{made_native-marking}
+use Rattle.cc_host.proofs.PlacesKept.{make_native-places, places-as}
 use Rattle.cc_host.proofs.changes.making.make_native.Goals as goal
 
 pub new_native-requires-clause-within : goal.new_native-requires-clause-within
@@ -66,3 +67,8 @@ returns-clause-whole g c =
 
 pub returns-clause-marking : goal.returns-clause-marking
 returns-clause-marking g c = made_native-marking c.args.heaps.now c.new_native.new.self c.args.r c.args.slots c.in_ok-new_native.ensures.heap c.new_native.ensures.marks
+
+pub returns-clause-places : goal.returns-clause-places
+returns-clause-places g c =
+    let h = c.args.heaps.now.heap in
+    places-as h _ c.new_native.new.self.heap c.in_ok-new_native.ensures.heap (make_native-places h c.args.r c.args.slots (omega (arith, c.requires.within)))

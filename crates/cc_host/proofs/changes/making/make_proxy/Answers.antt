@@ -7,13 +7,13 @@ use Rattle.cc_heaps.specs.Standing.{IsReached, StandsAfter}
 use Rattle.cc_host.specs.Hosted.{spare}
 use Rattle.cc_host.specs.Missing.{KeepsDoomed}
 use Rattle.cc_host.proofs.KeptDoomed.{doomed-then, make_proxy-doomed}
-use Rattle.cc_host.proofs.Exposed.{KeepsAll-after, StandsAfter-still, exposed-none_came}
+use Rattle.cc_host.proofs.Exposed.{KeepsAll-after, StandsAfter-still, exposed-none_came, exposed-none_left}
 use Rattle.cc_host.proofs.Making.{proxy-beside}
 use Rattle.cc_lists.specs.Members.{Among}
 use Rattle.cc_names.specs.Names.{object}
 use Rattle.cc_model.specs.WellFormed.{names_there}
 use Rattle.cc_heaps.specs.Changes.{script_name}
-use Rattle.cc_host.proofs.Coming.{OneCame-named, proxy-came}
+use Rattle.cc_host.proofs.Coming.{OneCame-named, left-into, proxy-came, proxy-left}
 use Rattle.cc_host.proofs.MarkedCalls.{made_proxy-marking}
 use Rattle.cc_host.proofs.Marked.{marking-after}
 use Rattle.cc_host.specs.Marked.{IsPastIfAny}
@@ -60,3 +60,9 @@ returns-clause-marking c =
     marking-after u v w e.marking (λ k. made_proxy-marking v w c.args.r (name_at v.scripts c.args.delegate.0) e.ready.order.sound.well_formed
     c.in_ok-new_proxy.ensures.heap c.new_proxy.ensures.marks
     (λ its. subst (IsPastIfAny v) (sym (e.exposes.same c.args.delegate.0 c.requires.live).name) (e.past k)))
+
+pub returns-clause-none_left : goal.returns-clause-none_left
+returns-clause-none_left c x i =
+    let v = c.expose_key.new.heaps in
+    left-into v.heap _ c.new_proxy.new.self.heap c.in_ok-new_proxy.ensures.heap (proxy-left v.heap c.args.r (name_at v.scripts c.args.delegate.0)) x
+    (exposed-none_left c.args.heaps.now v c.expose_key.ensures.exposes x i)

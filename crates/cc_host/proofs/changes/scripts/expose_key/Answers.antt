@@ -4,6 +4,7 @@ use Rattle.cc_heaps.specs.Standing.{IsReached}
 use Rattle.cc_host.specs.Exposing.{Exposes}
 use Rattle.cc_host.proofs.Exposed.{exposed-colour, exposed-ready, exposes}
 use Rattle.cc_host.proofs.MarkedCalls.{exposed-is_past, exposed-marking}
+use Rattle.cc_host.proofs.PlacesKept.{exposed-places, places-as}
 use Rattle.cc_host.proofs.changes.scripts.expose_key.Goals as goal
 
 pub expose-requires-clause-order : goal.expose-requires-clause-order
@@ -36,3 +37,8 @@ returns-clause-past c =
     let v = c.args.heaps.now in
     let e = c.expose.ensures in
     exposed-is_past v c.expose.new.self (name_at v.scripts c.args.key.0) e.marking e.kept.marks c.requires.ready.order.sound.well_formed
+
+pub returns-clause-places : goal.returns-clause-places
+returns-clause-places c =
+    let v = c.args.heaps.now in
+    places-as v.heap _ c.expose.new.self.heap c.expose.ensures.heap (exposed-places v.heap (name_at v.scripts c.args.key.0))

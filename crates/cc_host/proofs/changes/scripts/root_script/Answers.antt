@@ -4,6 +4,7 @@ use Rattle.cc_host.specs.Missing.{KeepsDoomed}
 use Rattle.cc_host.proofs.KeptDoomed.{hold_script-doomed}
 use Rattle.cc_host.proofs.ScriptSteps.{StaysBeside, beside-none_came, beside-none_left, beside-spared, hold_script-beside}
 use Rattle.cc_host.proofs.MarkedCalls.{held_script-marking}
+use Rattle.cc_host.proofs.PlacesKept.{hold_script-places, places-as}
 use Rattle.cc_host.proofs.changes.scripts.root_script.Goals as goal
 
 pub set_script_reg-requires-clause-within : goal.set_script_reg-requires-clause-within
@@ -34,3 +35,8 @@ returns-clause-marking c =
     let v = c.args.heaps.now in
     let e = c.set_script_reg.ensures in
     held_script-marking v c.set_script_reg.new.self (script_name v c.args.content) e.marking e.kept.marks c.requires.ready.order.sound.well_formed c.args.r e.heap
+
+pub returns-clause-places : goal.returns-clause-places
+returns-clause-places c =
+    let v = c.args.heaps.now in
+    places-as v.heap _ c.set_script_reg.new.self.heap c.set_script_reg.ensures.heap (hold_script-places v.heap c.args.r (script_name v c.args.content) (omega (arith, c.requires.within)))

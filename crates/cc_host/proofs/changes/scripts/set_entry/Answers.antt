@@ -1,8 +1,10 @@
-use Rattle.std.proofs.Common.{◌≡◌, [], Option, Some, sym, ◌∙◌, subst}
+use Rattle.std.proofs.Common.{◌≡◌, [], Option, Some, None, OnErr, sym, ◌∙◌, ap, subst}
 use Rattle.std.proofs.lemmas.Result.{on_err_weaker}
 use Rattle.cc_names.specs.declared.name.Name.{Name}
+use Rattle.cc_model.specs.Checks.{value_at}
 use Rattle.cc_model.specs.Effects as effects
 use Rattle.cc_model.specs.Graph as graph
+use Rattle.cc_model.specs.Heap.{Heap, objects_of}
 use Rattle.cc_script.specs.Objects.{name_at}
 use Rattle.cc_heaps.specs.Keyed.{Keyed}
 use Rattle.cc_heaps.specs.Changes.{script_name}
@@ -21,6 +23,7 @@ use Rattle.cc_model.specs.WellFormed.{names_there}
 use Rattle.cc_host.proofs.MarkedCalls.{entry-marking}
 use Rattle.cc_host.proofs.Marked.{marking-after, marking-same}
 use Rattle.cc_host.specs.Marked.{IsPastIfAny}
+use Rattle.cc_host.proofs.Stopping.{refused-none}
 use Rattle.cc_host.proofs.changes.scripts.set_entry.Goals as goal
 
 pub expose_key-requires-2-clause-ready : goal.expose_key-requires-2-clause-ready
@@ -136,3 +139,16 @@ returns-clause-marking c =
     (λ heap. entry-marking v w (name_at v.scripts c.args.the_map.0) (name_at v.scripts c.args.key.0) (name_at v.scripts c.args.value.0) heap s.marks
     (λ its. subst (IsPastIfAny v) (sym ((both c).same c.args.key.0 c.requires.key).name) (λ y i. p.marking.past l y (e.past k y i))))
     (λ same. marking-same v w same)))
+
+pub returns-clause-wanted : goal.returns-clause-wanted
+returns-clause-wanted c =
+    let u = c.args.heaps.now in
+    let v = c.expose_key-2.new.heaps in
+    let b = both c in
+    let m = name_at v.scripts c.args.the_map.0 in
+    let k = name_at v.scripts c.args.key.0 in
+    let at : value_at (objects_of v.heap) m k ≡ value_at (objects_of u.heap) (script_name u (Some c.args.the_map)) (script_name u (Some c.args.key)) =
+    ap (λ (h : Heap). value_at (objects_of h) m k) b.rest
+    ∙ (ap (λ x. value_at (objects_of u.heap) x k) (b.same c.args.the_map.0 (map-there u.scripts c.args.the_map.0 c.requires.the_map)).name
+    ∙ ap (λ x. value_at (objects_of u.heap) (script_name u (Some c.args.the_map)) x) (b.same c.args.key.0 c.requires.key).name) in
+    subst (λ o. OnErr c.set_entry.result (o ≡ None)) at (refused-none c.set_entry.result (value_at (objects_of v.heap) m k) c.set_entry.ensures.in_place)

@@ -1,9 +1,10 @@
 use Rattle.std.proofs.Common.{[], subst}
-use Rattle.cc_heaps.specs.Leaving.{NoneCame}
+use Rattle.cc_heaps.specs.Leaving.{NoneCame, NothingLeft}
 use Rattle.cc_host.specs.Calls.{Always, Does, Forgets}
 use Rattle.cc_host.specs.Hosted.{Hosted}
+use Rattle.cc_host.specs.Places.{KeepsPlaces}
 use Rattle.cc_host.proofs.Keeping.{hosted, change-keeps}
-use Rattle.cc_host.proofs.Forgetting.{forgotten-change, forgotten-does, forgotten-forgets, forgotten-marking, forgotten-none_came}
+use Rattle.cc_host.proofs.Forgetting.{forgotten-change, forgotten-does, forgotten-forgets, forgotten-marking, forgotten-none_came, forgotten-none_left, forgotten-places}
 use Rattle.cc_host.proofs.host.Host.forget.Goals as goal
 
 pub forget-requires : goal.forget-requires
@@ -44,3 +45,19 @@ returns-clause-none_came c =
     let e = c.forget.ensures in
     subst (λ (h : Hosted). NoneCame h.heaps.heap w.heap) c.self.view_is
     (forgotten-none_came v w c.self.inside.collector c.self.inside.mark e.forgotten e.kept e.stands)
+
+pub returns-clause-places : goal.returns-clause-places
+returns-clause-places c =
+    let v = c.self.inside.heaps in
+    let w = c.forget.new.heaps in
+    let e = c.forget.ensures in
+    subst (λ (h : Hosted). KeepsPlaces h.heaps.heap w.heap) c.self.view_is
+    (forgotten-places v w c.self.inside.collector c.self.inside.mark e.forgotten e.kept e.stands)
+
+pub returns-clause-none_left : goal.returns-clause-none_left
+returns-clause-none_left c =
+    let v = c.self.inside.heaps in
+    let w = c.forget.new.heaps in
+    let e = c.forget.ensures in
+    subst (λ (h : Hosted). NothingLeft h.heaps.heap w.heap) c.self.view_is
+    (forgotten-none_left v w c.self.inside.collector c.self.inside.mark e.forgotten e.kept e.stands)

@@ -1,4 +1,4 @@
-use Rattle.std.proofs.Common.{◌+◌, sym, ◌∙◌, ap}
+use Rattle.std.proofs.Common.{◌+◌, refl, sym, ◌∙◌, ap}
 use Rattle.cc_host.specs.Hosted.{named}
 use Rattle.cc_host.proofs.Coming.{came-here}
 use Rattle.cc_host.proofs.Keeping.{change-keeps, hosted}
@@ -15,4 +15,4 @@ returns-clause-came g c = came-here c.self.view_is c.make_native.new.heaps.heap 
 -- what was made is taken by each call
 pub returns-clause-taken : goal.returns-clause-taken
 returns-clause-taken g c =
-    whole-taken (hosted c.make_native.new.heaps c.self.inside.collector c.self.inside.mark) c.in-Some.made (c.self.inside.heaps.heap.natives_made + 1) (c.in-Some.ensures.name ∙ c.in_ok-key.ensures.name) c.in-Some.ensures.there c.in_ok-key.ensures.whole
+    whole-taken (hosted c.make_native.new.heaps c.self.inside.collector c.self.inside.mark) c.in-Some.made c.self.inside.heaps.heap.natives_made (c.self.inside.heaps.heap.natives_made + 1) refl (c.in-Some.ensures.name ∙ c.in_ok-key.ensures.name) c.in-Some.ensures.there c.in_ok-key.ensures.whole

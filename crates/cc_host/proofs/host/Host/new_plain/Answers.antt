@@ -1,6 +1,7 @@
-use Rattle.std.proofs.Common.{sym, ◌∙◌, ap}
+use Rattle.std.proofs.Common.{sym, ◌∙◌, ap, subst}
 use Rattle.cc_host.proofs.Keeping.{change-keeps}
-use Rattle.cc_host.specs.Hosted.{named}
+use Rattle.cc_heaps.specs.Leaving.{NothingLeft}
+use Rattle.cc_host.specs.Hosted.{Hosted, named}
 use Rattle.cc_host.proofs.Coming.{came-here}
 use Rattle.cc_host.proofs.host.Host.new_plain.Goals as goal
 
@@ -10,3 +11,6 @@ invariant_of-self-2 c =
 
 pub returns-clause-came : goal.returns-clause-came
 returns-clause-came c = came-here c.self.view_is c.make_plain.new.heaps.heap (sym (ap named c.in-Some.is) ∙ c.of_script.ensures.name) c.in_ok-key.ensures.came
+
+pub returns-clause-none_left : goal.returns-clause-none_left
+returns-clause-none_left c = subst (λ (k : Hosted). NothingLeft k.heaps.heap c.make_plain.new.heaps.heap) c.self.view_is c.make_plain.ensures.none_left

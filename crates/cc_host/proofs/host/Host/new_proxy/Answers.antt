@@ -3,7 +3,7 @@ use Rattle.cc_host.proofs.Keeping.{change-keeps, tried-keeps}
 use Rattle.cc_host.specs.Hosted.{Hosted, named}
 use Rattle.cc_host.proofs.Coming.{came-here}
 use Rattle.cc_lists.proofs.KnownBytes.{on_err_of}
-use Rattle.cc_heaps.specs.Leaving.{NoneCame}
+use Rattle.cc_heaps.specs.Leaving.{NoneCame, NothingLeft}
 use Rattle.cc_host.proofs.host.Host.new_proxy.Goals as goal
 
 pub invariant_of-self : goal.invariant_of-self
@@ -20,3 +20,9 @@ returns-clause-came c = came-here c.self.view_is c.make_proxy.new.heaps.heap (sy
 pub returns-in_err-key-clause-none_came : goal.returns-in_err-key-clause-none_came
 returns-in_err-key-clause-none_came c = on_err_of c.from_residual-in_err-key.result
     (subst (λ (k : Hosted). NoneCame k.heaps.heap c.make_proxy.new.heaps.heap) c.self.view_is c.in_err-key.ensures.none_came)
+
+pub returns-clause-none_left : goal.returns-clause-none_left
+returns-clause-none_left c = subst (λ (k : Hosted). NothingLeft k.heaps.heap c.make_proxy.new.heaps.heap) c.self.view_is c.make_proxy.ensures.none_left
+
+pub returns-in_err-key-clause-none_left : goal.returns-in_err-key-clause-none_left
+returns-in_err-key-clause-none_left c = subst (λ (k : Hosted). NothingLeft k.heaps.heap c.make_proxy.new.heaps.heap) c.self.view_is c.make_proxy.ensures.none_left

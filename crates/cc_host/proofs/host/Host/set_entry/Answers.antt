@@ -5,7 +5,7 @@ use Rattle.cc_host.specs.declared.stop.Stop.TheVariants.{NoMemory}
 use Rattle.cc_host.specs.Stops.{IsStoppedOrRefused, stop_entry, stop_map, stop_script, stop_setting}
 use Rattle.cc_host.proofs.Keeping.{change-keeps, tried-keeps}
 use Rattle.cc_host.proofs.Stopping.{at-first, at-second, or-passed, or-refused, or-stopped, passed, stopped}
-use Rattle.cc_heaps.specs.Leaving.{NoneCame}
+use Rattle.cc_heaps.specs.Leaving.{NoneCame, NothingLeft}
 use Rattle.cc_host.specs.Hosted.{Hosted}
 use Rattle.cc_host.proofs.host.Host.set_entry.Goals as goal
 
@@ -68,3 +68,9 @@ returns-clause-none_came c = subst (λ (k : Hosted). NoneCame k.heaps.heap c.set
 
 pub returns-in_err-set_entry-clause-none_came : goal.returns-in_err-set_entry-clause-none_came
 returns-in_err-set_entry-clause-none_came c = subst (λ (k : Hosted). NoneCame k.heaps.heap c.set_entry.new.heaps.heap) c.self.view_is c.set_entry.ensures.none_came
+
+pub returns-clause-none_left : goal.returns-clause-none_left
+returns-clause-none_left c = subst (λ (k : Hosted). NothingLeft k.heaps.heap c.set_entry.new.heaps.heap) c.self.view_is c.set_entry.ensures.none_left
+
+pub returns-in_err-set_entry-clause-none_left : goal.returns-in_err-set_entry-clause-none_left
+returns-in_err-set_entry-clause-none_left c = subst (λ (k : Hosted). NothingLeft k.heaps.heap c.set_entry.new.heaps.heap) c.self.view_is c.set_entry.ensures.none_left

@@ -1,6 +1,6 @@
 use Rattle.std.proofs.Common.{subst}
 use Rattle.cc_host.proofs.Keeping.{change-keeps}
-use Rattle.cc_heaps.specs.Leaving.{NoneCame}
+use Rattle.cc_heaps.specs.Leaving.{NoneCame, NothingLeft}
 use Rattle.cc_host.specs.Hosted.{Hosted}
 use Rattle.cc_host.proofs.host.Host.unset_entry.Goals as goal
 
@@ -10,3 +10,6 @@ invariant_of-self c =
 
 pub returns-clause-none_came : goal.returns-clause-none_came
 returns-clause-none_came c = subst (λ (k : Hosted). NoneCame k.heaps.heap c.unset_entry.new.heaps.heap) c.self.view_is c.unset_entry.ensures.none_came
+
+pub returns-clause-none_left : goal.returns-clause-none_left
+returns-clause-none_left c = subst (λ (k : Hosted). NothingLeft k.heaps.heap c.unset_entry.new.heaps.heap) c.self.view_is c.unset_entry.ensures.none_left
