@@ -18,6 +18,10 @@ progress-same (Ok Yes) s e = ap progress_of e
 progress-same (Ok No) s e = ap progress_of e
 progress-same (Err x) s e = ap progress_of e
 
+pub on_ok : {T E P Q : Type 0} (r : Result T E) → (P → Q) → OnOk r P → OnOk r Q
+on_ok (Ok x) f p = f p
+on_ok (Err e) f p = p
+
 -- what holds of one that went well
 pub went-well : {T : Type 0} (P : Type 0) (r : Result T NoMemory) (s : Result T Hindrance) → s ≡ hindered r → OnOk r P → OnOk s P
 went-well P (Ok x) s e p = subst (λ t. OnOk t P) (sym e) p

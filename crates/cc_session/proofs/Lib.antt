@@ -1,11 +1,8 @@
 pub mod Values
-pub mod Stopping
-pub mod Ways
-pub mod Grown
-pub mod Tables
+pub mod Booked
+pub mod Placing
 pub mod Room
 pub mod WholeTellings
 pub mod HasRoom
 pub mod Collecting
-pub mod Holding
-pub mod BroughtBack
+pub mod Quietly

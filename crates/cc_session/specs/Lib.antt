@@ -1,5 +1,5 @@
 pub mod Sessions
-pub mod Roots
+pub mod Booking
 pub mod Refusals
 pub use Rattle.cc_model.specs.Graph
 pub use Rattle.cc_model.specs.Heap

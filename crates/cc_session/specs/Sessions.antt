@@ -1,9 +1,11 @@
 -- WHAT A SESSION IS: a host, what was told and not fetched yet, and the session's own books.
-use Rattle.std.specs.Prelude.{◌≡◌, ◌≢◌, ℕ, ◌+◌, ◌≤◌, false, List, [], length, Option, None, Result, Ok, Err, slice_index_or}
+use Rattle.std.specs.Prelude.{◌≡◌, ◌≢◌, ℕ, ◌+◌, ◌≤◌, ◌<◌, false, List, [], length, Option, Some, None, IsSome, Result, Ok, Err, slice_index_or}
 use Rattle.cc_model.specs.declared.item.Item.{Item}
 use Rattle.cc_model.specs.End.{Progress, went_on, at_end, refused}
+use Rattle.cc_heaps.specs.Leaving.{NothingLeft}
 use Rattle.cc_host.specs.Hosted.{Hosted, IsKept}
 use Rattle.cc_host.specs.Queues.{Queued}
+use Rattle.cc_host.specs.Places.{IsFree, KeepsPlaces, held_at, places}
 use Rattle.cc_laws_told.specs.Told.{objects}
 use Rattle.cc_collector.specs.declared.collector.Ended.{Ended}
 use Rattle.cc_collector.specs.declared.collector.Ended.TheVariants.{Yes, No}
@@ -27,7 +29,7 @@ pub record State : Type 0 where
   pub steps : List Item
   pub books : Books
 
--- so many roots of each kind have a number; the native registers behind them are the tables of the other roots
+-- so many roots of each kind have a number; the registers behind them are for the other roots
 abbrev pub numbered : ℕ
 numbered = NUMBERED_ROOTS
 
@@ -45,16 +47,25 @@ pub record Enters (old new : Books) (index : ℕ) (serial : Option ℕ) : Type 0
   pub others : (other : ℕ) → other ≢ index → serial_at new other ≡ serial_at old other
   pub given : new.given ≡ old.given
 
--- WHAT A CALL LEAVES ALONE: the session's own books, and the steps that were told
+-- WHAT A CALL LEAVES ALONE: the session's own books, the steps that were told, and what roots without number hold
 pub record Aside (old new : State) : Type 0 where
   pub books : new.books ≡ old.books
   pub steps : new.steps ≡ old.steps
+  pub places : KeepsPlaces old.host.heaps.heap new.host.heaps.heap
 
--- and it tells nothing
+-- and it tells nothing, for nothing leaves
 pub record Quiet (old new : State) : Type 0 where
+  pub left : NothingLeft old.host.heaps.heap new.host.heaps.heap
   pub told : new.told ≡ old.told
   pub books : new.books ≡ old.books
   pub steps : new.steps ≡ old.steps
+  pub places : KeepsPlaces old.host.heaps.heap new.host.heaps.heap
+
+-- WHAT IS IN USE HOLDS SOMETHING at its place, and what is not holds nothing; no serial number is above the last
+pub record IsBooked (h : Hosted) (b : Books) : Type 0 where
+  pub held : (index serial : ℕ) → serial_at b index ≡ Some serial → (index < places) × IsSome (held_at h.heaps.heap index)
+  pub free : (index : ℕ) → index < places → serial_at b index ≡ None → IsFree h.heaps.heap index
+  pub serials : (index serial : ℕ) → serial_at b index ≡ Some serial → serial ≤ b.last
 
 -- Room for what is told
 

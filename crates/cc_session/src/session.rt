@@ -11,18 +11,17 @@ mod making;
 mod reading;
 mod referring;
 mod rooting;
-mod tables;
 mod writing;
 
 use crate::book::Book;
-use cc_host::{Host, Object, Queue};
+use cc_host::{Host, Object, Queue, ROOTS};
 use cc_model::Item;
 use cc_names::{Limits, NoMemory, RegNo};
 use std::alloc::Global;
 use std::marker::Model;
 
 /// How many roots of each kind have a number. They are counted from 0.
-pub const NUMBERED_ROOTS: RegNo = 128;
+pub const NUMBERED_ROOTS: RegNo = ROOTS;
 
 // The room for what can be told where no object is there: that two collections were given up, and one more.
 const LEAST_ROOM: usize = 3;
@@ -52,13 +51,13 @@ pub struct Session {
 
 impl Model for Session {
     ghost use Rattle.std.specs.Prelude.{◌≡◌, false};
-    ghost use Rattle.cc_session.specs.Sessions.{HasRoom, State};
+    ghost use Rattle.cc_session.specs.Sessions.{HasRoom, IsBooked, State};
 
     ghost Value = { State };
 
     ghost view = { λ s. record { host = s.host; told = s.told.items; steps = s.steps.items; books = s.book } };
 
-    ghost invariant = { λ s. HasRoom s.host s.told × (s.steps.broken ≡ false) };
+    ghost invariant = { λ s. HasRoom s.host s.told × (s.steps.broken ≡ false) × IsBooked s.host s.book };
 }
 
 impl Session {

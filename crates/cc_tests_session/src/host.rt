@@ -1,31 +1,39 @@
 //! A host in use: what no session and no program tries.
 use cc_collector::running_collections_go_on;
 use cc_counted::Held;
-use cc_host::{Host, Queue, Stop, calls_make_it_miss_nothing};
+use cc_host::{Host, Object, PLACES, Queue, Stop, calls_make_it_miss_nothing};
 use cc_model::{Event, Item, Notebook, Notices};
 use cc_names::{Limits, Name, NativeNo, SKey};
 use std::alloc::Global;
 use std::test::Fail;
 
-// A slot of what root 0 holds is written through the root, which makes it no suspect.
-fn uses_a_root(host: &mut Host, out: &mut Notebook) -> bool {
-    let made = host.new_native(0, 1, out).is_ok() & host.collect(out).is_ok();
-    made & host.store_at_root(0, 0, None, out).is_ok() & !host.has_suspects()
+// Behind the last place there is none.
+fn has_no_place(host: &mut Host, x: Object, out: &mut Notebook) -> bool {
+    let rooted = host.root_at(PLACES, x, out) == Err(Stop::Index);
+    let unrooted = host.unroot_at(PLACES, out) == Err(Stop::Index);
+    rooted & unrooted & host.at_place(PLACES).is_none()
 }
 
-fn stores_at_a_root(alloc: Global) -> bool {
+fn makes_one(host: &mut Host, out: &mut Notebook) -> bool {
+    match host.new_native(0, 256, out) {
+        Ok(x) => has_no_place(host, x, out),
+        Err(_) => false,
+    }
+}
+
+fn opens_and_has_no_place(alloc: Global) -> bool {
     let mut out = Notebook::new(alloc);
     match Host::new(alloc, Limits::new(1, 1, 0), 1) {
-        Ok(mut host) => uses_a_root(&mut host, &mut out),
+        Ok(mut host) => makes_one(&mut host, &mut out),
         Err(_) => false,
     }
 }
 
 #[test]
-fn store_at_a_root_makes_no_suspect(rt: HostRuntime) {
+fn there_is_no_place_behind_the_last(rt: HostRuntime) {
     running_collections_go_on();
     calls_make_it_miss_nothing();
-    assert!(rt; stores_at_a_root(rt.alloc()));
+    assert!(rt; opens_and_has_no_place(rt.alloc()));
 }
 
 const FREED: Item = Item::Event(Event::Freed(Name::Native(NativeNo(1))));

@@ -5,7 +5,7 @@
 use cc_collector::Ended;
 use cc_host::{Object, Stop, Weak};
 use cc_names::{Limits, Name, ScriptNo};
-use cc_session::Session;
+use cc_session::{Root, Session};
 use std::alloc::Global;
 
 // What a call made; where it made none, an object that never was, which every call refuses.
@@ -20,9 +20,9 @@ fn made(answer: Result<Object, Stop>) -> Object {
     }
 }
 
-// A native with as many slots as one of a program's may have, and a plain object.
+// A native with as many slots as one may have, and a plain object.
 fn make_two(s: &mut Session) -> (Object, Object) {
-    (made(s.new_native(0, 255)), made(s.new_plain(0, 1)))
+    (made(s.new_native(0, 256)), made(s.new_plain(0, 1)))
 }
 
 // A proxy of an object has that for its value in a weak map.
@@ -55,10 +55,10 @@ fn holds_often(s: &mut Session, x: Object) -> bool {
     held
 }
 
-// What roots hold stays when its numbered root is empty: 40 tables hold what they hold, and two above them hold these.
+// What roots hold stays when its numbered root is empty. The roots are no objects, so there is one native.
 fn stays(s: &mut Session) -> bool {
     let emptied = s.set_native_root(0, None).is_ok();
-    emptied & s.settle().is_ok() & (s.natives() == 43)
+    emptied & s.settle().is_ok() & (s.natives() == 1)
 }
 
 fn goes_well(s: &mut Session) -> bool {
@@ -68,7 +68,7 @@ fn goes_well(s: &mut Session) -> bool {
 }
 
 fn opens_and_goes_well(alloc: Global) -> bool {
-    match Session::new(alloc, Limits::new(50, 3, 0), 1) {
+    match Session::new(alloc, Limits::new(1, 3, 0), 1) {
         Ok(mut s) => goes_well(&mut s),
         Err(_) => false,
     }
@@ -77,6 +77,44 @@ fn opens_and_goes_well(alloc: Global) -> bool {
 #[test]
 fn each_call_that_takes_memory_goes_well(rt: HostRuntime) {
     assert!(rt; opens_and_goes_well(rt.alloc()));
+}
+
+// A root holds what it was given until it is released, and is refused from then on. The next one stands at its place.
+fn lets_go(s: &mut Session, x: Object, root: Root) -> bool {
+    let holds = s.held(root) == Ok(x);
+    let released = s.release(root).is_ok();
+    let refused = (s.held(root) == Err(Stop::Gone)) & (s.release(root) == Err(Stop::Gone));
+    holds & released & refused & takes_its_place(s, x, root)
+}
+
+fn takes_its_place(s: &mut Session, x: Object, root: Root) -> bool {
+    match s.root(x) {
+        Ok(next) => (next.index == root.index) & (next != root) & (s.held(next) == Ok(x)),
+        Err(_) => false,
+    }
+}
+
+fn holds_until_released(s: &mut Session, x: Object) -> bool {
+    match s.root(x) {
+        Ok(root) => lets_go(s, x, root),
+        Err(_) => false,
+    }
+}
+
+fn opens_and_lets_go(alloc: Global) -> bool {
+    match Session::new(alloc, Limits::new(1, 1, 0), 1) {
+        Ok(mut s) => {
+            let x = made(s.new_native(0, 1));
+            let y = made(s.new_plain(0, 1));
+            holds_until_released(&mut s, x) & holds_until_released(&mut s, y)
+        }
+        Err(_) => false,
+    }
+}
+
+#[test]
+fn a_root_holds_until_it_is_released(rt: HostRuntime) {
+    assert!(rt; opens_and_lets_go(rt.alloc()));
 }
 
 // A native that no root holds is brought back by a weak reference, into a numbered root and into one without number.
@@ -96,7 +134,7 @@ fn refers(s: &mut Session, x: Object) -> bool {
 }
 
 fn opens_and_refers(alloc: Global) -> bool {
-    match Session::new(alloc, Limits::new(10, 3, 0), 1) {
+    match Session::new(alloc, Limits::new(1, 3, 0), 1) {
         Ok(mut s) => {
             let x = made(s.new_native(0, 1));
             refers(&mut s, x)
@@ -120,7 +158,7 @@ fn ends(s: &mut Session, x: Object) -> bool {
 }
 
 fn opens_and_ends(alloc: Global) -> bool {
-    match Session::new(alloc, Limits::new(10, 3, 0), 1) {
+    match Session::new(alloc, Limits::new(1, 3, 0), 1) {
         Ok(mut s) => {
             let x = made(s.new_native(0, 1));
             ends(&mut s, x)

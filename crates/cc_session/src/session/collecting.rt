@@ -4,7 +4,7 @@ ghost use Rattle.cc_names.specs.declared.name.Name.{Name};
 ghost use Rattle.cc_model.specs.End.{at_end, refused};
 ghost use Rattle.cc_collector.specs.Collected.{IsCollected, IsMarkedOn, IsSliced, IsSwept};
 ghost use Rattle.cc_collector.specs.Settled.{HasWhatIsReached};
-ghost use Rattle.cc_host.specs.Calls.{Always, Collects, Does, Forgets};
+ghost use Rattle.cc_host.specs.Calls.{Always, Collects, Does, Forgets, NoneComes};
 ghost use Rattle.cc_host.specs.Hosted.{machine};
 ghost use Rattle.cc_host.specs.Missing.{CannotMiss, IsOfAGraph, Takes, TakesBySlice, TakesGarbage, TellsUnlinked, lost_in};
 ghost use Rattle.cc_host.specs.Queues.{told_all};
@@ -51,12 +51,13 @@ impl Session {
     }
 
     /// Forgets suspects that are alive, and answers how many: see `Host::forget`. It may be called at any time, tells nothing and
-    /// takes no memory.
+    /// takes no memory, and no object leaves or comes.
     #[tactic(auto, using(crate::proofs::HasRoom::after_nothing))]
     pub fn forget(&mut self) -> u32
         ensures does { Does Always (λ g. g) self.old.host self.new.host }
         ensures forgets { Forgets self.old.host self.new.host result }
         ensures quiet { Quiet self.old self.new }
+        ensures none_came { NoneComes self.old.host self.new.host }
     {
         let marks = self.host.forget();
         self.host.keeps();
@@ -71,7 +72,8 @@ impl Session {
         ensures unfetched { result ≡ Err Hindrance.Unfetched → IsUnfetched self.old self.new }
         ensures collects { result ≢ Err Hindrance.Unfetched → Collects self.old.host self.new.host (told_all self.old.told) (told_all self.new.told) }
         ensures sliced { result ≢ Err Hindrance.Unfetched →
-            (steps : ℕ) × IsSliced units (machine self.old.host) (machine self.new.host) (progress_of result) 0 steps (told_all self.old.told) (told_all self.new.told) }
+            (steps : ℕ) × IsSliced units (machine self.old.host) (machine self.new.host) (progress_of result) 0 steps
+            (told_all self.old.told) (told_all self.new.told) }
         ensures over { result ≢ Err Hindrance.Unfetched → result ≢ Ok Ended.No → self.new.host.running ≡ None }
         ensures unmarked { result ≢ Err Hindrance.Unfetched → self.new.host.marking ≡ false }
         ensures aside { Aside self.old self.new }
@@ -98,13 +100,17 @@ impl Session {
         ensures unfetched { result ≡ Err Hindrance.Unfetched → IsUnfetched self.old self.new }
         ensures collects { result ≢ Err Hindrance.Unfetched → Collects self.old.host self.new.host (told_all self.old.told) (told_all self.new.told) }
         ensures done { OnOk result (IsCollected (machine self.old.host) (machine self.new.host) at_end (told_all self.old.told) (told_all self.new.told)) }
-        ensures refused { result ≡ Err Hindrance.NoMemory → IsCollected (machine self.old.host) (machine self.new.host) refused (told_all self.old.told) (told_all self.new.told) }
+        ensures refused { result ≡ Err Hindrance.NoMemory → IsCollected (machine self.old.host) (machine self.new.host) refused
+            (told_all self.old.told) (told_all self.new.told) }
         ensures over { result ≢ Err Hindrance.Unfetched → self.new.host.running ≡ None }
         ensures unmarked { result ≢ Err Hindrance.Unfetched → self.new.host.marking ≡ false }
         ensures aside { Aside self.old self.new }
-        ensures takes { result ≢ Err Hindrance.Unfetched → (ds : List Name) → CannotMiss self.old.host ds → Takes ds (told_all self.old.told) (told_all self.new.told) }
-        ensures takes_if_done { OnOk result ((ds : List Name) → CannotMiss self.old.host ds → TellsUnlinked ds (told_all self.old.told) (told_all self.new.told)) }
-        ensures begins { OnOk result (IsOfAGraph self.old.host → TakesGarbage self.old.host → TellsUnlinked (lost_in self.old.host) (told_all self.old.told) (told_all self.new.told)) }
+        ensures takes { result ≢ Err Hindrance.Unfetched → (ds : List Name) → CannotMiss self.old.host ds →
+            Takes ds (told_all self.old.told) (told_all self.new.told) }
+        ensures takes_if_done { OnOk result ((ds : List Name) → CannotMiss self.old.host ds →
+            TellsUnlinked ds (told_all self.old.told) (told_all self.new.told)) }
+        ensures begins { OnOk result (IsOfAGraph self.old.host → TakesGarbage self.old.host →
+            TellsUnlinked (lost_in self.old.host) (told_all self.old.told) (told_all self.new.told)) }
     {
         let most = self.most_told();
         let Ok(()) = self.told.reserve(most) else {
@@ -180,7 +186,8 @@ impl Session {
         ensures over { result ≢ Err Hindrance.Unfetched → self.new.host.running ≡ None }
         ensures unmarked { result ≢ Err Hindrance.Unfetched → self.new.host.marking ≡ false }
         ensures aside { Aside self.old self.new }
-        ensures takes { result ≢ Err Hindrance.Unfetched → (ds : List Name) → CannotMiss self.old.host ds → Takes ds (told_all self.old.told) (told_all self.new.told) }
+        ensures takes { result ≢ Err Hindrance.Unfetched → (ds : List Name) → CannotMiss self.old.host ds →
+            Takes ds (told_all self.old.told) (told_all self.new.told) }
     {
         let most = self.most_told();
         let Ok(()) = self.told.reserve(most) else {

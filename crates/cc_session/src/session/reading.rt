@@ -10,7 +10,7 @@ ghost use Rattle.cc_host.specs.Hosted.{IsThereIfAny, named, slots_of};
 ghost use Rattle.cc_host.specs.Stops.{IsStoppedBy, IsStoppedOrRefused, stop_at, stop_entry, stop_reading, stop_script};
 ghost use Rattle.cc_session.specs.Sessions.{numbered};
 
-use crate::session::{NUMBERED_ROOTS, Session};
+use crate::session::Session;
 use cc_host::{Object, Queue, Stop};
 use cc_names::{Kind, RegNo, SlotNo};
 
@@ -21,9 +21,6 @@ impl Session {
         ensures none { numbered ≤ r → result ≡ None }
         ensures there { IsThereIfAny self.now.host result }
     {
-        if r >= NUMBERED_ROOTS {
-            return None;
-        }
         self.host.native_root(r)
     }
 
@@ -33,9 +30,6 @@ impl Session {
         ensures none { numbered ≤ r → result ≡ None }
         ensures there { IsThereIfAny self.now.host result }
     {
-        if r >= NUMBERED_ROOTS {
-            return None;
-        }
         self.host.script_root(r)
     }
 
@@ -82,7 +76,7 @@ impl Session {
         self.host.entry(the_map, key)
     }
 
-    /// How many natives there are, the tables of roots among them. It takes the same time however many.
+    /// How many natives there are. It takes the same time however many.
     pub fn natives(&self) -> usize
         ensures { result ≡ length self.now.host.heaps.heap.natives }
     {

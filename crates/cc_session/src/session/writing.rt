@@ -6,16 +6,16 @@ ghost use Rattle.cc_model.specs.Checks.{reflector_of};
 ghost use Rattle.cc_model.specs.Graph as graph;
 ghost use Rattle.cc_heaps.specs.Changes.{slot_held};
 ghost use Rattle.cc_heaps.specs.Standing.{IsReachedOrReflects};
-ghost use Rattle.cc_host.specs.Calls.{Does, TellsFreed, Tries, stored};
+ghost use Rattle.cc_host.specs.Calls.{Comes, Does, NoneComes, TellsFreed, Tries, stored};
 ghost use Rattle.cc_host.specs.Hosted.{IsRooted, IsRootedIfAny, IsThere, named};
 ghost use Rattle.cc_host.specs.Queues.{told_all};
-ghost use Rattle.cc_host.specs.Stops.{IsStoppedBy, IsStoppedOrRefused, stop_native, stop_reflector, stop_script};
+ghost use Rattle.cc_host.specs.Stops.{IsStoppedBy, IsStoppedOrRefused, stop_moving, stop_native, stop_reflector, stop_rooting, stop_script, stop_storing};
 ghost use Rattle.cc_session.specs.Sessions.{Aside, Quiet, data_at};
-ghost use Rattle.cc_session.specs.Refusals.{IsStoppedOrWants, stop_moved, stop_numbered, stop_stored, stop_table};
+ghost use Rattle.cc_session.specs.Refusals.{IsStoppedOrWants};
 
-use crate::session::{NUMBERED_ROOTS, Session, with_one_more};
+use crate::session::{Session, with_one_more};
 use cc_host::{Object, Stop};
-use cc_names::{MOST_SLOTS, Name, RegNo, SlotNo};
+use cc_names::{Name, RegNo, SlotNo};
 
 impl Session {
     /// Numbered native root `r` holds a native from then on, or nothing.
@@ -23,58 +23,44 @@ impl Session {
     /// What it held is given up, and what then has no reference is deleted and told. Takes no memory.
     #[tactic(auto, using(crate::proofs::HasRoom::after_freeing, crate::proofs::HasRoom::told_freed))]
     pub fn set_native_root(&mut self, r: RegNo, x: Option<Object>) -> Result<(), Stop>
-        ensures stops { IsStoppedBy (stop_numbered stop_native self.old.host r x) result }
+        ensures stops { IsStoppedBy (stop_rooting stop_native self.old.host r x) result }
         ensures does { OnOk result (Does (IsRootedIfAny self.old.host x) (λ g. graph.set_register g (n_register r) (named x)) self.old.host self.new.host) }
         ensures same { OnErr result (self.new ≡ self.old) }
         ensures tells { TellsFreed self.old.host self.new.host (told_all self.old.told) (told_all self.new.told) }
         ensures aside { Aside self.old self.new }
+        ensures none_came { NoneComes self.old.host self.new.host }
     {
-        if r >= NUMBERED_ROOTS {
-            return Err(Stop::Index);
-        }
         let done = self.host.set_native_root(r, x, &mut self.told);
         self.told.keeps();
         self.host.keeps();
         done
     }
 
-    /// Numbered script root `r` holds a script object from then on, or nothing. Takes no memory.
+    /// Numbered script root `r` holds a script object from then on, or nothing. No object leaves or comes by it. Takes no memory.
     #[tactic(auto, using(crate::proofs::HasRoom::after_nothing))]
     pub fn set_script_root(&mut self, r: RegNo, x: Option<Object>) -> Result<(), Stop>
-        ensures stops { IsStoppedBy (stop_numbered stop_script self.old.host r x) result }
-        ensures does { OnOk result (Does (IsReachedOrReflects self.old.host.heaps.heap (named x)) (λ g. graph.set_register g (s_register r) (named x)) self.old.host self.new.host) }
+        ensures stops { IsStoppedBy (stop_rooting stop_script self.old.host r x) result }
+        ensures does { OnOk result (Does (IsReachedOrReflects self.old.host.heaps.heap (named x))
+            (λ g. graph.set_register g (s_register r) (named x)) self.old.host self.new.host) }
         ensures same { OnErr result (self.new ≡ self.old) }
         ensures quiet { Quiet self.old self.new }
+        ensures none_came { NoneComes self.old.host self.new.host }
     {
-        if r >= NUMBERED_ROOTS {
-            return Err(Stop::Index);
-        }
         let done = self.host.set_script_root(r, x);
         self.host.keeps();
         done
     }
 
-    // An object that is there, and no table of roots.
-    fn look(&self, x: Object) -> Result<(), Stop>
-        ensures { IsStoppedBy (stop_table self.now.host x) result }
-    {
-        let slots = self.host.slots(x)?;
-        match x.name {
-            Name::Native(_) if slots == MOST_SLOTS => Err(Stop::Gone),
-            Name::Native(_) | Name::Script(_) | Name::Reflector(_) => Ok(()),
-        }
-    }
-
     /// Slot `i` of an object, counted from 0, holds another object from then on, or nothing: see `Host::store`. Takes no memory.
     #[tactic(auto, using(crate::proofs::HasRoom::after_freeing, crate::proofs::HasRoom::told_freed))]
     pub fn store(&mut self, x: Object, i: SlotNo, y: Option<Object>) -> Result<(), Stop>
-        ensures stops { IsStoppedBy (stop_stored self.old.host x i y) result }
+        ensures stops { IsStoppedBy (stop_storing self.old.host x i y) result }
         ensures does { OnOk result (Does (IsRooted self.old.host x × IsRootedIfAny self.old.host y) (stored x i (named y)) self.old.host self.new.host) }
         ensures same { OnErr result (self.new ≡ self.old) }
         ensures tells { TellsFreed self.old.host self.new.host (told_all self.old.told) (told_all self.new.told) }
         ensures aside { Aside self.old self.new }
+        ensures none_came { NoneComes self.old.host self.new.host }
     {
-        self.look(x)?;
         let done = self.host.store(x, i, y, &mut self.told);
         self.told.keeps();
         self.host.keeps();
@@ -85,15 +71,15 @@ impl Session {
     /// then: see `Host::move_slot`. Takes no memory.
     #[tactic(auto, using(crate::proofs::HasRoom::after_freeing, crate::proofs::HasRoom::told_freed))]
     pub fn move_slot(&mut self, to: Object, i: SlotNo, from: Object, j: SlotNo) -> Result<(), Stop>
-        ensures stops { IsStoppedBy (stop_moved self.old.host to i from j) result }
+        ensures stops { IsStoppedBy (stop_moving self.old.host to i from j) result }
         ensures does { OnOk result (Does (IsRooted self.old.host to × IsRooted self.old.host from)
-            (λ g. graph.move_slot g (Some to.name) i (Some from.name) j (slot_held self.old.host.heaps.heap (number_of from.name) j)) self.old.host self.new.host) }
+            (λ g. graph.move_slot g (Some to.name) i (Some from.name) j (slot_held self.old.host.heaps.heap (number_of from.name) j))
+            self.old.host self.new.host) }
         ensures same { OnErr result (self.new ≡ self.old) }
         ensures tells { TellsFreed self.old.host self.new.host (told_all self.old.told) (told_all self.new.told) }
         ensures aside { Aside self.old self.new }
+        ensures none_came { NoneComes self.old.host self.new.host }
     {
-        self.look(to)?;
-        self.look(from)?;
         let done = self.host.move_slot(to, i, from, j, &mut self.told);
         self.told.keeps();
         self.host.keeps();
@@ -103,16 +89,22 @@ impl Session {
     /// The reflector of a native, for script: see `Host::wrap`. Put it into a root, or into a slot, for by itself it is held by
     /// nothing.
     ///
-    /// `NoMemory` leaves the graph as it is (`tried`).
+    /// `NoMemory` leaves the graph as it is (`tried`): it may be room for what can be told that is wanted, so it comes also where the
+    /// native has a reflector. Each other refusal changes nothing at all (`same`).
     #[tactic(auto, using(cc_host::proofs::KeptDoomed::still_doomed))]
     pub fn wrap(&mut self, x: Object) -> Result<Object, Stop>
         ensures stops { IsStoppedOrWants (stop_native self.old.host x) result }
         ensures does { OnOk result (Does (IsRooted self.old.host x) (λ g. graph.wrapped g (Some x.name)) self.old.host self.new.host) }
         ensures there { IfOk result (λ y. IsThere self.new.host y) }
         ensures name { IfOk result (λ y. Some y.name ≡ reflector_of (Some x.name)) }
+        // each other cause changes nothing
+        ensures same { (s : Stop) → result ≡ Err s → s ≢ Stop.NoMemory → self.new ≡ self.old }
         ensures tried { OnErr result (Tries (IsRooted self.old.host x) self.old.host self.new.host) }
         ensures tells { TellsFreed self.old.host self.new.host (told_all self.old.told) (told_all self.new.told) }
         ensures aside { Aside self.old self.new }
+        // no object comes but that reflector
+        ensures came { IfOk result (λ y. Comes y.name self.old.host self.new.host) }
+        ensures none_came { OnErr result (NoneComes self.old.host self.new.host) }
     {
         let room = with_one_more(self.most_told())?;
         self.told.reserve(room)?;
@@ -122,13 +114,14 @@ impl Session {
         made
     }
 
-    /// A reflector is preserved from then on: its native holds it. Takes no memory.
+    /// A reflector is preserved from then on: its native holds it. No object leaves or comes by it. Takes no memory.
     #[tactic(auto, using(crate::proofs::HasRoom::after_nothing))]
     pub fn preserve(&mut self, x: Object) -> Result<(), Stop>
         ensures stops { IsStoppedBy (stop_reflector self.old.host x) result }
         ensures does { OnOk result (Does (IsRooted self.old.host x) (λ g. graph.preserve g (Some x.name)) self.old.host self.new.host) }
         ensures same { OnErr result (self.new ≡ self.old) }
         ensures quiet { Quiet self.old self.new }
+        ensures none_came { NoneComes self.old.host self.new.host }
     {
         let done = self.host.preserve(x);
         self.host.keeps();

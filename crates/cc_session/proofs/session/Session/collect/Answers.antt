@@ -2,7 +2,7 @@ use Rattle.std.proofs.Common.{arith, ap, subst, sym}
 use Rattle.cc_host.specs.Calls.{Collects}
 use Rattle.cc_host.specs.Queues.{telling_of, told_all}
 use Rattle.cc_session.specs.Sessions.{State, most_told}
-use Rattle.cc_session.proofs.Collecting.{IsKeptWhole, kept-whole, wanted, went-well}
+use Rattle.cc_session.proofs.Collecting.{IsKeptWhole, kept-whole, on_ok, wanted, went-well}
 use Rattle.cc_model.specs.End.{at_end, refused}
 use Rattle.cc_names.specs.declared.name.Name.{Name}
 use Rattle.std.proofs.Common.{List}
@@ -10,7 +10,7 @@ use Rattle.cc_collector.specs.Collected.{IsCollected}
 use Rattle.cc_host.specs.Hosted.{machine}
 use Rattle.cc_host.specs.Missing.{CannotMiss, IsOfAGraph, Takes, TakesGarbage, TellsUnlinked, lost_in}
 use Rattle.cc_session.proofs.WholeTellings.{collected-whole, collects-whole, takes-whole, unlinked-whole}
-use Rattle.cc_session.proofs.Tables.{on_ok}
+use Rattle.cc_session.proofs.Booked.{booked-kept}
 use Rattle.cc_session.proofs.session.Session.collect.Goals as goal
 
 pub invariant_of-self-2 : goal.invariant_of-self-2
@@ -23,7 +23,7 @@ invariant_of-self-2 c =
     let most = ap (λ (s : State). most_told s.host) c.self.view_is in
     let w : IsKeptWhole d.new.self o q d.new.out = kept-whole h d.new.self o q d.new.out c.self.invariant.0 r.items r.broken
     (omega (arith, c.in-Ok.ensures.ok c.self.invariant.0.whole, c.most_told-most.ensures, most)) c.keeps-2.ensures c.keeps.ensures _ (omega arith) d.ensures.few in
-    (w.room, c.self.invariant.1)
+    (w.room, c.self.invariant.1, booked-kept c.self.inside.host d.new.self c.self.inside.book d.ensures.places c.self.invariant.2)
 
 pub returns-clause-collects : goal.returns-clause-collects
 returns-clause-collects c _ =

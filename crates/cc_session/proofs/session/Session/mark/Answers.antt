@@ -7,6 +7,7 @@ use Rattle.cc_collector.specs.Collected.{IsMarkedOn}
 use Rattle.cc_host.specs.Hosted.{machine}
 use Rattle.cc_host.specs.Missing.{CannotMiss, Takes}
 use Rattle.cc_session.proofs.WholeTellings.{collects-whole, marked-whole, takes-whole}
+use Rattle.cc_session.proofs.Booked.{booked-kept}
 use Rattle.cc_session.proofs.session.Session.mark.Goals as goal
 
 pub invariant_of-self-2 : goal.invariant_of-self-2
@@ -19,7 +20,7 @@ invariant_of-self-2 c =
     let most = ap (λ (s : State). most_told s.host) c.self.view_is in
     let w : IsKeptWhole d.new.self o q d.new.out = kept-whole h d.new.self o q d.new.out c.self.invariant.0 r.items r.broken
     (omega (arith, c.in-Ok.ensures.ok c.self.invariant.0.whole, c.most_told-most.ensures, most)) c.keeps-2.ensures c.keeps.ensures _ (omega arith) d.ensures.few in
-    (w.room, c.self.invariant.1)
+    (w.room, c.self.invariant.1, booked-kept c.self.inside.host d.new.self c.self.inside.book d.ensures.places c.self.invariant.2)
 
 pub returns-clause-collects : goal.returns-clause-collects
 returns-clause-collects c =

@@ -1,6 +1,10 @@
-use Rattle.std.proofs.Common.{arith, ap}
+use Rattle.std.proofs.Common.{arith, ap, subst}
 use Rattle.cc_session.specs.Sessions.{State, most_told}
 use Rattle.cc_session.proofs.HasRoom.{after_making, HasRoom-reserved}
+use Rattle.cc_session.proofs.Booked.{booked-kept}
+use Rattle.cc_host.specs.Stops.{IsStoppedOrRefused, stop_proxy}
+use Rattle.cc_session.proofs.Placing.{stopped-wants}
+use Rattle.cc_session.proofs.Quietly.{none-comes-refused, one-comes, quietly-told}
 use Rattle.cc_session.proofs.session.Session.new_proxy.Goals as goal
 
 pub invariant_of-self-2 : goal.invariant_of-self-2
@@ -11,4 +15,17 @@ invariant_of-self-2 c =
     let most = ap (λ (s : State). most_told s.host) c.self.view_is in
     let room = HasRoom-reserved h c.self.inside.told c.reserve.new.self c.self.invariant.0 q.items q.broken
     (omega (arith, q.ok c.self.invariant.0.whole, c.in_ok-room.ensures, c.most_told.ensures, most)) in
-    (after_making d.result h d.new.self c.reserve.new.self c.keeps.ensures room d.ensures.came d.ensures.none_came, c.self.invariant.1)
+    (after_making d.result h d.new.self c.reserve.new.self c.keeps.ensures room d.ensures.came d.ensures.none_came, c.self.invariant.1, booked-kept c.self.inside.host d.new.self c.self.inside.book d.ensures.places c.self.invariant.2)
+
+pub returns-clause-stops : goal.returns-clause-stops
+returns-clause-stops c = stopped-wants (stop_proxy c.args.self.now.host c.args.delegate c.args.r) c.new_proxy-made.result
+    (subst (λ (s : State). IsStoppedOrRefused (stop_proxy s.host c.args.delegate c.args.r) c.new_proxy-made.result) c.self.view_is c.new_proxy-made.ensures.stops)
+
+pub returns-clause-quiet : goal.returns-clause-quiet
+returns-clause-quiet c = quietly-told _ _ c.new_proxy-made.new.self c.self.view_is c.reserve.new.self.items c.in_ok-reserve.ensures.items c.new_proxy-made.ensures.none_left c.new_proxy-made.ensures.places
+
+pub returns-clause-came : goal.returns-clause-came
+returns-clause-came c = one-comes _ _ c.new_proxy-made.new.self c.self.view_is c.new_proxy-made.result c.new_proxy-made.ensures.came
+
+pub returns-clause-none_came : goal.returns-clause-none_came
+returns-clause-none_came c = none-comes-refused _ _ c.new_proxy-made.new.self c.self.view_is c.new_proxy-made.result c.new_proxy-made.ensures.none_came

@@ -1,25 +1,43 @@
-use Rattle.std.proofs.Common.{ℕ, sym, subst}
-use Rattle.cc_heaps.specs.Leaving.{TellsWhatIsFreed}
+use Rattle.std.proofs.Common.{subst, sym, arith, ap, inl, refl, Err, length, ◌∙◌}
 use Rattle.cc_heaps.proofs.Leaving.{nothing-told}
-use Rattle.cc_host.specs.Calls.{Always, Does}
+use Rattle.cc_heaps.specs.Leaving.{TellsWhatIsFreed}
+use Rattle.cc_host.specs.Calls.{NoneComes, TellsFreed}
 use Rattle.cc_host.specs.Queues.{told_all}
-use Rattle.cc_session.specs.Roots.{some_tables}
 use Rattle.cc_session.specs.Sessions.{State}
-use Rattle.cc_session.proofs.Grown.{nothing-done}
-use Rattle.cc_session.proofs.Tables.{on_err_of}
+use Rattle.cc_session.proofs.HasRoom.{after_freeing, told_freed}
+use Rattle.cc_session.proofs.Booked.{booked-entered}
+use Rattle.cc_session.proofs.Placing.{full-no_memory, no-place, passed, placed-within}
 use Rattle.cc_session.proofs.session.Session.root.Goals as goal
-
-pub returns-in_err-slots-clause-tried : goal.returns-in_err-slots-clause-tried
-returns-in_err-slots-clause-tried c = on_err_of c.from_residual.result (0, 0, nothing-done c.args.self.now.host)
-
-pub returns-in_err-index-clause-tried : goal.returns-in_err-index-clause-tried
-returns-in_err-index-clause-tried c =
-    let h = c.args.self.now.host in
-    on_err_of c.from_residual-in_err-index.result
-    (subst (λ (s : State). (n : ℕ) × (index : ℕ) × Does Always (some_tables n index) h s.host) (sym c.self.view_is) (0, 0, nothing-done h))
 
 pub returns-in_err-index-clause-tells : goal.returns-in_err-index-clause-tells
 returns-in_err-index-clause-tells c =
-    let s = c.args.self.now in
-    subst (λ (t : State). TellsWhatIsFreed s.host.heaps.heap t.host.heaps.heap (told_all s.told) (told_all t.told)) (sym c.self.view_is)
-    (nothing-told s.host.heaps.heap s.host.heaps.heap (told_all s.told) (λ x i. i))
+    let h = c.self.inside.host.heaps.heap in
+    let told = told_all c.self.inside.told.items in
+    subst (λ (s : State). TellsWhatIsFreed s.host.heaps.heap h (told_all s.told) told) c.self.view_is (nothing-told h h told (λ x i. i))
+
+pub returns-in-Err-clause-full : goal.returns-in-Err-clause-full
+returns-in-Err-clause-full c full =
+    let past = no-place c.self.inside.host c.in_ok-index.index c.args.x c.root_at-done.result c.in-Err.stop (passed _ _ c.in_ok-slots.ensures.stops) c.root_at-done.ensures.stops c.in-Err.is
+    (λ e. full-no_memory (Err c.without_place.result) c.without_place.result refl full (c.without_place.ensures.full e)) in
+    inl (omega (arith, past, c.in_ok-index.ensures.place, ap (λ (s : State). length s.books.roots) c.self.view_is))
+
+pub invariant_of-self-2 : goal.invariant_of-self-2
+invariant_of-self-2 c =
+    let d = c.root_at-done in
+    let h = c.self.inside.host in (
+      after_freeing h d.new.self c.self.inside.told c.keeps-2.ensures d.ensures.none_came c.self.invariant.0 d.new.out c.keeps.ensures d.ensures.tells,
+      c.self.invariant.1,
+      booked-entered h d.new.self c.self.inside.book c.enter.new.self c.in_ok-index.index c.in_ok-index.serial c.args.x.name
+          (placed-within h c.in_ok-index.index c.args.x _ c.in_default.ensures.stops (passed _ _ c.in_ok-slots.ensures.stops)) c.self.invariant.2
+          c.in_ok-index.ensures.free c.in_ok-index.ensures.entered c.in_ok-index.ensures.serial
+          (c.in_ok-index.ensures.last ∙ sym c.in_ok-index.ensures.serial) c.in_default.ensures.takes,
+    )
+
+pub returns-clause-none_came : goal.returns-clause-none_came
+returns-clause-none_came c = subst (λ (s : State). NoneComes s.host c.root_at-done.new.self) c.self.view_is c.root_at-done.ensures.none_came
+
+pub returns-clause-tells : goal.returns-clause-tells
+returns-clause-tells c =
+    let d = c.root_at-done in
+    subst (λ (s : State). TellsFreed s.host d.new.self (told_all s.told) (told_all d.new.out.items)) c.self.view_is
+    (told_freed c.self.inside.host d.new.self c.self.inside.told c.keeps-2.ensures d.ensures.none_came c.self.invariant.0 d.new.out c.keeps.ensures d.ensures.tells)

@@ -1,7 +1,16 @@
 use Rattle.cc_session.proofs.HasRoom.{after_freeing}
+use Rattle.cc_session.proofs.Booked.{booked-kept}
+use Rattle.cc_session.proofs.Quietly.{none-comes}
 use Rattle.cc_session.proofs.session.Session.set_native_root.Goals as goal
 
 pub invariant_of-self : goal.invariant_of-self
 invariant_of-self c =
     let d = c.set_native_root-done in
-    (after_freeing c.self.inside.host d.new.self c.self.inside.told c.keeps-2.ensures d.ensures.none_came c.self.invariant.0 d.new.out c.keeps.ensures d.ensures.tells, c.self.invariant.1)
+    let h = c.self.inside.host in (
+      after_freeing h d.new.self c.self.inside.told c.keeps-2.ensures d.ensures.none_came c.self.invariant.0 d.new.out c.keeps.ensures d.ensures.tells,
+      c.self.invariant.1,
+      booked-kept h d.new.self c.self.inside.book d.ensures.places c.self.invariant.2,
+    )
+
+pub returns-clause-none_came : goal.returns-clause-none_came
+returns-clause-none_came c = none-comes _ _ c.set_native_root-done.new.self c.self.view_is c.set_native_root-done.ensures.none_came

@@ -1,0 +1,13 @@
+use Rattle.std.proofs.Common.{None, ◌∙◌, ap, is_some, slice_set, subst, sym}
+use Rattle.cc_session.specs.Sessions.{Books, Enters, serial_at}
+use Rattle.cc_session.specs.declared.book.Place.TheVariants.{Free}
+use Rattle.cc_session.proofs.Booked.{books, enters-written, in-use-there}
+use Rattle.cc_session.proofs.book.Book.leave.Goals as goal
+
+pub returns-then-is_some-clause-left : goal.returns-then-is_some-clause-left
+returns-then-is_some-clause-left c =
+    let b = c.self.inside in
+    let i = c.args.index in
+    let there = in-use-there b.roots.items i (c.if-is_some.ensures ∙ ap is_some (c.serial.ensures ∙ sym (ap (λ (x : Books). serial_at x i) c.self.view_is))) in
+    subst (λ (old : Books). Enters old (books b.given.items (slice_set b.roots.items i (Free b.next)) b.last) i None) c.self.view_is
+    (enters-written b.given.items b.roots.items b.last b.last i (Free b.next) there)
