@@ -2,29 +2,41 @@
  *
  * The library is proved: what a call makes of the objects, what it answers, and that a collection takes nothing that a root
  * reaches, are contracts of its Rattle source (crates/cc_c, crates/cc_session, crates/cc_host). They hold for every argument,
- * also for one that is stale, of another collector or made up, as long as the program keeps to what follows.
+ * also for one that is stale, of another collector or made up, as long as the program keeps to what follows. For C++ ccollect.hpp
+ * has types that own what they hold.
+ *
+ * VERSION. CC_VERSION says which interface this is: 10000 for 1.0.0. No struct gets, loses or moves a field, no number changes its
+ * meaning and no call its arguments, unless it changes too. A program is linked with a library of the one that it was compiled
+ * with.
  *
  * WHAT C OWES, which nothing proves.
  * - A `cc_collector` is the program's memory, two words. All zeros is a closed one (CC_COLLECTOR_CLOSED). From cc_open to cc_close
- *   the library owns what it points to: it is not written, copied or freed by the program. What is not closed is leaked.
- * - Every pointer that is handed in is valid, aligned and not null; it is read or written during the call alone. No two
- *   pointers of one call overlap, and none points into the collector.
+ *   the library owns what it points to: it is not written, copied or freed by the program. It may move: it is copied to another
+ *   place, and what was left behind gets zeros before any other call. What is not closed is leaked.
+ * - Every pointer that is handed in is valid, aligned and not null; it is read or written during the call alone. What a call
+ *   writes overlaps nothing else that it is handed, and no pointer points into the collector. Two const pointers may be one.
  * - One collector is used by one thread at a time, and on the thread that opened it. No call comes from a signal handler. The
  *   library calls nothing of the program: what happened is fetched by cc_next_told. Several collectors are independent.
- * - Memory is malloc's, by way of rattle_alloc, rattle_realloc and rattle_dealloc: ccollect_heap.c has them, and a program with
- *   an allocator of its own writes its own three.
+ * - ccollect_heap.c is in the program, once. It has cc_open, cc_status_text, and the three functions by which the library has
+ *   memory, over malloc: rattle_alloc, rattle_realloc and rattle_dealloc. A program with an allocator of its own writes its own
+ *   three, and compiles that file with CC_OWN_MEMORY defined, which leaves its three out.
+ *
+ * MARKS. Each collector has a mark, and each object, root and weak reference has that of its collector: so a call knows what is of
+ * another one (CC_FOREIGN). cc_open draws a mark that none had before, from 1 on, on whatever thread. So no two collectors of a
+ * process ever have the same, and what was kept of one that is closed is CC_FOREIGN to each other one, for ever.
  *
  * OBJECTS. A `cc_object` names an object for good; it may be kept for ever, and keeping it keeps nothing alive. Once the object
  * was told as freed or unlinked each call that it is handed to answers CC_GONE, whatever stands in its place by then; only a
- * reflector that was made anew for the same native may stand for the one before. One whose kind is CC_NOTHING is no object: so a root or a slot is
- * emptied, and so an empty one is answered. Where an object must be it is CC_FOREIGN or CC_GONE, by its mark. Numbers count
- * from 1, in two numberings (natives; plain objects, weak maps and proxies); a reflector has the number of its native. No
- * number is used twice.
+ * reflector that was made anew for the same native may stand for the one before. One whose kind is CC_NOTHING is no object: so a
+ * root or a slot is emptied, and so an empty one is answered. Where an object must be it is CC_KIND, whatever its mark, and so is
+ * one of a kind that there is not. Numbers count from 1, in two numberings (natives; plain objects, weak maps and proxies); a
+ * reflector has the number of its native. No number is used twice.
  *
- * ROOTS. What no root reaches is garbage. 128 roots of natives and 128 of script objects have numbers, from 0: what is made
- * stands in one of them. Beside them cc_hold keeps any object until cc_release, as many as wanted; a cc_root that was released is
- * refused (CC_GONE) for ever. They stand in tables, which are natives of the library's own, one for 255 roots and a few above
- * them: a table takes a number, counts for cc_open's limit and among cc_natives, and stays.
+ * ROOTS. What no root reaches is garbage. 1023 roots of natives and 1023 of script objects have numbers, from 0: what is made
+ * stands in one of them. Beside them cc_hold keeps any object until cc_release, some thousand million at a time. A cc_root that is
+ * in use always holds what it was given, and one that was released is refused (CC_GONE) for ever. Such a root is no object, and
+ * counts for no limit. It has a place, `index`, which another one gets once it is released. Natives and script objects have a bank
+ * of places each, up to the last one that ever held such an object; a place is 8 bytes, and a bank does not shrink.
  *
  * WEAK REFERENCES. A `cc_weak` is of a native and keeps nothing alive; it may be kept for ever, and costs the library nothing.
  * Until its native is told as unlinked or freed it can be brought back by cc_upgrade, with all that it holds, whether a root
@@ -38,42 +50,53 @@
  * Only what collections unlink again and again can outrun it: one that finds no room beside what waits does nothing, and answers
  * CC_UNFETCHED. Fetch, and call again; where nothing waits that is never the answer.
  *
- * SLICES. Call cc_gc, and then cc_slice for some units in each frame. What no root reached when the first of them began the
+ * SLICES. A collection is a begin, a unit for each object that it looks at, and an end. A unit takes time by one object; but the
+ * begin, a unit, goes over the suspects, the natives that hold script objects, and the entries of weak maps; and the end, a unit
+ * too, goes over all that was looked at, and unlinks and frees what is dead in one piece. No count of units divides these two.
+ * Call cc_gc, and then cc_slice for some units in each frame. What no root reached when the first of them began the
  * collection is told as unlinked at its end, each native of it, whatever calls come between the slices; the next cc_gc frees it.
  * So it is unless the collection is abandoned, or a call between was handed an object that no root reached any more. cc_forget
  * between cc_gc and the first slice changes nothing of this, and spares the collection suspects that are alive.
  *
- * MARKINGS. cc_gc looks at every script object in one call. cc_mark does the same in units: a begin, one for each object that
- * it scans, and an end. Call it for some units in each frame until *over is 1. Whatever calls come between, it takes nothing
- * that a root reaches. Each script object that neither script roots nor natives led to when it began is told as freed at its
- * end, unless cc_wrap answered it meanwhile (this is tested, by tools/c/churn.c). What is let go meanwhile may stay until the
- * next one. A marking and a collection never go on side by side: cc_mark first brings a collection to its end, and cc_slice and
- * cc_collect a marking, which are no units of theirs; cc_gc and cc_settle drop a marking. So a frame has units of one of the
- * two. cc_mark wants no memory: a collection that it ends may be given up, which is told.
+ * MARKINGS. cc_gc looks at every script object in one call. cc_mark does the same in units: a begin, one for each object that it
+ * scans, and an end, of which the first and the last go over script objects and entries in one piece. Call it for some units in
+ * each frame until *over is 1. Whatever calls come between, it takes nothing that a root reaches. Each script object that neither
+ * script roots nor natives led to when it began is told as freed at its end, unless cc_wrap answered it meanwhile (this is tested,
+ * by tools/c/churn.c). What is let go meanwhile may stay until the next one. A marking and a collection never go on side by side:
+ * cc_mark first brings a collection to its end, and cc_slice and cc_collect a marking, which are no units of theirs; cc_gc and
+ * cc_settle drop a marking. So a frame has units of one of the two. cc_mark wants no memory: a collection that it ends may be
+ * given up, which is told.
  *
- * STATUS. Each call answers one of the CC_ numbers: of those that apply the first of CC_CLOSED; CC_INDEX of a numbered root; then
- * of the objects in the order in which they are handed in CC_FOREIGN, CC_GONE, CC_KIND of each; CC_INDEX of slots; CC_FULL. Where
- * memory is wanted CC_NO_MEMORY may come in place of any of these but CC_CLOSED and CC_INDEX of a numbered root. Unless it is
+ * STATUS. Each call answers one of the CC_ numbers: of those that apply the first of CC_CLOSED; of the objects, roots and weak
+ * references in the order in which they are handed in CC_FOREIGN, CC_GONE, CC_KIND of each, but CC_KIND first of what is no
+ * object; CC_INDEX; CC_FULL. Where memory is wanted CC_NO_MEMORY may come in place of any of these but CC_CLOSED. Unless it is
  * CC_OK nothing was changed and no out-parameter written; but of cc_slice, cc_collect and cc_settle CC_NO_MEMORY means that a
- * collection was given up, and nothing is lost; CC_NONE of cc_upgrade_into means that its root was emptied; and cc_wrap,
- * cc_set_entry, cc_new_proxy, cc_hold and cc_upgrade leave every object as it is then, but may have made a suspect, shown an object
- * to script, or made a table. */
+ * collection was given up, and nothing is lost; CC_NONE of cc_upgrade_into means that its root was emptied; cc_why drops the
+ * steps of before; and cc_wrap, cc_set_entry and cc_new_proxy leave every object as it is then, but may have made a suspect, or
+ * shown an object to script. */
 #ifndef CCOLLECT_H
 #define CCOLLECT_H
 #include <stdint.h>
+
+#define CC_VERSION 900
+#define CC_VERSION_TEXT "0.9.0"
+
 #ifdef __cplusplus
 extern "C" {
 #endif
+
+/* What a call answers. */
+typedef uint32_t cc_status;
 
 enum {
     CC_OK = 0,
     CC_CLOSED = 1,    /* the collector is not open */
     CC_OPEN = 2,      /* it is open already */
-    CC_FOREIGN = 3,   /* an object or root is of another collector */
+    CC_FOREIGN = 3,   /* an object, a root or a weak reference is of another collector */
     CC_GONE = 4,      /* an object is not there, or was told unlinked; a root is not in use */
     CC_KIND = 5,      /* an object is of the wrong kind */
     CC_INDEX = 6,     /* there is no such root or slot; or too many slots */
-    CC_FULL = 7,      /* as many objects as the limit were ever made; or no place is left for a root */
+    CC_FULL = 7,      /* as many objects as the limit were ever made; or no place is left for a root, or no mark */
     CC_NO_MEMORY = 8,
     CC_LIMIT = 9,     /* a limit above 1000000 */
     CC_NONE = 10,     /* nothing more was told; or a weak reference's native was told unlinked or freed */
@@ -82,7 +105,7 @@ enum {
 enum { CC_NOTHING = 0, CC_NATIVE = 1, CC_SCRIPT = 2, CC_REFLECTOR = 3 };
 enum { CC_UNLINKED = 1, CC_FREED = 2, CC_ABANDONED = 3 };
 enum { CC_PLAIN = 1, CC_MAP = 2, CC_REFLECTS = 3, CC_PROXY = 4 };
-enum { CC_BY_ROOT = 1, CC_BY_OBJECT = 2, CC_BY_ENTRY = 3 };
+enum { CC_BY_ROOT = 1, CC_BY_OBJECT = 2, CC_BY_ENTRY = 3, CC_BY_HOLD = 4 };
 
 typedef struct cc_collector { uint64_t state; void *at; } cc_collector;
 typedef struct cc_object { uint64_t mark; uint32_t key; uint32_t number; uint32_t kind; } cc_object;
@@ -90,93 +113,100 @@ typedef struct cc_root { uint64_t mark; uint64_t serial; uint32_t index; } cc_ro
 typedef struct cc_weak { uint64_t mark; uint32_t key, number; } cc_weak;
 /* `data` is 0 of what is no native. */
 typedef struct cc_told { uint64_t data; uint32_t what; uint32_t kind; uint32_t number; } cc_told;
-/* An object on the way to one that was asked for, and why it is reached: a root holds it (by_kind CC_NATIVE or CC_SCRIPT, and
- * by_number the root's), or an object refers to it, or an entry of a weak map (by) gives it to a key. A native root from 128 on
- * holds a table of the roots that cc_hold made, which is a native, as are those in its slots and theirs. */
+/* An object on the way to one that was asked for, and why it is reached: a numbered root holds it (CC_BY_ROOT, by_kind CC_NATIVE or
+ * CC_SCRIPT, and by_number the root's), or a cc_root does (CC_BY_HOLD, and by_number its index), or an object refers to it, or an
+ * entry of a weak map (by) gives it to a key. */
 typedef struct cc_step {
     uint32_t kind, number, why, by_kind, by_number, key_kind, key_number;
 } cc_step;
 #define CC_COLLECTOR_CLOSED { 0, 0 }
 
-/* As many natives, and as many script objects, may ever be made; each 0 to 1000000. Two collectors that are open at one time
- * have different marks: then the objects of the one are CC_FOREIGN to the other. */
-uint32_t cc_open(cc_collector *, uint64_t mark, uint32_t natives, uint32_t scripts);
-/* Frees all that it has, and tells nothing. A closed one stays closed. */
+/* Opens a closed collector. As many natives, and as many script objects, may ever be made; each 0 to 1000000. It answers CC_FULL
+ * where 2^64 - 1 marks were drawn; else CC_OPEN, else CC_LIMIT, and else may want memory. cc_open_with_mark is for who has a source
+ * of marks of his own, and owes that no two collectors ever have the same: beside cc_open he takes them from 2^63 on. */
+cc_status cc_open(cc_collector *, uint32_t natives, uint32_t scripts);
+cc_status cc_open_with_mark(cc_collector *, uint64_t mark, uint32_t natives, uint32_t scripts);
+/* Gives back all memory that it has, and tells nothing. A closed one stays closed. */
 void cc_close(cc_collector *);
+/* An English phrase for a status, also for a number that is none; never NULL, and not to be freed. */
+const char *cc_status_text(cc_status);
+/* If it is set, ccollect_heap.c asks it before each allocation, and the allocation is refused where it answers other than 0. */
+extern int (*cc_heap_refuses)(void);
 
-/* What is made stands in numbered root r, in place of what stood there. A native has 0 to 255 slots, a plain object 0 to 256. */
-uint32_t cc_new_native(cc_collector *, uint16_t r, uint16_t slots, cc_object *made);
-uint32_t cc_new_plain(cc_collector *, uint16_t r, uint16_t slots, cc_object *made);
-uint32_t cc_new_map(cc_collector *, uint16_t r, cc_object *made);
-uint32_t cc_new_proxy(cc_collector *, uint16_t r, const cc_object *delegate, cc_object *made);
+/* What is made stands in numbered root r, in place of what stood there. A native and a plain object have 0 to 256 slots. */
+cc_status cc_new_native(cc_collector *, uint16_t r, uint16_t slots, cc_object *made);
+cc_status cc_new_plain(cc_collector *, uint16_t r, uint16_t slots, cc_object *made);
+cc_status cc_new_map(cc_collector *, uint16_t r, cc_object *made);
+cc_status cc_new_proxy(cc_collector *, uint16_t r, const cc_object *delegate, cc_object *made);
 
-/* Roots. A numbered one is emptied by an object of kind CC_NOTHING. */
-uint32_t cc_set_native_root(cc_collector *, uint16_t r, const cc_object *);
-uint32_t cc_set_script_root(cc_collector *, uint16_t r, const cc_object *);
-uint32_t cc_native_root(cc_collector *, uint16_t r, cc_object *held);
-uint32_t cc_script_root(cc_collector *, uint16_t r, cc_object *held);
-uint32_t cc_hold(cc_collector *, const cc_object *, cc_root *root);
-uint32_t cc_release(cc_collector *, const cc_root *);
-uint32_t cc_held(cc_collector *, const cc_root *, cc_object *held);
+/* Roots. A numbered one is emptied by an object of kind CC_NOTHING. cc_held answers an object, never CC_NOTHING. cc_hold takes any
+ * native that is there, whether a root reaches it or not. */
+cc_status cc_set_native_root(cc_collector *, uint16_t r, const cc_object *);
+cc_status cc_set_script_root(cc_collector *, uint16_t r, const cc_object *);
+cc_status cc_native_root(cc_collector *, uint16_t r, cc_object *held);
+cc_status cc_script_root(cc_collector *, uint16_t r, cc_object *held);
+cc_status cc_hold(cc_collector *, const cc_object *, cc_root *root);
+cc_status cc_release(cc_collector *, const cc_root *);
+cc_status cc_held(cc_collector *, const cc_root *, cc_object *held);
 
 /* Weak references to natives. cc_upgrade makes a root, which *root is then, and *native is what it holds; cc_upgrade_into takes
  * numbered root r, and no memory. CC_NONE where the native was told as unlinked or freed, unless CC_CLOSED, CC_INDEX or CC_FOREIGN
  * applies: *native is not written then, no root is made, and numbered root r is emptied; cc_upgrade wants no memory then. *ended is
  * 1 exactly then. Else cc_upgrade is refused as cc_hold is. */
-uint32_t cc_weak_of(cc_collector *, const cc_object *native, cc_weak *);
-uint32_t cc_upgrade(cc_collector *, const cc_weak *, cc_root *root, cc_object *native);
-uint32_t cc_upgrade_into(cc_collector *, uint16_t r, const cc_weak *, cc_object *native);
-uint32_t cc_ended(cc_collector *, const cc_weak *, uint32_t *ended);
+cc_status cc_weak_of(cc_collector *, const cc_object *native, cc_weak *);
+cc_status cc_upgrade(cc_collector *, const cc_weak *, cc_root *root, cc_object *native);
+cc_status cc_upgrade_into(cc_collector *, uint16_t r, const cc_weak *, cc_object *native);
+cc_status cc_ended(cc_collector *, const cc_weak *, uint32_t *ended);
 
 /* Slots, counted from 0. Natives hold natives and script objects; script objects hold script objects. */
-uint32_t cc_slots(cc_collector *, const cc_object *, uint16_t *slots);
-uint32_t cc_slot(cc_collector *, const cc_object *, uint16_t i, cc_object *held);
-uint32_t cc_store(cc_collector *, const cc_object *, uint16_t i, const cc_object *content);
+cc_status cc_slots(cc_collector *, const cc_object *, uint16_t *slots);
+cc_status cc_slot(cc_collector *, const cc_object *, uint16_t i, cc_object *held);
+cc_status cc_store(cc_collector *, const cc_object *, uint16_t i, const cc_object *content);
 /* Slot i of `to` gets what slot j of `from` held, which is empty then; where both are one place nothing moves. */
-uint32_t cc_move_slot(cc_collector *, const cc_object *to, uint16_t i, const cc_object *from, uint16_t j);
+cc_status cc_move_slot(cc_collector *, const cc_object *to, uint16_t i, const cc_object *from, uint16_t j);
 
 /* Reflectors: of a native, for script. cc_unwrap of what is no reflector answers CC_OK, and nothing (CC_NOTHING). */
-uint32_t cc_wrap(cc_collector *, const cc_object *native, cc_object *reflector);
-uint32_t cc_unwrap(cc_collector *, const cc_object *, cc_object *native);
-uint32_t cc_preserve(cc_collector *, const cc_object *reflector);
-uint32_t cc_kind(cc_collector *, const cc_object *, uint32_t *kind);
+cc_status cc_wrap(cc_collector *, const cc_object *native, cc_object *reflector);
+cc_status cc_unwrap(cc_collector *, const cc_object *, cc_object *native);
+cc_status cc_preserve(cc_collector *, const cc_object *reflector);
+cc_status cc_kind(cc_collector *, const cc_object *, uint32_t *kind);
 
 /* Entries of weak maps. */
-uint32_t cc_set_entry(cc_collector *, const cc_object *map, const cc_object *key, const cc_object *value);
-uint32_t cc_unset_entry(cc_collector *, const cc_object *map, const cc_object *key);
-uint32_t cc_entry(cc_collector *, const cc_object *map, const cc_object *key, cc_object *value);
+cc_status cc_set_entry(cc_collector *, const cc_object *map, const cc_object *key, const cc_object *value);
+cc_status cc_unset_entry(cc_collector *, const cc_object *map, const cc_object *key);
+cc_status cc_entry(cc_collector *, const cc_object *map, const cc_object *key, cc_object *value);
 
 /* Collections. cc_slice does so many units of the running one, or begins one; *over is 1 where it came to its end, else 0. */
-uint32_t cc_slice(cc_collector *, uint32_t units, uint32_t *over);
-uint32_t cc_collect(cc_collector *);
-uint32_t cc_gc(cc_collector *);
+cc_status cc_slice(cc_collector *, uint32_t units, uint32_t *over);
+cc_status cc_collect(cc_collector *);
+cc_status cc_gc(cc_collector *);
 /* Units of a script marking, of the one that goes on, or of one that begins here; *over is 1 where it came to its end, else 0. It
  * answers CC_OK or CC_UNFETCHED. *marking is 1 where one goes on. */
-uint32_t cc_mark(cc_collector *, uint32_t units, uint32_t *over);
-uint32_t cc_marking(cc_collector *, uint32_t *marking);
+cc_status cc_mark(cc_collector *, uint32_t units, uint32_t *over);
+cc_status cc_marking(cc_collector *, uint32_t *marking);
 /* Leaves exactly what the roots reach. (cc_gc wants no memory: where a collection that it ends is refused some, that is told.) */
-uint32_t cc_settle(cc_collector *);
-uint32_t cc_running(cc_collector *, uint32_t *running);
+cc_status cc_settle(cc_collector *);
+cc_status cc_running(cc_collector *, uint32_t *running);
 /* Forgets suspects that are alive, *marks of them: those that roots reach over slots, reflectors and delegates. A collection that
  * begins then does not begin at them. What roots reach by entries of weak maps alone stays a suspect. It may come at any time, also
  * while a collection runs; it tells nothing, wants no memory, and takes time by what roots reach. */
-uint32_t cc_forget(cc_collector *, uint32_t *marks);
+cc_status cc_forget(cc_collector *, uint32_t *marks);
 
 /* What was told: CC_NONE where all was fetched. */
-uint32_t cc_next_told(cc_collector *, cc_told *);
+cc_status cc_next_told(cc_collector *, cc_told *);
 
 /* Questions. The answer of cc_is_there is its status. cc_scripts counts reflectors, weak maps and proxies too. cc_data is 0 where
  * no number was given. */
-uint32_t cc_is_there(cc_collector *, const cc_object *);
-uint32_t cc_natives(cc_collector *, uint64_t *natives);
-uint32_t cc_scripts(cc_collector *, uint64_t *scripts);
-uint32_t cc_has_suspects(cc_collector *, uint32_t *some);
+cc_status cc_is_there(cc_collector *, const cc_object *);
+cc_status cc_natives(cc_collector *, uint64_t *natives);
+cc_status cc_scripts(cc_collector *, uint64_t *scripts);
+cc_status cc_has_suspects(cc_collector *, uint32_t *some);
 /* *led is 1 where roots lead to it: then cc_next_step hands out the steps, the object itself last, and CC_NONE behind them. Steps
  * of an earlier answer that were not fetched are gone then, also where it is refused. */
-uint32_t cc_why(cc_collector *, const cc_object *, uint32_t *led);
-uint32_t cc_next_step(cc_collector *, cc_step *);
-uint32_t cc_data(cc_collector *, const cc_object *native, uint64_t *data);
-uint32_t cc_set_data(cc_collector *, const cc_object *native, uint64_t data);
+cc_status cc_why(cc_collector *, const cc_object *, uint32_t *led);
+cc_status cc_next_step(cc_collector *, cc_step *);
+cc_status cc_data(cc_collector *, const cc_object *native, uint64_t *data);
+cc_status cc_set_data(cc_collector *, const cc_object *native, uint64_t data);
 
 #ifdef __cplusplus
 }

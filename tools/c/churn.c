@@ -26,8 +26,8 @@
 #include <string.h>
 
 enum {
-    NUMBERED = 12,     /* roots of each kind that are used, of 128 */
-    HELD = 400,        /* roots by cc_hold: more than one table of them */
+    NUMBERED = 12,     /* roots of each kind that are used, of 1023 */
+    HELD = 400,        /* roots by cc_hold */
     SEASON = 32768,    /* so many operations more is held than released, then as many less */
     MOST_THINGS = 1 << 16,
     MOST_ENTRIES = 1 << 14,
@@ -88,8 +88,7 @@ static uint32_t native_roots[NUMBERED], script_roots[NUMBERED];
 static struct held helds[HELD];
 static uint32_t native_at[NATIVE_LIMIT + 1], script_at[SCRIPT_LIMIT + 1]; /* by number */
 static uint32_t live; /* things that were not told as freed */
-static uint32_t tables; /* natives that cc_hold made for its roots, as far as cc_natives counts them */
-static uint32_t last_native, last_script, natives_made; /* the last numbers; without the tables */
+static uint32_t last_native, last_script; /* the last numbers */
 static uint32_t markings; /* that began */
 static bool is_marking;   /* whether the last of them goes on */
 
@@ -303,12 +302,11 @@ static uint32_t draw_unreached(void) {
 /* OPERATIONS. */
 
 static void open_collector(void) {
-    TRY(cc_open(&c, ++mark, NATIVE_LIMIT, SCRIPT_LIMIT));
+    TRY(cc_open_with_mark(&c, ++mark, NATIVE_LIMIT, SCRIPT_LIMIT));
     collectors++;
     memset(native_at, 0, sizeof native_at);
     memset(script_at, 0, sizeof script_at);
-    last_native = last_script = natives_made = 0;
-    tables = 0;
+    last_native = last_script = 0;
 }
 
 static void make_native(void) {
@@ -317,9 +315,8 @@ static void make_native(void) {
     uint8_t slots = (uint8_t)draw(MOST_SLOTS + 1);
     TRY(cc_new_native(&c, (uint16_t)r, slots, &made));
     SO(made.kind == CC_NATIVE && made.mark == mark, "a native is no native of this collector", 0);
-    SO(made.number > last_native && made.number <= NATIVE_LIMIT, "a native has a wrong number", 0);
+    SO(made.number == last_native + 1 && made.number <= NATIVE_LIMIT, "a native has a wrong number", 0);
     last_native = made.number;
-    natives_made++;
     uint32_t t = add_thing(&made, 0, slots, 0);
     native_roots[r] = native_at[made.number] = t;
     if (draw(4) > 0) {
@@ -489,8 +486,7 @@ static void hold(void) {
     TRY(cc_natives(&c, &before));
     TRY(cc_hold(&c, object_of(t), &helds[i].root));
     TRY(cc_natives(&c, &after));
-    SO(before <= after && after <= before + 3, "cc_hold made more than three tables", 0);
-    tables += (uint32_t)(after - before);
+    SO(before == after, "cc_hold made a native", 0);
     helds[i].thing = t;
     helds[i].is_used = true;
 }
@@ -561,25 +557,17 @@ static bool is_in_step(uint32_t from, uint32_t to) {
     return refers_to_other(x) && x->other == to;
 }
 
-static bool is_held(uint32_t t) {
+/* A root by cc_hold holds it, by its index. */
+static bool is_held_at(uint32_t index, uint32_t t) {
     for (unsigned i = 0; i < HELD; i++)
-        if (helds[i].is_used && helds[i].thing == t) return true;
-    return false;
-}
-
-/* The tables of roots that had a step: natives of the library's own, by their numbers. */
-static uint32_t table_steps[32], table_step_count;
-
-static bool is_table(uint32_t number) {
-    for (uint32_t i = 0; i < table_step_count; i++)
-        if (table_steps[i] == number) return true;
+        if (helds[i].is_used && helds[i].root.index == index) return helds[i].thing == t;
     return false;
 }
 
 static bool is_step(const cc_step *s, uint32_t t) {
-        if (s->why == CC_BY_ROOT)
+    if (s->why == CC_BY_ROOT)
         return s->by_number < NUMBERED && t == (s->by_kind == CC_NATIVE ? native_roots : script_roots)[s->by_number];
-    if (s->why == CC_BY_OBJECT && s->by_kind == CC_NATIVE && is_table(s->by_number)) return is_held(t);
+    if (s->why == CC_BY_HOLD) return (s->by_kind == CC_NATIVE) == is_native(t) && is_held_at(s->by_number, t);
     uint32_t by = thing_named(s->by_kind, s->by_number);
     if (by == 0 || !is_reached(by)) return false;
     if (s->why == CC_BY_OBJECT) return is_in_step(by, t);
@@ -609,15 +597,8 @@ static void ask_why(void) {
     TRY(cc_why(&c, object_of(asked), &led));
     SO(led == 1, "no root leads to an object that is reached", asked);
     walk++; /* what the steps have reached */
-    table_step_count = 0;
     while ((status = cc_next_step(&c, &s)) == CC_OK) {
         steps_seen++;
-        if (s.by_kind == CC_NATIVE && (s.why == CC_BY_ROOT ? s.by_number >= 128 : s.why == CC_BY_OBJECT && is_table(s.by_number)) &&
-            s.kind == CC_NATIVE && thing_named(s.kind, s.number) == 0) {
-            SO(table_step_count < 32 && !is_table(s.number), "a step is no table's", 0);
-            table_steps[table_step_count++] = s.number;
-            continue;
-        }
         t = thing_named(s.kind, s.number);
         SO(t != 0 && !is_reached(t) && is_step(&s, t), "a step is none of the model", t);
         things[t].reached = walk;
@@ -689,7 +670,7 @@ static void call_wrongly(void) {
         if (t == 0) return;
         WANT(cc_slot(&c, object_of(t), things[t].slots, &bad), CC_INDEX);
         WANT(cc_store(&c, object_of(t), (uint16_t)(things[t].slots + draw(2) * draw(1000)), &nothing), CC_INDEX);
-        WANT(cc_set_native_root(&c, (uint16_t)(128 + draw(60000)), &nothing), CC_INDEX);
+        WANT(cc_set_native_root(&c, (uint16_t)(1023 + draw(60000)), &nothing), CC_INDEX);
         refused += 3;
     }
 }
@@ -782,7 +763,7 @@ static void forget_suspects(void) {
     TRY(cc_forget(&c, &marks));
     TRY(cc_forget(&c, &again));
     TRY(cc_running(&c, &runs));
-    SO(marks <= live + tables && again == 0, "more suspects were forgotten than there are", 0);
+    SO(marks <= live && again == 0, "more suspects were forgotten than there are", 0);
     SO(runs == running, "a collection began, or ended, when suspects were forgotten", 0);
 }
 
@@ -853,7 +834,7 @@ static void check_all(void) {
     check_entries();
     TRY(cc_natives(&c, &natives));
     TRY(cc_scripts(&c, &scripts));
-    SO(natives == natives_reached + tables, "there are more or fewer natives than are reached", 0);
+    SO(natives == natives_reached, "there are more or fewer natives than are reached", 0);
     SO(scripts == scripts_reached, "there are more or fewer script objects than are reached", 0);
     SO(live == natives_reached + scripts_reached, "what was told as freed is not what is gone", 0);
     for (uint32_t i = 0; i < stale_count && i < STALE; i++)
@@ -903,12 +884,11 @@ static void change_collectors(void) {
         }
     else
         while ((status = cc_new_native(&c, NUMBERED, 0, &made)) == CC_OK) {
-            natives_made++;
-            native_at[made.number] = add_thing(&made, 0, 0, 0);
+            last_native = made.number;
+            native_at[last_native] = add_thing(&made, 0, 0, 0);
         }
     SO(status == CC_FULL, "a collector that is full answered another status", 0);
-    SO(last_script == SCRIPT_LIMIT || natives_made + tables == NATIVE_LIMIT || (tables == 0 && natives_made + 8 > NATIVE_LIMIT),
-       "it was full too soon, or too late", 0);
+    SO(last_script == SCRIPT_LIMIT || last_native == NATIVE_LIMIT, "it was full too soon, or too late", 0);
     TRY(cc_set_native_root(&c, NUMBERED, &nothing));
     TRY(cc_set_script_root(&c, NUMBERED, &nothing));
     fetch();

@@ -82,6 +82,8 @@ static void print_why(cc_collector *c, const cc_object *x) {
         printf("    %s", name(step.kind, step.number));
         if (step.why == CC_BY_ROOT)
             printf(" is in %s root %u\n", step.by_kind == CC_NATIVE ? "native" : "script", step.by_number);
+        else if (step.why == CC_BY_HOLD)
+            printf(" is held by a root without number, at place %u\n", step.by_number);
         else if (step.why == CC_BY_OBJECT)
             printf(" is held by %s\n", name(step.by_kind, step.by_number));
         else
@@ -283,6 +285,61 @@ static void move_and_proxy(cc_collector *c) {
     WANT(cc_is_there(c, &proxy), CC_GONE);
 }
 
+/* The last numbered roots, and the most slots. */
+static void use_the_last(cc_collector *c) {
+    cc_object wide, plain, found;
+    uint16_t slots;
+    printf("The last numbered roots and the last slot are used.\n");
+    TRY(cc_new_native(c, 1022, 256, &wide));
+    TRY(cc_new_plain(c, 1022, 256, &plain));
+    TRY(cc_slots(c, &wide, &slots));
+    HOLDS(slots == 256);
+    TRY(cc_store(c, &wide, 255, &plain));
+    TRY(cc_slot(c, &wide, 255, &found));
+    HOLDS(is_same(&found, &plain));
+    TRY(cc_native_root(c, 1022, &found));
+    HOLDS(is_same(&found, &wide));
+    TRY(cc_script_root(c, 1022, &found));
+    HOLDS(is_same(&found, &plain));
+    TRY(cc_set_native_root(c, 1022, &nothing));
+    TRY(cc_set_script_root(c, 1022, &nothing));
+    HOLDS(fetch(c) == 1);
+    TRY(cc_settle(c));
+    HOLDS(fetch(c) == 1);
+}
+
+/* Roots without number hold objects of both kinds, each as many times as wanted, and are no objects. */
+static void hold_many(cc_collector *c) {
+    static cc_root roots[300];
+    cc_object native, plain, found;
+    cc_step step;
+    uint64_t before, after;
+    uint32_t led;
+    printf("Two objects are held by many roots.\n");
+    TRY(cc_new_native(c, 6, 0, &native));
+    TRY(cc_new_plain(c, 6, 0, &plain));
+    TRY(cc_natives(c, &before));
+    for (unsigned i = 0; i < 300; i++) TRY(cc_hold(c, i % 2 == 0 ? &native : &plain, &roots[i]));
+    TRY(cc_natives(c, &after));
+    HOLDS(before == after);
+    TRY(cc_set_native_root(c, 6, &nothing));
+    TRY(cc_set_script_root(c, 6, &nothing));
+    for (unsigned i = 0; i < 299; i++) {
+        TRY(cc_held(c, &roots[i], &found));
+        HOLDS(is_same(&found, i % 2 == 0 ? &native : &plain));
+        TRY(cc_release(c, &roots[i]));
+    }
+    TRY(cc_settle(c));
+    HOLDS(fetch(c) == 1);
+    TRY(cc_why(c, &plain, &led));
+    TRY(cc_next_step(c, &step));
+    HOLDS(led == 1 && step.why == CC_BY_HOLD && step.by_kind == CC_SCRIPT && step.by_number == roots[299].index);
+    WANT(cc_is_there(c, &native), CC_GONE);
+    TRY(cc_release(c, &roots[299]));
+    TRY(cc_settle(c));
+    HOLDS(fetch(c) == 1);
+}
+
 /* A native that only a weak reference knows is brought back, until a collection unlinked it. */
 static void refer_weakly(cc_collector *c) {
     cc_object kept, found;
@@ -318,7 +375,7 @@ static void refer_weakly(cc_collector *c) {
     weak.mark = 2;
     WANT(cc_ended(c, &weak, &ended), CC_FOREIGN);
     WANT(cc_upgrade(c, &weak, &root, &found), CC_FOREIGN);
-    WANT(cc_upgrade_into(c, 128, &second, &found), CC_INDEX);
+    WANT(cc_upgrade_into(c, 1023, &second, &found), CC_INDEX);
 
     /* a script object holds one that was unlinked: no call takes it from then on */
     TRY(cc_new_native(c, 2, 1, &kept));
@@ -337,22 +394,11 @@ static void refer_weakly(cc_collector *c) {
     WANT(cc_upgrade_into(c, 2, &weak, &found), CC_NONE);
 }
 
-/* A table of the roots that cc_hold made, which is a native of 256 slots. It is found by trying keys and numbers. */
-static cc_object table_of(cc_collector *c, uint64_t mark) {
-    cc_object table = {mark, 0, 0, CC_NATIVE};
-    uint16_t slots;
-    for (table.number = 1; table.number < 100; table.number++)
-        for (table.key = 0; table.key < 100; table.key++)
-            if (cc_slots(c, &table, &slots) == CC_OK && slots == 256) return table;
-    printf("there is no table\n");
-    exit(1);
-}
-
 /* Each status once. Nothing is changed, and nothing is written. */
 static void meet_each_status(cc_collector *c, const struct page *p) {
     static const cc_object untouched = {5, 5, 5, 5};
     cc_collector closed = CC_COLLECTOR_CLOSED, other = CC_COLLECTOR_CLOSED;
-    cc_object stranger, out, native, plain, second, table;
+    cc_object stranger, out, native, plain, second;
     cc_root root, strange_root;
     cc_told told;
     uint64_t natives, natives_after;
@@ -366,14 +412,14 @@ static void meet_each_status(cc_collector *c, const struct page *p) {
     WANT(cc_mark(&closed, 1, &over), CC_CLOSED);
     cc_close(&closed);
     printf("  CC_CLOSED: a collector that was never opened\n");
-    WANT(cc_open(c, 8, 10, 10), CC_OPEN);
+    WANT(cc_open(c, 10, 10), CC_OPEN);
     printf("  CC_OPEN: one that is open already\n");
-    WANT(cc_open(&other, 2, 1000001, 0), CC_LIMIT);
-    WANT(cc_open(&other, 2, 0, 1000001), CC_LIMIT);
+    WANT(cc_open(&other, 1000001, 0), CC_LIMIT);
+    WANT(cc_open(&other, 0, 1000001), CC_LIMIT);
     printf("  CC_LIMIT: a limit above a million\n");
 
     TRY(cc_natives(c, &natives));
-    TRY(cc_open(&other, 2, 4, 1));
+    TRY(cc_open(&other, 4, 1));
     TRY(cc_new_native(&other, 0, 1, &stranger));
     TRY(cc_hold(&other, &stranger, &strange_root));
     WANT(cc_is_there(c, &stranger), CC_FOREIGN);
@@ -407,12 +453,12 @@ static void meet_each_status(cc_collector *c, const struct page *p) {
     WANT(cc_slot(c, &second, 0, &out), CC_GONE);
     second = native;
     second.kind = 77;
-    WANT(cc_is_there(c, &second), CC_GONE);
-    WANT(cc_is_there(c, &nothing), CC_FOREIGN);
+    WANT(cc_is_there(c, &second), CC_KIND);
+    WANT(cc_is_there(c, &nothing), CC_KIND);
     second = nothing;
     second.mark = native.mark;
-    WANT(cc_is_there(c, &second), CC_GONE);
-    printf("  CC_GONE: an object that is made up, and no object at all\n");
+    WANT(cc_is_there(c, &second), CC_KIND);
+    printf("  CC_GONE, CC_KIND: an object that is made up, and no object at all\n");
     WANT(cc_release(c, &p->held), CC_GONE);
     WANT(cc_held(c, &p->held, &out), CC_GONE);
     TRY(cc_hold(c, &native, &root));
@@ -420,11 +466,6 @@ static void meet_each_status(cc_collector *c, const struct page *p) {
     TRY(cc_release(c, &root));
     WANT(cc_release(c, &root), CC_GONE);
     printf("  CC_GONE: a root that was released, twice\n");
-    table = table_of(c, native.mark);
-    WANT(cc_store(c, &table, 0, &nothing), CC_GONE);
-    WANT(cc_move_slot(c, &native, 0, &table, 0), CC_GONE);
-    WANT(cc_move_slot(c, &table, 0, &native, 0), CC_GONE);
-    printf("  CC_GONE: a table of roots, which is not the program's to write\n");
 
     TRY(cc_new_plain(c, 9, 1, &plain));
     WANT(cc_store(c, &plain, 0, &native), CC_KIND);
@@ -440,10 +481,10 @@ static void meet_each_status(cc_collector *c, const struct page *p) {
 
     WANT(cc_slot(c, &native, 1, &out), CC_INDEX);
     WANT(cc_store(c, &native, 1, &plain), CC_INDEX);
-    WANT(cc_set_native_root(c, 128, &native), CC_INDEX);
-    WANT(cc_native_root(c, 128, &out), CC_INDEX);
-    WANT(cc_new_native(c, 128, 1, &out), CC_INDEX);
-    WANT(cc_new_native(c, 9, 256, &out), CC_INDEX);
+    WANT(cc_set_native_root(c, 1023, &native), CC_INDEX);
+    WANT(cc_native_root(c, 1023, &out), CC_INDEX);
+    WANT(cc_new_native(c, 1023, 1, &out), CC_INDEX);
+    WANT(cc_new_native(c, 9, 257, &out), CC_INDEX);
     WANT(cc_new_plain(c, 9, 257, &out), CC_INDEX);
     printf("  CC_INDEX: a root, a slot and a number of slots that there are not\n");
     HOLDS(is_same(&out, &untouched));
@@ -459,17 +500,19 @@ int main(void) {
     cc_collector c = CC_COLLECTOR_CLOSED;
     struct page page;
     uint64_t natives, scripts;
-    TRY(cc_open(&c, 1, 1000, 1000));
+    TRY(cc_open(&c, 1000, 1000));
     build(&c, &page);
     let_go(&c, &page);
     collect_in_slices(&c, &page);
     mark_in_slices(&c);
     move_and_proxy(&c);
+    use_the_last(&c);
+    hold_many(&c);
     refer_weakly(&c);
     meet_each_status(&c, &page);
 
     printf("The roots are emptied, and what is left goes.\n");
-    for (uint16_t r = 0; r < 128; r++) {
+    for (uint16_t r = 0; r < 1023; r++) {
         TRY(cc_set_native_root(&c, r, &nothing));
         TRY(cc_set_script_root(&c, r, &nothing));
     }
@@ -477,9 +520,8 @@ int main(void) {
     fetch(&c);
     HOLDS(elements == 0);
     TRY(cc_scripts(&c, &scripts));
-    /* the tables of the roots that cc_hold made may be counted */
     TRY(cc_natives(&c, &natives));
-    HOLDS(scripts == 0 && natives <= 3);
+    HOLDS(scripts == 0 && natives == 0);
     cc_close(&c);
     cc_close(&c);
     WANT(cc_settle(&c), CC_CLOSED);

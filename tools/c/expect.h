@@ -5,15 +5,9 @@
 #include <stdio.h>
 #include <stdlib.h>
 
-static inline const char *status_text(uint32_t status) {
-    static const char *const texts[] = {"CC_OK",    "CC_CLOSED", "CC_OPEN",      "CC_FOREIGN", "CC_GONE", "CC_KIND",
-                                        "CC_INDEX", "CC_FULL",   "CC_NO_MEMORY", "CC_LIMIT",   "CC_NONE"};
-    return status < sizeof texts / sizeof texts[0] ? texts[status] : "no status at all";
-}
-
-static inline void expect_status(uint32_t status, uint32_t wanted, const char *call, const char *file, int line) {
+static inline void expect_status(cc_status status, cc_status wanted, const char *call, const char *file, int line) {
     if (status == wanted) return;
-    printf("%s:%d: %s answered %s, not %s\n", file, line, call, status_text(status), status_text(wanted));
+    printf("%s:%d: %s answered \"%s\", not \"%s\"\n", file, line, call, cc_status_text(status), cc_status_text(wanted));
     exit(1);
 }
 

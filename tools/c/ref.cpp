@@ -11,8 +11,8 @@
 #include <utility>
 #include <vector>
 
-static void check(uint32_t status) {
-    if (status != CC_OK) throw std::runtime_error("the collector answered " + std::to_string(status));
+static void check(cc_status status) {
+    if (status != CC_OK) throw std::runtime_error(cc_status_text(status));
 }
 
 template <typename T> class Ref {
@@ -89,7 +89,7 @@ class Heap {
     }
 
 public:
-    explicit Heap(uint64_t mark) { check(cc_open(&state, mark, 10000, 0)); }
+    Heap() { check(cc_open(&state, 10000, 0)); }
     Heap(const Heap &) = delete;
     Heap &operator=(const Heap &) = delete;
     // What is still there is told by no call, so the roots have to be gone, and the collector to settle, before it is closed.
@@ -169,7 +169,7 @@ static void use(Heap &heap) {
 
 int main() {
     try {
-        Heap heap(1);
+        Heap heap;
         use(heap);
         heap.make("one that is let go at once");
     } catch (const std::exception &stop) {

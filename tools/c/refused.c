@@ -46,7 +46,7 @@ static const cc_object nothing = {0, 0, 0, CC_NOTHING};
 /* Which allocations are refused: so many in a row, from this one on. They are counted from 1. */
 static long asked, first_refused, in_a_row;
 
-static bool refuses(void) {
+static int refuses(void) {
     asked++;
     return asked >= first_refused && asked < first_refused + in_a_row;
 }
@@ -60,7 +60,7 @@ struct program {
     cc_root held[ELEMENTS];
     cc_weak weak[ELEMENTS];
     bool is_held[ELEMENTS];
-    unsigned freed_natives[MADE + ROUNDS + 8], freed_scripts[PLAIN_MADE + 1];
+    unsigned freed_natives[MADE + 1], freed_scripts[PLAIN_MADE + 1];
     unsigned natives_made, scripts_made, reflectors_freed;
     long refusals, given_up, told_given_up;
 };
@@ -293,7 +293,7 @@ static void check_end(struct program *m) {
     ASK(m, cc_settle(&m->c));
     TRY(cc_scripts(&m->c, &scripts));
     TRY(cc_natives(&m->c, &natives));
-    HOLDS(scripts == 0 && natives <= 3); /* the tables of the roots that cc_hold made may be counted */
+    HOLDS(scripts == 0 && natives == 0);
     for (unsigned i = 0; i < sizeof m->freed_natives / sizeof m->freed_natives[0]; i++) {
         HOLDS(m->freed_natives[i] <= 1);
         freed += m->freed_natives[i];
@@ -309,7 +309,7 @@ static void check_end(struct program *m) {
 
 static void open_collector(struct program *m) {
     uint32_t status;
-    while ((status = cc_open(&m->c, 7, 1000, 1000)) == CC_NO_MEMORY) {
+    while ((status = cc_open(&m->c, 1000, 1000)) == CC_NO_MEMORY) {
         HOLDS(blocks == 0 && ++m->refusals <= in_a_row);
         WANT(cc_gc(&m->c), CC_CLOSED);
     }
@@ -323,7 +323,7 @@ static void close_collector(struct program *m) {
     exit(1);
 }
 
-/* A native is brought back into the first root without number, for which tables are made. */
+/* A native is brought back into the first root without number, for which memory is wanted. */
 static void bring_back(struct program *m) {
     cc_object kept, found;
     cc_weak weak;

@@ -80,3 +80,8 @@ taken now v s o e f g = cc
 -- what a session became, which an open collector got
 pub given_back : (now t : State) (o : Option State) → o ≡ Some now → o ≡ Some t → now ≡ t
 given_back now t o e f = cc
+
+-- what a call made of the session that it took out, of the collector that it was handed
+pub carried : (R : State → State → Type 0) (was is v s t : State) (o p : Option State) →
+    was ≡ v → Some v ≡ o → o ≡ Some s → p ≡ Some is → p ≡ Some t → R was is → R s t
+carried R was is v s t o p e f g h k r = subst (λ (x : State). R x t) (taken was v s o e f g) (subst (λ (x : State). R was x) (given_back is t p h k) r)

@@ -1,5 +1,5 @@
 -- WHAT IS TOLD TO C: items, and steps by which an object is reached.
-use Rattle.std.specs.Prelude.{◌≡◌, ◌∷◌, ℕ}
+use Rattle.std.specs.Prelude.{◌≡◌, ◌∷◌, ℕ, ◌-◌, true, false, nat_le}
 use Rattle.cc_names.specs.declared.name.Name.{Name}
 use Rattle.cc_names.specs.declared.name.Name.TheVariants as name
 use Rattle.cc_names.specs.declared.register.Reg.TheVariants.{N, S, W}
@@ -9,6 +9,7 @@ use Rattle.cc_model.specs.declared.item.Item.TheVariants.{Event, Listed, Step, R
 use Rattle.cc_model.specs.declared.item.Event.TheVariants.{Unlinked, Freed, Abandoned}
 use Rattle.cc_model.specs.declared.item.Reason.{Reason}
 use Rattle.cc_model.specs.declared.item.Reason.TheVariants.{Root, Edge, Pair}
+use Rattle.cc_host.specs.declared.host.rooted.TheConstants.{FIRST_PLACE}
 use Rattle.cc_session.specs.Sessions.{State, Books, data_at}
 use Rattle.cc_c.specs.declared.values.CTold.{CTold}
 use Rattle.cc_c.specs.declared.values.CStep.{CStep}
@@ -54,10 +55,15 @@ step_by x why by_kind by_number = record {
   key_number = 0;
 }
 
+-- a step by a register of natives (1) or of script objects (2): by a numbered root; or, behind those, by a root without number, with
+-- the number of its place
+abbrev pub step_by_root : Name → ℕ → ℕ → CStep
+step_by_root x bank r = elim (nat_le FIRST_PLACE r) [ true ↦ step_by x 4 bank (r - FIRST_PLACE) | false ↦ step_by x 1 bank r ]
+
 -- a step by its reason; a weak register leads to nothing
 abbrev pub step_for : Name → Reason → CStep
-step_for x (Root (N r)) = step_by x 1 1 r
-step_for x (Root (S r)) = step_by x 1 2 r
+step_for x (Root (N r)) = step_by_root x 1 r
+step_for x (Root (S r)) = step_by_root x 2 r
 step_for x (Root (W r)) = step_by x 1 0 r
 step_for x (Edge y) = step_by x 2 (kind_of y) (number_of y)
 step_for x (Pair m k) = record {

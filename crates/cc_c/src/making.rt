@@ -7,10 +7,9 @@ ghost use Rattle.cc_model.specs.Graph as graph;
 ghost use Rattle.cc_model.specs.Heap.{register};
 ghost use Rattle.cc_host.specs.Calls.{Always, Does, TellsFreed, Tries};
 ghost use Rattle.cc_host.specs.Hosted.{IsRooted, IsThere};
-ghost use Rattle.cc_host.specs.Stops.{are_natives_made, are_scripts_made, stop_at};
+ghost use Rattle.cc_host.specs.Stops.{are_natives_made, are_scripts_made, stop_at, stop_making, stop_proxy};
 ghost use Rattle.cc_host.specs.Queues.{told_all};
 ghost use Rattle.cc_session.specs.Sessions.{Aside, Quiet};
-ghost use Rattle.cc_session.specs.Refusals.{stop_native_made, stop_proxy_made, stop_script_made};
 ghost use Rattle.cc_c.specs.Calls.{Open, Stays};
 ghost use Rattle.cc_c.specs.Values.{IsStatusOrWants, to_object};
 
@@ -20,7 +19,7 @@ use crate::values::{CObject, object, show};
 use cc_names::{RegNo, SlotNo};
 use std::alloc::Global;
 
-/// Makes a native with `slots` empty slots, which numbered native root `r` holds from then on.
+/// Makes a native with `slots` empty slots (0 to 256), which numbered native root `r` holds from then on.
 #[unsafe(no_mangle)]
 #[tactic(auto, using(crate::proofs::Statuses::by_stop_or_want))]
 pub extern "C" fn cc_new_native(
@@ -31,12 +30,14 @@ pub extern "C" fn cc_new_native(
     made: &mut CObject,
 ) -> u32
     ensures stays { Stays c.old.handle.session c.new.handle.session result }
-    ensures stops { Open c.old.handle.session c.new.handle.session (λ s t. IsStatusOrWants (stop_native_made r slots (are_natives_made s.host)) result) }
+    ensures stops { Open c.old.handle.session c.new.handle.session (λ s t. IsStatusOrWants (stop_making r slots (are_natives_made s.host)) result) }
     ensures does { result ≡ 0 → Open c.old.handle.session c.new.handle.session (λ s t. Does Always (λ g. graph.step g (command.Native r slots)) s.host t.host) }
     ensures there { result ≡ 0 → Open c.old.handle.session c.new.handle.session (λ s t. IsThere t.host (to_object made.new)) }
     ensures taken { result ≡ 0 → Open c.old.handle.session c.new.handle.session (λ s t. stop_at t.host (to_object made.new) ≡ None) }
-    ensures name { result ≡ 0 → Open c.old.handle.session c.new.handle.session (λ s t. (to_object made.new).name ≡ native (s.host.heaps.heap.natives_made + 1)) }
-    ensures held { result ≡ 0 → Open c.old.handle.session c.new.handle.session (λ s t. register t.host.heaps.heap (n_register r) ≡ Some (to_object made.new).name) }
+    ensures name { result ≡ 0 → Open c.old.handle.session c.new.handle.session (λ s t.
+        (to_object made.new).name ≡ native (s.host.heaps.heap.natives_made + 1)) }
+    ensures held { result ≡ 0 → Open c.old.handle.session c.new.handle.session (λ s t.
+        register t.host.heaps.heap (n_register r) ≡ Some (to_object made.new).name) }
     ensures left { result ≢ 0 → made.new ≡ made.old }
     ensures same { result ≢ 0 → c.new.handle.session ≡ c.old.handle.session }
     ensures tells { Open c.old.handle.session c.new.handle.session (λ s t. TellsFreed s.host t.host (told_all s.told) (told_all t.told)) }
@@ -56,7 +57,7 @@ pub extern "C" fn cc_new_native(
     }
 }
 
-/// Makes a plain script object with `slots` empty slots, which numbered script root `r` holds from then on.
+/// Makes a plain script object with `slots` empty slots (0 to 256), which numbered script root `r` holds from then on.
 #[unsafe(no_mangle)]
 #[tactic(auto, using(crate::proofs::Statuses::by_stop_or_want))]
 pub extern "C" fn cc_new_plain(
@@ -67,11 +68,13 @@ pub extern "C" fn cc_new_plain(
     made: &mut CObject,
 ) -> u32
     ensures stays { Stays c.old.handle.session c.new.handle.session result }
-    ensures stops { Open c.old.handle.session c.new.handle.session (λ s t. IsStatusOrWants (stop_script_made r slots (are_scripts_made s.host)) result) }
+    ensures stops { Open c.old.handle.session c.new.handle.session (λ s t. IsStatusOrWants (stop_making r slots (are_scripts_made s.host)) result) }
     ensures does { result ≡ 0 → Open c.old.handle.session c.new.handle.session (λ s t. Does Always (λ g. graph.step g (command.Script r slots)) s.host t.host) }
     ensures there { result ≡ 0 → Open c.old.handle.session c.new.handle.session (λ s t. IsThere t.host (to_object made.new)) }
-    ensures name { result ≡ 0 → Open c.old.handle.session c.new.handle.session (λ s t. (to_object made.new).name ≡ object (s.host.heaps.heap.scripts_made + 1)) }
-    ensures held { result ≡ 0 → Open c.old.handle.session c.new.handle.session (λ s t. register t.host.heaps.heap (s_register r) ≡ Some (to_object made.new).name) }
+    ensures name { result ≡ 0 → Open c.old.handle.session c.new.handle.session (λ s t.
+        (to_object made.new).name ≡ object (s.host.heaps.heap.scripts_made + 1)) }
+    ensures held { result ≡ 0 → Open c.old.handle.session c.new.handle.session (λ s t.
+        register t.host.heaps.heap (s_register r) ≡ Some (to_object made.new).name) }
     ensures left { result ≢ 0 → made.new ≡ made.old }
     ensures same { result ≢ 0 → c.new.handle.session ≡ c.old.handle.session }
     ensures quiet { Open c.old.handle.session c.new.handle.session Quiet }
@@ -95,11 +98,13 @@ pub extern "C" fn cc_new_plain(
 #[tactic(auto, using(crate::proofs::Statuses::by_stop_or_want))]
 pub extern "C" fn cc_new_map(alloc: Global, c: &mut Collector, r: u16, made: &mut CObject) -> u32
     ensures stays { Stays c.old.handle.session c.new.handle.session result }
-    ensures stops { Open c.old.handle.session c.new.handle.session (λ s t. IsStatusOrWants (stop_script_made r 0 (are_scripts_made s.host)) result) }
+    ensures stops { Open c.old.handle.session c.new.handle.session (λ s t. IsStatusOrWants (stop_making r 0 (are_scripts_made s.host)) result) }
     ensures does { result ≡ 0 → Open c.old.handle.session c.new.handle.session (λ s t. Does Always (λ g. graph.step g (command.WeakMap r)) s.host t.host) }
     ensures there { result ≡ 0 → Open c.old.handle.session c.new.handle.session (λ s t. IsThere t.host (to_object made.new)) }
-    ensures name { result ≡ 0 → Open c.old.handle.session c.new.handle.session (λ s t. (to_object made.new).name ≡ object (s.host.heaps.heap.scripts_made + 1)) }
-    ensures held { result ≡ 0 → Open c.old.handle.session c.new.handle.session (λ s t. register t.host.heaps.heap (s_register r) ≡ Some (to_object made.new).name) }
+    ensures name { result ≡ 0 → Open c.old.handle.session c.new.handle.session (λ s t.
+        (to_object made.new).name ≡ object (s.host.heaps.heap.scripts_made + 1)) }
+    ensures held { result ≡ 0 → Open c.old.handle.session c.new.handle.session (λ s t.
+        register t.host.heaps.heap (s_register r) ≡ Some (to_object made.new).name) }
     ensures left { result ≢ 0 → made.new ≡ made.old }
     ensures same { result ≢ 0 → c.new.handle.session ≡ c.old.handle.session }
     ensures quiet { Open c.old.handle.session c.new.handle.session Quiet }
@@ -129,11 +134,14 @@ pub extern "C" fn cc_new_proxy(
     made: &mut CObject,
 ) -> u32
     ensures stays { Stays c.old.handle.session c.new.handle.session result }
-    ensures stops { Open c.old.handle.session c.new.handle.session (λ s t. IsStatusOrWants (stop_proxy_made s.host (to_object delegate.now) r) result) }
-    ensures does { result ≡ 0 → Open c.old.handle.session c.new.handle.session (λ s t. Does (IsRooted s.host (to_object delegate.now)) (λ g. graph.with_proxy g r (Some (to_object delegate.now).name)) s.host t.host) }
+    ensures stops { Open c.old.handle.session c.new.handle.session (λ s t. IsStatusOrWants (stop_proxy s.host (to_object delegate.now) r) result) }
+    ensures does { result ≡ 0 → Open c.old.handle.session c.new.handle.session (λ s t.
+        Does (IsRooted s.host (to_object delegate.now)) (λ g. graph.with_proxy g r (Some (to_object delegate.now).name)) s.host t.host) }
     ensures there { result ≡ 0 → Open c.old.handle.session c.new.handle.session (λ s t. IsThere t.host (to_object made.new)) }
-    ensures name { result ≡ 0 → Open c.old.handle.session c.new.handle.session (λ s t. (to_object made.new).name ≡ object (s.host.heaps.heap.scripts_made + 1)) }
-    ensures held { result ≡ 0 → Open c.old.handle.session c.new.handle.session (λ s t. register t.host.heaps.heap (s_register r) ≡ Some (to_object made.new).name) }
+    ensures name { result ≡ 0 → Open c.old.handle.session c.new.handle.session (λ s t.
+        (to_object made.new).name ≡ object (s.host.heaps.heap.scripts_made + 1)) }
+    ensures held { result ≡ 0 → Open c.old.handle.session c.new.handle.session (λ s t.
+        register t.host.heaps.heap (s_register r) ≡ Some (to_object made.new).name) }
     ensures left { result ≢ 0 → made.new ≡ made.old }
     ensures tried { result ≢ 0 → Open c.old.handle.session c.new.handle.session (λ s t. Tries (IsRooted s.host (to_object delegate.now)) s.host t.host) }
     ensures quiet { Open c.old.handle.session c.new.handle.session Quiet }

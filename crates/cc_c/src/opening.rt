@@ -9,9 +9,9 @@ use cc_session::Session;
 use std::alloc::Global;
 
 /// Opens a collector without objects, whose roots hold nothing; as many natives, and as many script objects, may ever be made as
-/// the limits say. Its objects and roots have this mark.
+/// the limits say. Its objects and roots have this mark. C calls it by way of `cc_open`, which draws a mark that none had before.
 #[unsafe(no_mangle)]
-pub extern "C" fn cc_open(
+pub extern "C" fn cc_open_with_mark(
     alloc: Global,
     c: &mut Collector,
     mark: u64,

@@ -33,7 +33,7 @@ pub extern "C" fn cc_is_there(alloc: Global, c: &mut Collector, x: &CObject) -> 
     }
 }
 
-/// How many natives there are, the tables of roots among them.
+/// How many natives there are.
 #[unsafe(no_mangle)]
 pub extern "C" fn cc_natives(alloc: Global, c: &mut Collector, natives: &mut u64) -> u32
     ensures closed { c.old.handle.session ≡ None → result ≡ 1 }

@@ -1,17 +1,14 @@
 //! Weak references.
-ghost use Rattle.std.specs.Prelude.{◌≡◌, ◌≢◌, ◌⊎◌, ◌+◌, ℕ, false, Some, None};
+ghost use Rattle.std.specs.Prelude.{◌≡◌, ◌≢◌, ◌⊎◌, ◌+◌, ◌≤◌, ◌^◌, ℕ, false, length, Some, None};
 ghost use Rattle.cc_names.specs.declared.register.Reg.TheVariants.{N as n_register};
 ghost use Rattle.cc_model.specs.Graph as graph;
-ghost use Rattle.cc_host.specs.Calls.{Brings, TellsFreed};
+ghost use Rattle.cc_host.specs.Calls.{Brings, NoneComes, TellsFreed};
 ghost use Rattle.cc_host.specs.Hosted.{named};
-ghost use Rattle.cc_heaps.specs.Standing.{StandsAfter};
-ghost use Rattle.cc_host.specs.Missing.{KeepsDoomedBut};
+ghost use Rattle.cc_host.specs.Places.{TakesPlace, held_at, placed, places};
 ghost use Rattle.cc_host.specs.Queues.{told_all};
-ghost use Rattle.cc_host.specs.Referring.{HasEnded, has_ended, referent, stop_weak, upgraded};
+ghost use Rattle.cc_host.specs.Referring.{HasEnded, has_ended, referent, stop_upgrade, stop_weak, upgraded};
 ghost use Rattle.cc_host.specs.Stops.{stop_native};
 ghost use Rattle.cc_session.specs.Sessions.{Aside, Enters, serial_at};
-ghost use Rattle.cc_session.specs.Refusals.{stop_upgraded};
-ghost use Rattle.cc_session.specs.Roots.{KeepsKeysInTwo, TellsInThree, brought_back, brought_for_nothing, meanwhile};
 ghost use Rattle.cc_c.specs.Calls.{Open, Reads, Stays};
 ghost use Rattle.cc_c.specs.Values.{IsRootStatus, IsStatus, flag, to_object, to_weak};
 
@@ -86,10 +83,10 @@ pub extern "C" fn cc_upgrade_into(
     native: &mut CObject,
 ) -> u32
     ensures stays { Stays c.old.handle.session c.new.handle.session result }
-    ensures stops { result ≢ 10 → Open c.old.handle.session c.new.handle.session (λ s t. IsStatus (stop_upgraded s.host r (to_weak weak.now)) result) }
+    ensures stops { result ≢ 10 → Open c.old.handle.session c.new.handle.session (λ s t. IsStatus (stop_upgrade s.host r (to_weak weak.now)) result) }
     ensures none { result ≡ 10 → Reads c.old.handle.session (λ s. HasEnded s.host (to_weak weak.now)) }
-    ensures unstopped { result ≡ 10 → Reads c.old.handle.session (λ s. stop_upgraded s.host r (to_weak weak.now) ≡ None) }
-    ensures ended { Reads c.old.handle.session (λ s. HasEnded s.host (to_weak weak.now) → stop_upgraded s.host r (to_weak weak.now) ≡ None → result ≡ 10) }
+    ensures unstopped { result ≡ 10 → Reads c.old.handle.session (λ s. stop_upgrade s.host r (to_weak weak.now) ≡ None) }
+    ensures ended { Reads c.old.handle.session (λ s. HasEnded s.host (to_weak weak.now) → stop_upgrade s.host r (to_weak weak.now) ≡ None → result ≡ 10) }
     ensures native { result ≡ 0 → Reads c.old.handle.session (λ s. Some (to_object native.new) ≡ upgraded s.host (to_weak weak.now)) }
     ensures does { (result ≡ 0) ⊎ (result ≡ 10) → Open c.old.handle.session c.new.handle.session (λ s t. Brings (named (upgraded s.host (to_weak weak.now)))
         (λ g. graph.set_register g (n_register r) (named (upgraded s.host (to_weak weak.now)))) s.host t.host) }
@@ -113,7 +110,7 @@ pub extern "C" fn cc_upgrade_into(
     }
 }
 
-/// A root without number holds the native of a weak reference until it is released; none where it has ended.
+/// A root without number holds the native of a weak reference until it is released; none, and nothing changes, where it has ended.
 #[unsafe(no_mangle)]
 #[tactic(auto, using(crate::proofs::Statuses::by_stop_of_root))]
 pub extern "C" fn cc_upgrade(
@@ -125,28 +122,33 @@ pub extern "C" fn cc_upgrade(
 ) -> u32
     ensures stays { Stays c.old.handle.session c.new.handle.session result }
     ensures stops { result ≢ 10 → Open c.old.handle.session c.new.handle.session (λ s t. IsRootStatus (stop_weak s.host (to_weak weak.now)) result) }
+    ensures full { result ≡ 7 → Reads c.old.handle.session (λ s. (places ≤ length s.books.roots) ⊎ (2 ^ 64 ≤ s.books.last + 1)) }
     ensures none { result ≡ 10 → Reads c.old.handle.session (λ s. HasEnded s.host (to_weak weak.now)) }
     ensures unstopped { result ≡ 10 → Reads c.old.handle.session (λ s. stop_weak s.host (to_weak weak.now) ≡ None) }
     ensures ended { Reads c.old.handle.session (λ s. HasEnded s.host (to_weak weak.now) → stop_weak s.host (to_weak weak.now) ≡ None → result ≡ 10) }
-    ensures stands { result ≡ 0 → Open c.old.handle.session c.new.handle.session (λ s t. StandsAfter s.host.heaps.heap t.host.heaps.heap (brought_back root.new.index (referent (to_weak weak.now)).name)) }
-    ensures doomed { Open c.old.handle.session c.new.handle.session (λ s t. KeepsDoomedBut (named (upgraded s.host (to_weak weak.now))) s.host.heaps.heap t.host.heaps.heap) }
-    ensures entered { result ≡ 0 → Open c.old.handle.session c.new.handle.session (λ s t. Enters s.books t.books root.new.index (Some root.new.serial)) }
+    ensures unchanged { result ≡ 10 → c.new.handle.session ≡ c.old.handle.session }
+    ensures brings { result ≡ 0 → Open c.old.handle.session c.new.handle.session (λ s t.
+        Brings (Some (referent (to_weak weak.now)).name) (placed root.new.index (referent (to_weak weak.now)).name) s.host t.host) }
+    ensures free { result ≡ 0 → Reads c.old.handle.session (λ s. serial_at s.books root.new.index ≡ None) }
+    ensures holds { result ≡ 0 → Reads c.new.handle.session (λ t.
+        held_at t.host.heaps.heap root.new.index ≡ Some (referent (to_weak weak.now)).name) }
+    ensures takes { result ≡ 0 → Open c.old.handle.session c.new.handle.session (λ s t.
+        TakesPlace root.new.index (referent (to_weak weak.now)).name s.host.heaps.heap t.host.heaps.heap) }
+    ensures entered { result ≡ 0 → Open c.old.handle.session c.new.handle.session (λ s t.
+        Enters s.books t.books root.new.index (Some root.new.serial)) }
     ensures serial { result ≡ 0 → Open c.old.handle.session c.new.handle.session (λ s t.
         (root.new.serial ≡ s.books.last + 1) × (t.books.last ≡ root.new.serial)) }
     ensures mark { result ≡ 0 → Open c.old.handle.session c.new.handle.session (λ s t. root.new.mark ≡ s.host.mark) }
-    ensures emptied { result ≡ 10 → Open c.old.handle.session c.new.handle.session (λ s t.
-        StandsAfter s.host.heaps.heap t.host.heaps.heap (λ g. graph.set_register g (n_register meanwhile) None)) }
-    ensures tried { result ≢ 0 → result ≢ 10 → Open c.old.handle.session c.new.handle.session (λ s t. (t ≡ s) ⊎
-        ((n index : ℕ) × StandsAfter s.host.heaps.heap t.host.heaps.heap (brought_for_nothing n index (named (upgraded s.host (to_weak weak.now)))))) }
-    ensures no_root { result ≢ 0 → Open c.old.handle.session c.new.handle.session (λ s t. (index : ℕ) → serial_at t.books index ≡ serial_at s.books index) }
+    ensures native { result ≡ 0 → to_object native.new ≡ referent (to_weak weak.now) }
+    ensures same { result ≢ 0 → Open c.old.handle.session c.new.handle.session (λ s t. (t.host ≡ s.host) × (t.told ≡ s.told)) }
+    ensures no_root { result ≢ 0 → Open c.old.handle.session c.new.handle.session (λ s t.
+        (index : ℕ) → serial_at t.books index ≡ serial_at s.books index) }
+    ensures last { Open c.old.handle.session c.new.handle.session (λ s t. s.books.last ≤ t.books.last) }
     ensures given { Open c.old.handle.session c.new.handle.session (λ s t. t.books.given ≡ s.books.given) }
     ensures steps { Open c.old.handle.session c.new.handle.session (λ s t. t.steps ≡ s.steps) }
-    ensures running { Open c.old.handle.session c.new.handle.session (λ s t. t.host.running ≡ s.host.running) }
-    ensures own_mark { Open c.old.handle.session c.new.handle.session (λ s t. t.host.mark ≡ s.host.mark) }
-    ensures native { result ≡ 0 → to_object native.new ≡ referent (to_weak weak.now) }
     ensures left { result ≢ 0 → (root.new ≡ root.old) × (native.new ≡ native.old) }
-    ensures keys { Open c.old.handle.session c.new.handle.session KeepsKeysInTwo }
-    ensures tells { Open c.old.handle.session c.new.handle.session TellsInThree }
+    ensures none_came { Open c.old.handle.session c.new.handle.session (λ s t. NoneComes s.host t.host) }
+    ensures tells { Open c.old.handle.session c.new.handle.session (λ s t. TellsFreed s.host t.host (told_all s.told) (told_all t.told)) }
 {
     let Some(mut session) = c.take(alloc) else {
         return CLOSED;

@@ -1,13 +1,14 @@
 //! What was told, and steps by which an object is reached, for C.
 ghost use Rattle.std.specs.Prelude.{◌≡◌, [], None, Some};
 ghost use Rattle.cc_names.specs.Names.{number_of};
-ghost use Rattle.cc_c.specs.Telling.{FetchesStep, FetchesTold, data_in, kind_of, shown, shown_step, step_by, step_for, told_alone, told_of};
+ghost use Rattle.cc_c.specs.Telling.{FetchesStep, FetchesTold, data_in, kind_of, shown, shown_step, step_by, step_by_root, step_for, told_alone, told_of};
 ghost use Rattle.cc_c.specs.declared.values.CStep.{CStep};
 ghost use Rattle.cc_c.specs.declared.values.CTold.{CTold};
 
 use crate::values::{CStep, CTold};
+use cc_host::FIRST_PLACE;
 use cc_model::{Event, Item, Reason};
-use cc_names::{Name, Reg};
+use cc_names::{Name, Reg, RegNo};
 use cc_session::Session;
 
 // The kind and the number of an object.
@@ -88,13 +89,23 @@ fn step_by(x: Name, why: u32, by_kind: u32, by_number: u32) -> CStep
     }
 }
 
+// A step to an object, by a register of natives (1) or of script objects (2): a numbered root, or a root without number.
+fn step_by_root(x: Name, bank: u32, r: RegNo) -> CStep
+    ensures { result ≡ step_by_root x bank r }
+{
+    if r >= FIRST_PLACE {
+        return step_by(x, 4, bank, r - FIRST_PLACE);
+    }
+    step_by(x, 1, bank, r)
+}
+
 // A step to an object, by its reason.
 fn step_for(x: Name, reason: Reason) -> CStep
     ensures { result ≡ step_for x reason }
 {
     match reason {
-        Reason::Root(Reg::N(r)) => step_by(x, 1, 1, r),
-        Reason::Root(Reg::S(r)) => step_by(x, 1, 2, r),
+        Reason::Root(Reg::N(r)) => step_by_root(x, 1, r),
+        Reason::Root(Reg::S(r)) => step_by_root(x, 2, r),
         // a weak register leads to nothing
         Reason::Root(Reg::W(r)) => step_by(x, 1, 0, r as u32),
         Reason::Edge(y) => {

@@ -5,10 +5,9 @@ ghost use Rattle.cc_model.specs.Graph as graph;
 ghost use Rattle.cc_heaps.specs.Changes.{slot_held};
 ghost use Rattle.cc_host.specs.Calls.{Does, TellsFreed, stored};
 ghost use Rattle.cc_host.specs.Hosted.{IsRooted, IsRootedIfAny, IsThereIfAny, named, slots_of};
-ghost use Rattle.cc_host.specs.Stops.{stop_at, stop_reading};
+ghost use Rattle.cc_host.specs.Stops.{stop_at, stop_moving, stop_reading, stop_storing};
 ghost use Rattle.cc_host.specs.Queues.{told_all};
 ghost use Rattle.cc_session.specs.Sessions.{Aside};
-ghost use Rattle.cc_session.specs.Refusals.{stop_moved, stop_stored};
 ghost use Rattle.cc_c.specs.Calls.{Open, Reads, Stays};
 ghost use Rattle.cc_c.specs.Values.{IsStatus, to_content, to_object};
 
@@ -84,8 +83,10 @@ pub extern "C" fn cc_store(
     y: &CObject,
 ) -> u32
     ensures stays { Stays c.old.handle.session c.new.handle.session result }
-    ensures stops { Open c.old.handle.session c.new.handle.session (λ s t. IsStatus (stop_stored s.host (to_object x.now) i (to_content y.now)) result) }
-    ensures does { result ≡ 0 → Open c.old.handle.session c.new.handle.session (λ s t. Does (IsRooted s.host (to_object x.now) × IsRootedIfAny s.host (to_content y.now)) (stored (to_object x.now) i (named (to_content y.now))) s.host t.host) }
+    ensures stops { Open c.old.handle.session c.new.handle.session (λ s t. IsStatus (stop_storing s.host (to_object x.now) i (to_content y.now)) result) }
+    ensures does { result ≡ 0 → Open c.old.handle.session c.new.handle.session (λ s t.
+        Does (IsRooted s.host (to_object x.now) × IsRootedIfAny s.host (to_content y.now))
+        (stored (to_object x.now) i (named (to_content y.now))) s.host t.host) }
     ensures same { result ≢ 0 → c.new.handle.session ≡ c.old.handle.session }
     ensures tells { Open c.old.handle.session c.new.handle.session (λ s t. TellsFreed s.host t.host (told_all s.told) (told_all t.told)) }
     ensures aside { Open c.old.handle.session c.new.handle.session Aside }
@@ -113,8 +114,11 @@ pub extern "C" fn cc_move_slot(
     j: SlotNo,
 ) -> u32
     ensures stays { Stays c.old.handle.session c.new.handle.session result }
-    ensures stops { Open c.old.handle.session c.new.handle.session (λ s t. IsStatus (stop_moved s.host (to_object to.now) i (to_object from.now) j) result) }
-    ensures does { result ≡ 0 → Open c.old.handle.session c.new.handle.session (λ s t. Does (IsRooted s.host (to_object to.now) × IsRooted s.host (to_object from.now)) (λ g. graph.move_slot g (Some (to_object to.now).name) i (Some (to_object from.now).name) j (slot_held s.host.heaps.heap (number_of (to_object from.now).name) j)) s.host t.host) }
+    ensures stops { Open c.old.handle.session c.new.handle.session (λ s t. IsStatus (stop_moving s.host (to_object to.now) i (to_object from.now) j) result) }
+    ensures does { result ≡ 0 → Open c.old.handle.session c.new.handle.session (λ s t.
+        Does (IsRooted s.host (to_object to.now) × IsRooted s.host (to_object from.now))
+        (λ g. graph.move_slot g (Some (to_object to.now).name) i (Some (to_object from.now).name) j
+        (slot_held s.host.heaps.heap (number_of (to_object from.now).name) j)) s.host t.host) }
     ensures same { result ≢ 0 → c.new.handle.session ≡ c.old.handle.session }
     ensures tells { Open c.old.handle.session c.new.handle.session (λ s t. TellsFreed s.host t.host (told_all s.told) (told_all t.told)) }
     ensures aside { Open c.old.handle.session c.new.handle.session Aside }

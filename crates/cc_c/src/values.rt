@@ -45,7 +45,8 @@ pub struct CTold {
     pub number: u32,
 }
 
-/// An object, and why it is reached: a root holds it (1), an object refers to it (2), or an entry of a weak map gives it (3).
+/// An object, and why it is reached: a numbered root holds it (1), an object refers to it (2), an entry of a weak map gives it (3), or
+/// a root without number holds it (4).
 #[repr(C)]
 #[derive(Clone, Copy, Drop)]
 pub struct CStep {

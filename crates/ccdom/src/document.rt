@@ -44,7 +44,7 @@ impl Document {
     /// No elements. The first row is that of each native to which the program gave no number.
     pub fn new(alloc: Global) -> Result<Document, Stop> {
         let mut titles = Slab::new(alloc);
-        titles.insert("table of roots").map_err(|_| Stop::NoMemory)?;
+        titles.insert("untitled").map_err(|_| Stop::NoMemory)?;
         let session = Session::new(alloc, Limits::new(1000, 1000, 0), 1)?;
         Ok(Document {
             session,
