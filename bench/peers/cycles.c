@@ -82,9 +82,8 @@ static unsigned long fetch(void) {
 /* So many cycles of so many natives each, beside so many that live. */
 static void run(const char *name, unsigned cycles, unsigned natives, int has_script, unsigned live) {
     const unsigned long objects = (unsigned long)cycles * natives * (has_script ? 3 : 1);
-    static uint64_t mark;
     uint64_t natives_left, scripts_left;
-    TRY(cc_open(&c, ++mark, 1000000, 1000000));
+    TRY(cc_open(&c, 1000000, 1000000));
     make_live(live);
     (void)fetch();
     const double start = now();
