@@ -20,7 +20,7 @@ use Rattle.cc_script.specs.Objects.{Object, colour_at, is_there, name_at, object
 use Rattle.cc_heaps.specs.Keyed.{Keyed, IsInOrder, name_held, named_object}
 use Rattle.cc_heaps.specs.Keeping.{KeepsAll}
 use Rattle.cc_heaps.specs.Leaving.{NoneCame, NothingLeft}
-use Rattle.cc_heaps.specs.Standing.{IsReached, StandsAfter, StillStands}
+use Rattle.cc_heaps.specs.Standing.{IsReached, IsReachedOrReflects, StandsAfter, StillStands}
 use Rattle.cc_heaps.proofs.ContentNames.{object-there}
 use Rattle.cc_heaps.proofs.Kept.{KeepsAll-same}
 use Rattle.cc_heaps.proofs.ObjectsKept.{named-there, there-named}
@@ -105,7 +105,7 @@ module _ (v w : Keyed) (order : IsInOrder [] v) (x : Option Name) (heap : w.heap
   reached None d = tt
   reached (Some y) d = subst (λ h. ReachedIn (view h) y) (sym heap) (exposed-reached v.heap x order.sound y d)
 
-  pub exposes : Exposes (IsReached v.heap x) v w
+  pub exposes : Exposes (IsReachedOrReflects v.heap x) v w
   exposes = record {
     kept = kept;
     stands = still;

@@ -71,6 +71,16 @@ module _ (ds : List Name) (h : Heap) (a : IsApart ds h) where
       (script-place h (name.Reflector k) refl (reached-there h w (name.Reflector k) r)))
       (λ b. absurd b) m)
 
+  -- nor is the native behind it
+  reflects-behind-out : IsWellFormed h → KeepsReflectors ds → (x : Option Name) → IsReachedOrReflects h x → IsUntouched ds (native_of x)
+  reflects-behind-out w keeps None r = λ y m i. m
+  reflects-behind-out w keeps (Some (name.Native k)) r = λ y m i. m
+  reflects-behind-out w keeps (Some (name.Script k)) r = λ y m i. m
+  reflects-behind-out w keeps (Some (name.Reflector k)) r = ⊎_elim
+      (λ l. behind-out w (Some (name.Reflector k)) l)
+      (λ l. one-untouched ds (native k.0) (reached-untouched ds h a (native k.0) l))
+      r
+
 -- Natives
 
 slots-same : (h : Heap) (k : ℕ) → slots_or_none (slots_in h (native k)) ≡ slots_now (native_at h k)
@@ -103,9 +113,9 @@ module _ (h : Heap) where
       doomed-spared s ds (view h) (view (hold_native h r x).heap) (leaves-hold_native ds h h r x (none-untouched ds x none) (leaves-refl ds h a)).spares d
 
   -- what is stored in a slot of a native
-  pub stored-doomed : (k i : ℕ) (x : Option Name) → IsReached h (Some (native k)) → IsReached h x → KeepsDoomed h (stored_in h k i x).heap
+  pub stored-doomed : (k i : ℕ) (x : Option Name) → IsReached h (Some (native k)) → IsReachedOrReflects h x → KeepsDoomed h (stored_in h k i x).heap
   stored-doomed k i x p q = doomed-by h (stored_in h k i x).heap (λ ds keeps a.
-      leaves-written ds h (take_up h x) k i x (out ds h a (Some (native k)) p) (out ds h a x q) (leaves-take_up ds h h x (out ds h a x q) (leaves-refl ds h a)))
+      leaves-written ds h (take_up h x) k i x (out ds h a (Some (native k)) p) (reflects-out ds h a keeps x q) (leaves-take_up ds h h x (reflects-out ds h a keeps x q) (leaves-refl ds h a)))
 
   -- what is moved from one slot to another
   pub moved-doomed : (k i m j : ℕ) → IsReached h (Some (native k)) → IsReached h (Some (native m)) → KeepsDoomed h (moved_in h k i m j).heap
@@ -123,26 +133,26 @@ module _ (h : Heap) where
   -- Script objects
 
   -- what is exposed
-  pub exposed-doomed : (x : Option Name) → IsReached h x → KeepsDoomed h (exposed h x)
-  exposed-doomed x p = doomed-by h (exposed h x) (λ ds keeps a. leaves-exposed ds h h x (out ds h a x p) (leaves-refl ds h a))
+  pub exposed-doomed : (x : Option Name) → IsReachedOrReflects h x → KeepsDoomed h (exposed h x)
+  exposed-doomed x p = doomed-by h (exposed h x) (λ ds keeps a. leaves-exposed ds h h x (reflects-out ds h a keeps x p) (leaves-refl ds h a))
 
   -- what a script register comes to hold
   pub hold_script-doomed : (r : ℕ) (x : Option Name) → IsReachedOrReflects h x → KeepsDoomed h (hold_script h r x)
   hold_script-doomed r x p = doomed-by h (hold_script h r x) (λ ds keeps a. leaves-hold_script ds h h r x (reflects-out ds h a keeps x p) (leaves-refl ds h a))
 
   -- what is stored in a slot of an object
-  pub slot-doomed : (x : Option Name) (i : ℕ) (y : Option Name) → IsReached h x → IsReached h y → KeepsDoomed h (set_slot h x i y)
-  slot-doomed x i y p q = doomed-by h (set_slot h x i y) (λ ds keeps a. leaves-slot ds h h x i y (out ds h a x p) (out ds h a y q) (leaves-refl ds h a))
+  pub slot-doomed : (x : Option Name) (i : ℕ) (y : Option Name) → IsReached h x → IsReachedOrReflects h y → KeepsDoomed h (set_slot h x i y)
+  slot-doomed x i y p q = doomed-by h (set_slot h x i y) (λ ds keeps a. leaves-slot ds h h x i y (out ds h a x p) (reflects-out ds h a keeps y q) (leaves-refl ds h a))
 
   module _ (w : IsWellFormed h) where
     -- a reflector preserved
-    pub preserve-doomed : (x : Option Name) → IsReached h x → KeepsDoomed h (preserve h x)
-    preserve-doomed x p = doomed-by h (preserve h x) (λ ds keeps a. leaves-preserve ds h h x (out ds h a x p) (behind-out ds h a w x p) (leaves-refl ds h a))
+    pub preserve-doomed : (x : Option Name) → IsReachedOrReflects h x → KeepsDoomed h (preserve h x)
+    preserve-doomed x p = doomed-by h (preserve h x) (λ ds keeps a. leaves-preserve ds h h x (reflects-out ds h a keeps x p) (reflects-behind-out ds h a w keeps x p) (leaves-refl ds h a))
 
     -- an entry set or taken out
-    pub set_entry-doomed : (m k v : Option Name) → IsReached h m → IsReached h k → IsReached h v → KeepsDoomed h (set_entry h m k v)
+    pub set_entry-doomed : (m k v : Option Name) → IsReached h m → IsReachedOrReflects h k → IsReachedOrReflects h v → KeepsDoomed h (set_entry h m k v)
     set_entry-doomed m k v n p q = doomed-by h (set_entry h m k v) (λ ds keeps a.
-        leaves-set_entry ds h h m k v (out ds h a m n) (out ds h a k p) (behind-out ds h a w k p) (out ds h a v q) (leaves-refl ds h a))
+        leaves-set_entry ds h h m k v (out ds h a m n) (reflects-out ds h a keeps k p) (reflects-behind-out ds h a w keeps k p) (reflects-out ds h a keeps v q) (leaves-refl ds h a))
 
     -- a native made, a plain object, a weak map
     pub make_native-doomed : (r n : ℕ) → KeepsDoomed h (make_native h r n).heap
@@ -158,9 +168,9 @@ module _ (h : Heap) where
     make_map-doomed r s ds keeps d = doomed-effects s ds h (WeakMap r) w keeps d
 
     -- a proxy made
-    pub make_proxy-doomed : (r : ℕ) (x : Option Name) → IsReached h x → KeepsDoomed h (make_proxy h r x)
+    pub make_proxy-doomed : (r : ℕ) (x : Option Name) → IsReachedOrReflects h x → KeepsDoomed h (make_proxy h r x)
     unfolding KeepsDoomed
     make_proxy-doomed r x p s ds keeps d =
         let a : IsApart ds h = record { unregistered = d.unregistered; holder = d.holder; joint = d.joint } in
         doomed-spared s ds (view h) (view (make_proxy h r x))
-        (leaves-make_proxy ds h h r x (next_object-undoomed s ds h w d) (out ds h a x p) (behind-out ds h a w x p) (leaves-refl ds h a)).spares d
+        (leaves-make_proxy ds h h r x (next_object-undoomed s ds h w d) (reflects-out ds h a keeps x p) (reflects-behind-out ds h a w keeps x p) (leaves-refl ds h a)).spares d

@@ -16,6 +16,7 @@ pub mod Making
 pub mod Coming
 pub mod Finding
 pub mod Reading
+pub mod ReadBeside
 pub mod Stopping
 pub mod Collecting
 pub mod Forgetting
@@ -28,3 +29,5 @@ pub mod Marked
 pub mod MarkedSteps
 pub mod MarkedCalls
 pub mod PlacesKept
+pub mod Reflects
+pub mod ReflectsEntries

@@ -1,5 +1,5 @@
 -- WHAT IS WRITTEN WHILE A NATIVE IS HELD: nothing comes by it, all is kept, and the heaps stand for the graph in which it is written.
-use Rattle.std.proofs.Common.{◌≡◌, ℕ, ◌<◌, ◌++◌, length, get_or, Option, Some, None, IsSome, option_map, refl, sym, ◌∙◌, ap, subst, option_and_then}
+use Rattle.std.proofs.Common.{◌≡◌, ℕ, ◌<◌, [], ◌++◌, length, get_or, Option, Some, None, IsSome, option_map, refl, sym, ◌∙◌, ap, subst, option_and_then}
 use Rattle.std.proofs.lemmas.List.{length-map}
 use Rattle.cc_lists.specs.Members.{Among}
 use Rattle.cc_lists.proofs.Least.{derive-root}
@@ -20,12 +20,12 @@ use Rattle.cc_counted.specs.Counts.{slots_of}
 use Rattle.cc_counted.specs.declared.held.Held.{Held}
 use Rattle.cc_counted.specs.declared.held.Held.TheVariants as held
 use Rattle.cc_script.specs.Objects.{colour_at}
-use Rattle.cc_heaps.specs.Keyed.{Keyed, counts_of, keyed_name, left_with, number_at, the_number}
+use Rattle.cc_heaps.specs.Keyed.{Keyed, IsInOrder, counts_of, keyed_name, left_with, number_at, the_number}
 use Rattle.cc_heaps.specs.Changes.{IsBlackHeld, IsThere, held_name, moved_in, native_name, slot_held, stored_in, taken_from, written_in}
 use Rattle.cc_heaps.specs.Keeping.{KeepsAll, KeepsAllIf, KeepsAllIfReached}
 use Rattle.cc_heaps.specs.Leaving.{NoneCame}
-use Rattle.cc_heaps.specs.Standing.{IsReached, StandsAfter}
-use Rattle.cc_heaps.proofs.Content.{number-some}
+use Rattle.cc_heaps.specs.Standing.{IsReached, IsReachedOrReflects, StandsAfter}
+use Rattle.cc_heaps.proofs.Content.{held-in, number-some}
 use Rattle.cc_heaps.proofs.Following.{slots-keyed}
 use Rattle.cc_heaps.proofs.Kept.{KeepsAll-both, KeepsAll-reached}
 use Rattle.cc_heaps.proofs.Moving.{number-same}
@@ -35,6 +35,7 @@ use Rattle.cc_host.specs.Missing.{KeepsDoomed}
 use Rattle.cc_host.proofs.KeptDoomed.{moved-doomed, stored-doomed}
 use Rattle.cc_host.proofs.Around.{left-none_came}
 use Rattle.cc_host.proofs.Exposing.{stays-same}
+use Rattle.cc_host.proofs.Reflects.{reflects-kept, stored_in-reflects}
 
 -- What comes
 
@@ -103,20 +104,29 @@ module _ {key : NKey} (a b : Keyed) (h : IsHeld key a b) (live : IsSome (number_
     pub stored-kept : IsBlackHeld a content → KeepsAllIf (IsBlackHeld b content) (IsReached b.heap (Some (native (the_number b key.0)))) b c → KeepsAll b c
     stored-kept black kept = KeepsAll-both kept (black-same a b h.scripts content black) held-reached
 
-    pub stored-stands : (IsReached b.heap (Some (native (the_number b key.0))) → IsReached b.heap (held_name b content) →
-        StandsAfter b.heap c.heap (λ g. graph.set_slot g (Some (native (the_number b key.0))) i (held_name b content))) →
-        IsReached a.heap (held_name a content) → StandsAfter b.heap c.heap (λ g. graph.set_slot g (native_name a (Some key)) i (held_name a content))
-    stored-stands stands reached =
+    -- the content is reached, or the reflector of a native that is
+    still-handed : IsReachedOrReflects a.heap (held_name a content) → IsReachedOrReflects b.heap (held_name b content)
+    still-handed reached = subst (IsReachedOrReflects b.heap) (sym ((stays-same a b h.keys h.scripts).same content there))
+        (reflects-kept a.heap b.heap h.reached (held_name a content) reached)
+
+    pub stored-stands : IsInOrder [] a → KeepsAll b c → c ≡ left_with b (stored_in b.heap (the_number b key.0) i (held_name b content)).heap →
+        IsReachedOrReflects a.heap (held_name a content) → StandsAfter b.heap c.heap (λ g. graph.set_slot g (native_name a (Some key)) i (held_name a content))
+    stored-stands order kept is reached =
         let same = (stays-same a b h.keys h.scripts).same content there in
+        let now = h.kept.order [] order in
+        let heap = ap (λ (u : Keyed). u.heap) is in
+        let stands : StandsAfter b.heap c.heap (λ g. graph.set_slot g (Some (native (the_number b key.0))) i (held_name b content)) =
+        subst (λ k. StandsAfter b.heap k (λ g. graph.set_slot g (Some (native (the_number b key.0))) i (held_name b content))) (sym heap)
+        (stored_in-reflects b.heap (the_number b key.0) i (held_name b content) now.sound.well_formed (held-in [] b content now) held-reached (still-handed reached)
+        (subst IsWellFormed heap (kept.order [] now).sound.well_formed)) in
         subst (λ x. StandsAfter b.heap c.heap (λ g. graph.set_slot g x i (held_name a content))) (sym (native_name-is a b h.keys key live))
         (subst (λ y. StandsAfter b.heap c.heap (λ g. graph.set_slot g (Some (native (the_number b key.0))) i y)) same
-        (stands held-reached (subst (IsReached b.heap) (sym same) (h.reached (held_name a content) reached))))
+        stands)
 
-    pub stored-leaves : c ≡ left_with b (stored_in b.heap (the_number b key.0) i (held_name b content)).heap → IsReached a.heap (held_name a content) →
+    pub stored-leaves : c ≡ left_with b (stored_in b.heap (the_number b key.0) i (held_name b content)).heap → IsReachedOrReflects a.heap (held_name a content) →
         KeepsDoomed b.heap c.heap
     stored-leaves is reached = subst (KeepsDoomed b.heap) (sym (ap (λ (u : Keyed). u.heap) is))
-        (stored-doomed b.heap (the_number b key.0) i (held_name b content) held-reached
-        (subst (IsReached b.heap) (sym ((stays-same a b h.keys h.scripts).same content there)) (h.reached (held_name a content) reached)))
+        (stored-doomed b.heap (the_number b key.0) i (held_name b content) held-reached (still-handed reached))
 
   -- WHAT A SLOT OF ANOTHER HOLDS IS MOVED into one of it.
   module _ (c : Keyed) (i : ℕ) (from : NKey) (j : ℕ) (from_live : IsSome (number_at a from.0)) where

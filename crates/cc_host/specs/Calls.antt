@@ -24,7 +24,7 @@ use Rattle.cc_host.specs.declared.object.Object.{Object}
 abbrev pub Always : Type 0
 Always = Unit {0}
 
--- A CALL CHANGES THE GRAPH SO, where the premise holds: that what is handed in is reached. What the running collection can't
+-- A CALL CHANGES THE GRAPH SO, where the premise holds: that what is handed in is reached, or is the reflector of a native that is. What the running collection can't
 -- miss it can't miss afterwards either. Also where the premise doesn't hold no object gets another key, and the running
 -- collection goes on, and so does a script marking.
 pub record Does (premise : Type 0) (change : Graph → Graph) (old new : Hosted) : Type 0 where

@@ -1,6 +1,7 @@
 pub mod Hosted
 pub mod Missing
 pub mod Places
+pub mod Reading
 pub mod Writing
 pub mod Stops
 pub mod Referring

@@ -18,7 +18,7 @@ ghost use Rattle.cc_counted.specs.Counts.{slots_of, unlinked_at};
 ghost use Rattle.cc_heaps.specs.Keyed.{IsInOrder, counts_of, number_at, the_number};
 ghost use Rattle.cc_heaps.specs.Changes.{IsBlackHeld, IsNativeThere, IsThere, held_name, native_name, script_name, slot_held};
 ghost use Rattle.cc_heaps.specs.Leaving.{NoneCame, TellsWhatIsFreed};
-ghost use Rattle.cc_heaps.specs.Standing.{IsReached, MayBeHeld, StandsAfter};
+ghost use Rattle.cc_heaps.specs.Standing.{IsReached, IsReachedOrReflects, MayBeHeld, StandsAfter};
 ghost use Rattle.cc_host.specs.Hosted.{roots};
 ghost use Rattle.cc_host.specs.Missing.{KeepsDoomedBut};
 ghost use Rattle.cc_host.specs.Holding.{IsHeld, IsLetGo};
@@ -70,7 +70,7 @@ pub(crate) fn root_native<N: Notices>(
 fn expose_held(heaps: &mut Heaps, content: Option<Held>)
     requires ready { IsReady heaps.old }
     requires there { IsThere heaps.old content }
-    ensures change { IsTried (IsReached heaps.old.heap (held_name heaps.old content)) heaps.old heaps.new }
+    ensures change { IsTried (IsReachedOrReflects heaps.old.heap (held_name heaps.old content)) heaps.old heaps.new }
     ensures marking { KeepsMarking heaps.old heaps.new }
     ensures places { KeepsPlaces heaps.old.heap heaps.new.heap }
     ensures past { IsMarkingWell heaps.old → IsPastIfAny heaps.new (held_name heaps.old content) }
@@ -113,7 +113,8 @@ fn let_go<N: Notices>(heaps: &mut Heaps, out: &mut N)
     heaps.set_native_reg(ROOTS, None, out);
 }
 
-/// Slot `i` of a native holds a native or a black script object from then on, or nothing.
+/// Slot `i` of a native holds a native or a black script object from then on, or nothing. What comes into it is reached, or the
+/// reflector of a native that is.
 fn store_black<N: Notices>(
     heaps: &mut Heaps,
     key: NKey,
@@ -126,7 +127,7 @@ fn store_black<N: Notices>(
     requires within { i < length (slots_of (counts_of heaps.old) key.0) }
     requires there { IsThere heaps.old content }
     requires black { IsBlackHeld heaps.old content }
-    ensures change { IsChange (IsReached heaps.old.heap (native_name heaps.old (Some key)) × IsReached heaps.old.heap (held_name heaps.old content))
+    ensures change { IsChange (IsReached heaps.old.heap (native_name heaps.old (Some key)) × IsReachedOrReflects heaps.old.heap (held_name heaps.old content))
         (λ g. graph.set_slot g (native_name heaps.old (Some key)) i (held_name heaps.old content)) heaps.old heaps.new }
     ensures marking { (IsMarkingWell heaps.old → IsPastIfAny heaps.old (held_name heaps.old content)) → KeepsMarking heaps.old heaps.new }
     ensures places { KeepsPlaces heaps.old.heap heaps.new.heap }
@@ -150,7 +151,7 @@ pub(crate) fn store_native<N: Notices>(
     requires live { IsSome (number_at heaps.old key.0) }
     requires within { i < length (slots_of (counts_of heaps.old) key.0) }
     requires there { IsThere heaps.old content }
-    ensures change { IsChange (IsReached heaps.old.heap (native_name heaps.old (Some key)) × IsReached heaps.old.heap (held_name heaps.old content))
+    ensures change { IsChange (IsReachedOrReflects heaps.old.heap (native_name heaps.old (Some key)) × IsReachedOrReflects heaps.old.heap (held_name heaps.old content))
         (λ g. graph.set_slot g (native_name heaps.old (Some key)) i (held_name heaps.old content)) heaps.old heaps.new }
     ensures marking { KeepsMarking heaps.old heaps.new }
     ensures places { KeepsPlaces heaps.old.heap heaps.new.heap }

@@ -6,10 +6,11 @@
 //! nothing changed; but three calls that want memory, `wrap`, `set_entry` and `new_proxy`, may have exposed an object or made a
 //! native a suspect by then, and leave the graph as it is. No call has a `requires`.
 //!
-//! What is alive is what the roots reach: 1023 numbered roots hold natives, 1023 hold script objects, and behind them are places for
-//! some thousand million more, which hold objects of both kinds (`root_at`). The host sees to all that
-//! the heaps want of a caller: what is stored is exposed to script before, a reflector that is written is preserved before, and a native
-//! that is written is held meanwhile, so that nothing is forgotten.
+//! What is alive is what the roots reach: 1023 numbered roots hold natives, 1023 hold script objects, and behind them are
+//! places for some thousand million more, which hold objects of both kinds (`root_at`). The host sees to all that the heaps
+//! want of a caller: what is stored is exposed to script before, a reflector that is written is preserved before, and a
+//! native that is written is held meanwhile, so that nothing is forgotten. What is handed in is reached; a reflector that
+//! `wrap` just made is held by nothing, and may be handed in where its native is reached.
 //!
 //! A `Weak` is a reference to a native that keeps nothing alive: `upgrade` brings the native back as long as it was not told as
 //! unlinked or freed, and from then on it is gone, for each call.

@@ -11,7 +11,7 @@ ghost use Rattle.cc_counted.specs.Counts.{unlinked_at};
 ghost use Rattle.cc_script.specs.Objects.{is_there};
 ghost use Rattle.cc_heaps.specs.Changes.{native_name, script_name};
 ghost use Rattle.cc_heaps.specs.Leaving.{NoneCame, NothingLeft, TellsWhatIsFreed};
-ghost use Rattle.cc_heaps.specs.Standing.{IsReached};
+ghost use Rattle.cc_heaps.specs.Standing.{IsReached, IsReachedOrReflects};
 ghost use Rattle.cc_host.specs.Hosted.{roots};
 ghost use Rattle.cc_host.specs.Changes.{IsReady, IsChange, IsTried, OneCame};
 ghost use Rattle.cc_host.specs.Places.{KeepsPlaces};
@@ -106,7 +106,7 @@ pub(crate) fn make_proxy(heaps: &mut Heaps, r: RegNo, delegate: SKey) -> Result<
     requires ready { IsReady heaps.old }
     requires within { r < roots }
     requires live { IsTrue (is_there heaps.old.scripts delegate.0) }
-    ensures change { OnOk result (IsChange (IsReached heaps.old.heap (script_name heaps.old (Some delegate)))
+    ensures change { OnOk result (IsChange (IsReachedOrReflects heaps.old.heap (script_name heaps.old (Some delegate)))
         (λ g. graph.with_proxy g r (script_name heaps.old (Some delegate))) heaps.old heaps.new) }
     ensures marking { KeepsMarking heaps.old heaps.new }
     ensures places { KeepsPlaces heaps.old.heap heaps.new.heap }
@@ -114,7 +114,7 @@ pub(crate) fn make_proxy(heaps: &mut Heaps, r: RegNo, delegate: SKey) -> Result<
     ensures held { OnOk result (register heaps.new.heap (s_register r) ≡ Some (object (heaps.old.heap.scripts_made + 1))) }
     ensures full { result ≡ Err MakeStop.Full → heaps.old.heap.limits.scripts ≤ heaps.old.heap.scripts_made }
     ensures full_always { heaps.old.heap.limits.scripts ≤ heaps.old.heap.scripts_made → result ≡ Err MakeStop.Full }
-    ensures tried { OnErr result (IsTried (IsReached heaps.old.heap (script_name heaps.old (Some delegate))) heaps.old heaps.new) }
+    ensures tried { OnErr result (IsTried (IsReachedOrReflects heaps.old.heap (script_name heaps.old (Some delegate))) heaps.old heaps.new) }
     ensures none_left { NothingLeft heaps.old.heap heaps.new.heap }
     ensures came { IfOk result (λ key. OneCame (script_name heaps.new (Some key)) heaps.old.heap heaps.new.heap) }
     ensures none_came { OnErr result (NoneCame heaps.old.heap heaps.new.heap) }

@@ -26,7 +26,7 @@ use cc_wrappers::preserve;
 pub(crate) fn expose_key(heaps: &mut Heaps, key: SKey)
     requires ready { IsReady heaps.old }
     requires live { IsTrue (is_there heaps.old.scripts key.0) }
-    ensures exposes { Exposes (IsReached heaps.old.heap (script_name heaps.old (Some key))) heaps.old heaps.new }
+    ensures exposes { Exposes (IsReachedOrReflects heaps.old.heap (script_name heaps.old (Some key))) heaps.old heaps.new }
     ensures marking { KeepsMarking heaps.old heaps.new }
     ensures places { KeepsPlaces heaps.old.heap heaps.new.heap }
     ensures past { IsMarkingWell heaps.old → IsPastIfAny heaps.new (script_name heaps.old (Some key)) }
@@ -40,7 +40,7 @@ pub(crate) fn expose_key(heaps: &mut Heaps, key: SKey)
 fn expose_content(heaps: &mut Heaps, content: Option<SKey>)
     requires ready { IsReady heaps.old }
     requires there { IsScriptThere heaps.old content }
-    ensures exposes { Exposes (IsReached heaps.old.heap (script_name heaps.old content)) heaps.old heaps.new }
+    ensures exposes { Exposes (IsReachedOrReflects heaps.old.heap (script_name heaps.old content)) heaps.old heaps.new }
     ensures marking { KeepsMarking heaps.old heaps.new }
     ensures places { KeepsPlaces heaps.old.heap heaps.new.heap }
     ensures past { IsMarkingWell heaps.old → IsPastIfAny heaps.new (script_name heaps.old content) }
@@ -73,7 +73,8 @@ pub(crate) fn store_script(heaps: &mut Heaps, key: SKey, i: SlotNo, content: Opt
     requires live { IsTrue (is_there heaps.old.scripts key.0) }
     requires within { i < length (slots_at heaps.old.scripts key.0) }
     requires there { IsScriptThere heaps.old content }
-    ensures change { IsChange (IsReached heaps.old.heap (script_name heaps.old (Some key)) × IsReached heaps.old.heap (script_name heaps.old content))
+    ensures change { IsChange (IsReachedOrReflects heaps.old.heap (script_name heaps.old (Some key))
+        × IsReachedOrReflects heaps.old.heap (script_name heaps.old content))
         (λ g. graph.set_slot (graph.preserve g (script_name heaps.old (Some key))) (script_name heaps.old (Some key)) i
         (script_name heaps.old content)) heaps.old heaps.new }
     ensures marking { KeepsMarking heaps.old heaps.new }
@@ -90,13 +91,14 @@ pub(crate) fn store_script(heaps: &mut Heaps, key: SKey, i: SlotNo, content: Opt
 pub(crate) fn preserve_reflector(heaps: &mut Heaps, key: SKey)
     requires ready { IsReady heaps.old }
     requires live { IsTrue (is_there heaps.old.scripts key.0) }
-    ensures change { IsChange (IsReached heaps.old.heap (script_name heaps.old (Some key)))
+    ensures change { IsChange (IsReachedOrReflects heaps.old.heap (script_name heaps.old (Some key)))
         (λ g. graph.preserve g (script_name heaps.old (Some key))) heaps.old heaps.new }
     ensures marking { KeepsMarking heaps.old heaps.new }
     ensures places { KeepsPlaces heaps.old.heap heaps.new.heap }
     ensures keys { heaps.new.keys ≡ heaps.old.keys }
     ensures same { AreSame heaps.old.scripts heaps.new.scripts }
     ensures reached { (x : Option Name) → IsReached heaps.old.heap x → IsReached heaps.new.heap x }
+    ensures held { IsReachedOrReflects heaps.old.heap (script_name heaps.old (Some key)) → IsReached heaps.new.heap (script_name heaps.old (Some key)) }
     ensures may_hold { MayHold heaps.new.heap (script_name heaps.old (Some key)) }
     ensures none_left { NothingLeft heaps.old.heap heaps.new.heap }
     ensures none_came { NoneCame heaps.old.heap heaps.new.heap }
@@ -118,12 +120,13 @@ pub(crate) fn set_entry(
     requires the_map { kind_at heaps.old.scripts the_map.0 ≡ Some Map }
     requires key { IsTrue (is_there heaps.old.scripts key.0) }
     requires value { IsTrue (is_there heaps.old.scripts value.0) }
-    ensures change { OnOk result (IsChange (IsReached heaps.old.heap (script_name heaps.old (Some the_map)) ×
-        IsReached heaps.old.heap (script_name heaps.old (Some key)) × IsReached heaps.old.heap (script_name heaps.old (Some value)))
+    ensures change { OnOk result (IsChange (IsReached heaps.old.heap (script_name heaps.old (Some the_map))
+        × IsReachedOrReflects heaps.old.heap (script_name heaps.old (Some key))
+        × IsReachedOrReflects heaps.old.heap (script_name heaps.old (Some value)))
         (λ g. graph.set_entry g (script_name heaps.old (Some the_map)) (script_name heaps.old (Some key))
         (script_name heaps.old (Some value))) heaps.old heaps.new) }
-    ensures tried { OnErr result (IsTried (IsReached heaps.old.heap (script_name heaps.old (Some key)) ×
-        IsReached heaps.old.heap (script_name heaps.old (Some value))) heaps.old heaps.new) }
+    ensures tried { OnErr result (IsTried (IsReachedOrReflects heaps.old.heap (script_name heaps.old (Some key))
+        × IsReachedOrReflects heaps.old.heap (script_name heaps.old (Some value))) heaps.old heaps.new) }
     ensures wanted { OnErr result (value_at (objects_of heaps.old.heap) (script_name heaps.old (Some the_map)) (script_name heaps.old (Some key)) ≡ None) }
     ensures marking { KeepsMarking heaps.old heaps.new }
     ensures places { KeepsPlaces heaps.old.heap heaps.new.heap }
@@ -140,7 +143,7 @@ pub(crate) fn unset_entry(heaps: &mut Heaps, the_map: SKey, key: SKey)
     requires ready { IsReady heaps.old }
     requires the_map { kind_at heaps.old.scripts the_map.0 ≡ Some Map }
     requires key { IsTrue (is_there heaps.old.scripts key.0) }
-    ensures change { IsChange (IsReached heaps.old.heap (script_name heaps.old (Some the_map)) × IsReached heaps.old.heap (script_name heaps.old (Some key)))
+    ensures change { IsChange (IsReached heaps.old.heap (script_name heaps.old (Some the_map)) × IsReachedOrReflects heaps.old.heap (script_name heaps.old (Some key)))
         (λ g. graph.set_entry g (script_name heaps.old (Some the_map)) (script_name heaps.old (Some key)) None) heaps.old heaps.new }
     ensures marking { KeepsMarking heaps.old heaps.new }
     ensures places { KeepsPlaces heaps.old.heap heaps.new.heap }

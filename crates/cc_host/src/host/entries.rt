@@ -4,6 +4,7 @@ ghost use Rattle.cc_model.specs.Checks.{value_at};
 ghost use Rattle.cc_model.specs.Graph as graph;
 ghost use Rattle.cc_model.specs.Heap.{objects_of};
 ghost use Rattle.cc_heaps.specs.Leaving.{NothingLeft};
+ghost use Rattle.cc_heaps.specs.Standing.{IsReachedOrReflects};
 ghost use Rattle.cc_host.specs.Calls.{Does, NoneComes, Tries};
 ghost use Rattle.cc_host.specs.Hosted.{IsRooted};
 ghost use Rattle.cc_host.specs.Places.{KeepsPlaces};
@@ -23,12 +24,12 @@ impl Host {
     #[tactic(auto, using(crate::proofs::KeptDoomed::still_doomed))]
     pub fn set_entry(&mut self, the_map: Object, key: Object, value: Object) -> Result<(), Stop>
         ensures stops { IsStoppedOrRefused (stop_setting self.old the_map key value) result }
-        ensures does { OnOk result (Does (IsRooted self.old the_map × IsRooted self.old key × IsRooted self.old value)
+        ensures does { OnOk result (Does (IsRooted self.old the_map × IsReachedOrReflects self.old.heaps.heap (Some key.name) × IsReachedOrReflects self.old.heaps.heap (Some value.name))
             (λ g. graph.set_entry g (Some the_map.name) (Some key.name) (Some value.name)) self.old self.new) }
         // each other cause is told before anything is done; memory is wanted only for an entry that is not there
         ensures same { (s : Stop) → result ≡ Err s → s ≢ Stop.NoMemory → self.new ≡ self.old }
         ensures wanted { result ≡ Err Stop.NoMemory → value_at (objects_of self.old.heaps.heap) (Some the_map.name) (Some key.name) ≡ None }
-        ensures tried { OnErr result (Tries (IsRooted self.old key × IsRooted self.old value) self.old self.new) }
+        ensures tried { OnErr result (Tries (IsReachedOrReflects self.old.heaps.heap (Some key.name) × IsReachedOrReflects self.old.heaps.heap (Some value.name)) self.old self.new) }
         ensures none_left { NothingLeft self.old.heaps.heap self.new.heaps.heap }
         ensures none_came { NoneComes self.old self.new }
         ensures places { KeepsPlaces self.old.heaps.heap self.new.heaps.heap }
@@ -43,7 +44,7 @@ impl Host {
     /// A key has no value in a weak map from then on. No object leaves or comes by it. Takes no memory.
     pub fn unset_entry(&mut self, the_map: Object, key: Object) -> Result<(), Stop>
         ensures stops { IsStoppedBy (stop_entry self.old the_map key) result }
-        ensures does { OnOk result (Does (IsRooted self.old the_map × IsRooted self.old key)
+        ensures does { OnOk result (Does (IsRooted self.old the_map × IsReachedOrReflects self.old.heaps.heap (Some key.name))
             (λ g. graph.set_entry g (Some the_map.name) (Some key.name) None) self.old self.new) }
         ensures same { OnErr result (self.new ≡ self.old) }
         ensures none_left { NothingLeft self.old.heaps.heap self.new.heaps.heap }

@@ -7,7 +7,7 @@ ghost use Rattle.cc_model.specs.declared.command.Command.TheVariants as command;
 ghost use Rattle.cc_model.specs.Graph as graph;
 ghost use Rattle.cc_model.specs.Heap.{register};
 ghost use Rattle.cc_heaps.specs.Leaving.{NothingLeft};
-ghost use Rattle.cc_heaps.specs.Standing.{IsReached};
+ghost use Rattle.cc_heaps.specs.Standing.{IsReached, IsReachedOrReflects};
 ghost use Rattle.cc_host.specs.Calls.{Always, Comes, Does, NoneComes, TellsFreed, Tries};
 ghost use Rattle.cc_host.specs.Hosted.{IsRooted, IsThere};
 ghost use Rattle.cc_host.specs.Places.{KeepsPlaces};
@@ -111,13 +111,13 @@ impl Host {
     #[tactic(auto, using(crate::proofs::KeptDoomed::still_doomed))]
     pub fn new_proxy(&mut self, r: RegNo, delegate: Object) -> Result<Object, Stop>
         ensures stops { IsStoppedOrRefused (stop_proxy self.old delegate r) result }
-        ensures does { OnOk result (Does (IsRooted self.old delegate) (λ g. graph.with_proxy g r (Some delegate.name)) self.old self.new) }
+        ensures does { OnOk result (Does (IsReachedOrReflects self.old.heaps.heap (Some delegate.name)) (λ g. graph.with_proxy g r (Some delegate.name)) self.old self.new) }
         ensures there { IfOk result (λ x. IsThere self.new x) }
         ensures name { IfOk result (λ x. x.name ≡ object (self.old.heaps.heap.scripts_made + 1)) }
         ensures held { IfOk result (λ x. register self.new.heaps.heap (s_register r) ≡ Some x.name) }
         // each other cause is told before anything is done
         ensures same { (s : Stop) → result ≡ Err s → s ≢ Stop.Full → s ≢ Stop.NoMemory → self.new ≡ self.old }
-        ensures tried { OnErr result (Tries (IsRooted self.old delegate) self.old self.new) }
+        ensures tried { OnErr result (Tries (IsReachedOrReflects self.old.heaps.heap (Some delegate.name)) self.old self.new) }
         ensures none_left { NothingLeft self.old.heaps.heap self.new.heaps.heap }
         // no other object comes
         ensures came { IfOk result (λ x. Comes x.name self.old self.new) }

@@ -76,7 +76,7 @@ impl Host {
     ) -> Result<(), Stop>
         requires { is_native x.name ≡ true }
         ensures stops { IsStoppedBy (stop_storing self.old x i y) result }
-        ensures does { OnOk result (Does (IsRooted self.old x × IsRootedIfAny self.old y) (stored x i (named y)) self.old self.new) }
+        ensures does { OnOk result (Does (IsReachedOrReflects self.old.heaps.heap (Some x.name) × IsReachedOrReflects self.old.heaps.heap (named y)) (stored x i (named y)) self.old self.new) }
         ensures same { OnErr result (self.new ≡ self.old) }
         ensures tells { TellsFreed self.old self.new (N.telling out.old) (N.telling out.new) }
         ensures silent { OnErr result (N.telling out.new ≡ N.telling out.old) }
@@ -96,7 +96,7 @@ impl Host {
     fn store_in_script(&mut self, x: Object, i: SlotNo, y: Option<Object>) -> Result<(), Stop>
         requires { is_native x.name ≡ false }
         ensures stops { IsStoppedBy (stop_storing self.old x i y) result }
-        ensures does { OnOk result (Does (IsRooted self.old x × IsRootedIfAny self.old y) (stored x i (named y)) self.old self.new) }
+        ensures does { OnOk result (Does (IsReachedOrReflects self.old.heaps.heap (Some x.name) × IsReachedOrReflects self.old.heaps.heap (named y)) (stored x i (named y)) self.old self.new) }
         ensures same { OnErr result (self.new ≡ self.old) }
         ensures none_left { NothingLeft self.old.heaps.heap self.new.heaps.heap }
         ensures none_came { NoneComes self.old self.new }
@@ -114,6 +114,9 @@ impl Host {
     /// Slot `i` of an object, counted from 0, holds another object from then on, or nothing. A native holds natives and script
     /// objects; a script object holds script objects, and a reflector is preserved before.
     ///
+    /// What is handed in is reached, or is the reflector of a native that is reached: one that `wrap` just made, which nothing holds
+    /// yet, may be stored, and may be written.
+    ///
     /// What a native's slot held is given up, and what then has no reference is deleted and told. A native that is written is a
     /// suspect then. Takes no memory.
     pub fn store<N: Notices>(
@@ -124,7 +127,7 @@ impl Host {
         out: &mut N,
     ) -> Result<(), Stop>
         ensures stops { IsStoppedBy (stop_storing self.old x i y) result }
-        ensures does { OnOk result (Does (IsRooted self.old x × IsRootedIfAny self.old y) (stored x i (named y)) self.old self.new) }
+        ensures does { OnOk result (Does (IsReachedOrReflects self.old.heaps.heap (Some x.name) × IsReachedOrReflects self.old.heaps.heap (named y)) (stored x i (named y)) self.old self.new) }
         ensures same { OnErr result (self.new ≡ self.old) }
         ensures tells { TellsFreed self.old self.new (N.telling out.old) (N.telling out.new) }
         ensures silent { OnErr result (N.telling out.new ≡ N.telling out.old) }
@@ -168,8 +171,8 @@ impl Host {
         Ok(())
     }
 
-    /// The reflector of a native, for script. The one that it has, or one that is made: put it into a root, or into a slot, for
-    /// by itself it is held by nothing.
+    /// The reflector of a native, for script. The one that it has, or one that is made: put it into a root, a slot or an entry, make
+    /// a proxy of it or preserve it, for by itself it is held by nothing. Each of these takes it while its native is reached.
     ///
     /// `NoMemory` leaves the graph as it is (`tried`), and comes only where the native has no reflector (`wanted`). The native is a
     /// suspect then. Each other refusal changes nothing at all and tells nothing (`same`, `silent`).
@@ -198,10 +201,11 @@ impl Host {
         }
     }
 
-    /// A reflector is preserved from then on: its native holds it. No object leaves or comes by it. Takes no memory.
+    /// A reflector is preserved from then on: its native holds it. It may be one that nothing held before, where its native is
+    /// reached. No object leaves or comes by it. Takes no memory.
     pub fn preserve(&mut self, x: Object) -> Result<(), Stop>
         ensures stops { IsStoppedBy (stop_reflector self.old x) result }
-        ensures does { OnOk result (Does (IsRooted self.old x) (λ g. graph.preserve g (Some x.name)) self.old self.new) }
+        ensures does { OnOk result (Does (IsReachedOrReflects self.old.heaps.heap (Some x.name)) (λ g. graph.preserve g (Some x.name)) self.old self.new) }
         ensures same { OnErr result (self.new ≡ self.old) }
         ensures none_left { NothingLeft self.old.heaps.heap self.new.heaps.heap }
         ensures none_came { NoneComes self.old self.new }

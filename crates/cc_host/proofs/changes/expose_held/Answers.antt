@@ -2,7 +2,7 @@ use Rattle.std.proofs.Common.{rules, ◌≡◌, Some, None, sym, ◌∙◌, ap, 
 use Rattle.cc_counted.specs.declared.held.Held.TheVariants.{Native, Script}
 use Rattle.cc_model.specs.Heap.{Heap}
 use Rattle.cc_heaps.specs.Changes.{IsBlackHeld, held_name}
-use Rattle.cc_heaps.specs.Standing.{IsReached}
+use Rattle.cc_heaps.specs.Standing.{IsReachedOrReflects}
 use Rattle.cc_host.specs.Changes.{IsTried}
 use Rattle.cc_host.proofs.Exposed.{exposed-names, exposed-change}
 use Rattle.cc_host.proofs.Exposing.{exposed-slots, exposed-stays, same-change}
@@ -15,7 +15,7 @@ pub returns-in-Some-Script-clause-change : goal.returns-in-Some-Script-clause-ch
 returns-in-Some-Script-clause-change c =
     let v = c.args.heaps.now in
     let of : c.in-Some-Script.field-0 ≡ Script c.in-Some-Script.key = rw c.in-Some-Script.is at c.in-Some-Script.field-0-is in
-    subst (λ x. IsTried (IsReached v.heap (held_name v x)) v c.expose_key.new.heaps) (sym (c.in-Some-Script.is ∙ ap (λ x. Some x) of))
+    subst (λ x. IsTried (IsReachedOrReflects v.heap (held_name v x)) v c.expose_key.new.heaps) (sym (c.in-Some-Script.is ∙ ap (λ x. Some x) of))
     (exposed-change v c.expose_key.new.heaps c.expose_key.ensures.exposes c.requires.ready)
 
 pub returns-in-Some-Script-clause-black : goal.returns-in-Some-Script-clause-black

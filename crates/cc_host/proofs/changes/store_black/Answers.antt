@@ -4,7 +4,7 @@ use Rattle.cc_heaps.specs.Keyed.{the_number}
 use Rattle.cc_heaps.specs.Changes.{held_name, native_name}
 use Rattle.cc_heaps.specs.Keeping.{KeepsAll}
 use Rattle.cc_heaps.specs.Leaving.{NoneCame}
-use Rattle.cc_heaps.specs.Standing.{IsReached}
+use Rattle.cc_heaps.specs.Standing.{IsReached, IsReachedOrReflects}
 use Rattle.cc_heaps.proofs.FewCounts.{none-owned}
 use Rattle.cc_host.proofs.Around.{around-none_came, around-change, around-tells}
 use Rattle.cc_host.proofs.Exposing.{stays-same}
@@ -52,9 +52,9 @@ returns-clause-change g c =
     let h = c.hold.ensures.held in
     let x = native_name v (Some c.args.key) in
     let y = held_name v c.args.content in
-    around-change v w u c.let_go.new.heaps c.requires.ready h (kept g c) c.let_go.ensures.empty (IsReached v.heap x × IsReached v.heap y)
+    around-change v w u c.let_go.new.heaps c.requires.ready h (kept g c) c.let_go.ensures.empty (IsReached v.heap x × IsReachedOrReflects v.heap y)
     (λ k. graph.set_slot k x c.args.i y) (slot-leaves x c.args.i y) (λ p. p.0)
-    (λ p. stored-stands v w h c.requires.live u c.args.i c.args.content c.requires.there c.store_native.ensures.stands p.1)
+    (λ p. stored-stands v w h c.requires.live u c.args.i c.args.content c.requires.there c.requires.ready.order (kept g c) c.store_native.ensures.heap p.1)
     (λ p. stored-leaves v w h c.requires.live u c.args.i c.args.content c.requires.there c.store_native.ensures.heap p.1)
 
 pub returns-clause-none_came : goal.returns-clause-none_came

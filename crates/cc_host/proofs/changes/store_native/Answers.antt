@@ -3,12 +3,14 @@ use Rattle.cc_lists.specs.Members.{Among}
 use Rattle.cc_names.specs.Names.{native}
 use Rattle.cc_model.specs.Graph as graph
 use Rattle.cc_model.proofs.Tellings.{Tells-nil}
+use Rattle.cc_heaps.specs.Keyed.{number_at}
 use Rattle.cc_heaps.specs.Changes.{held_name, native_name}
-use Rattle.cc_heaps.specs.Standing.{IsReached}
+use Rattle.cc_heaps.specs.Standing.{IsReached, IsReachedOrReflects}
 use Rattle.cc_host.specs.Changes.{IsChange}
 use Rattle.cc_host.proofs.Composing.{change-after, tells-after}
 use Rattle.cc_host.proofs.Storing.{live-same, native_name-same, within-same}
 use Rattle.cc_host.proofs.Marked.{marking-after}
+use Rattle.cc_host.proofs.Reflects.{native-or, reflects-kept}
 use Rattle.cc_host.specs.Marked.{IsPastIfAny}
 use Rattle.cc_host.proofs.changes.store_native.Goals as goal
 
@@ -35,11 +37,11 @@ returns-clause-change g c =
     let y = held_name v c.args.content in
     let near = native_name-same v w e.keys c.args.key in
     let same = e.stays.same c.args.content c.requires.there in
-    let p = IsReached v.heap x × IsReached v.heap y in
+    let p = IsReachedOrReflects v.heap x × IsReachedOrReflects v.heap y in
     subst (λ z. IsChange p (λ k. graph.set_slot k z c.args.i y) v u) near
     (subst (λ z. IsChange p (λ k. graph.set_slot k (native_name w (Some c.args.key)) c.args.i z) v u) same
     (change-after v w u c.requires.ready e.change c.store_black.ensures.none_came (λ r. r.1)
-    (λ r. (subst (IsReached w.heap) (sym near) (e.reached x r.0), subst (IsReached w.heap) (sym same) (e.reached y r.1))) c.store_black.ensures.change))
+    (λ r. (subst (IsReached w.heap) (sym near) (e.reached x (native-or v.heap (number_at v c.args.key.0) r.0)), subst (IsReachedOrReflects w.heap) (sym same) (reflects-kept v.heap w.heap e.reached y r.1))) c.store_black.ensures.change))
 
 pub returns-clause-tells : goal.returns-clause-tells
 returns-clause-tells g c =

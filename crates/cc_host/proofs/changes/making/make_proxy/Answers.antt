@@ -1,9 +1,9 @@
-use Rattle.std.proofs.Common.{rules, ◌+◌, Some, sym, ◌∙◌, ap, subst, inl, inr, ⊎_elim, arith}
+use Rattle.std.proofs.Common.{rules, [], ◌<◌, ◌+◌, Some, sym, ◌∙◌, ap, subst, inl, inr, ⊎_elim, arith}
 use Rattle.cc_names.specs.declared.register.Reg.TheVariants.{N}
 use Rattle.cc_model.specs.Graph as graph
 use Rattle.cc_model.specs.Heap.{Heap, register}
 use Rattle.cc_script.specs.Objects.{name_at}
-use Rattle.cc_heaps.specs.Standing.{IsReached, StandsAfter}
+use Rattle.cc_heaps.specs.Standing.{IsReached, IsReachedOrReflects, StandsAfter}
 use Rattle.cc_host.specs.Hosted.{spare}
 use Rattle.cc_host.specs.Missing.{KeepsDoomed}
 use Rattle.cc_host.proofs.KeptDoomed.{doomed-then, make_proxy-doomed}
@@ -16,7 +16,9 @@ use Rattle.cc_heaps.specs.Changes.{script_name}
 use Rattle.cc_host.proofs.Coming.{OneCame-named, left-into, proxy-came, proxy-left}
 use Rattle.cc_host.proofs.MarkedCalls.{made_proxy-marking}
 use Rattle.cc_host.proofs.Marked.{marking-after}
+use Rattle.cc_heaps.proofs.Following.{name_at-there}
 use Rattle.cc_host.specs.Marked.{IsPastIfAny}
+use Rattle.cc_host.proofs.Reflects.{proxy-reflects, reflects-kept}
 use Rattle.cc_host.proofs.changes.making.make_proxy.Goals as goal
 
 pub new_proxy-requires-clause-within : goal.new_proxy-requires-clause-within
@@ -29,16 +31,21 @@ returns-clause-change c =
     let w = c.new_proxy.new.self in
     let e = c.expose_key.ensures in
     let p = c.in_ok-new_proxy.ensures in
+    let own = name_at v.scripts c.args.delegate.0 in
+    let allowed : v.heap.scripts_made < v.heap.limits.scripts = search (rules, arith) in
     record {
       kept = KeepsAll-after u v w e.exposes.keys e.exposes.same e.exposes.kept p.kept;
       spared = ap (λ (h : Heap). register h (N spare)) p.heap ∙ (proxy-beside v.heap c.args.r (name_at v.scripts c.args.delegate.0) spare ∙ e.ready.spared);
       stands = λ d. StandsAfter-still u.heap v.heap w.heap e.exposes.stands
-          (subst (λ x. IsReached v.heap x → StandsAfter v.heap w.heap (λ g. graph.with_proxy g c.args.r x)) (e.exposes.same c.args.delegate.0 c.requires.live).name p.stands
-          (e.exposes.reached _ d));
+          (subst (λ x. IsReachedOrReflects v.heap x → StandsAfter v.heap w.heap (λ g. graph.with_proxy g c.args.r x)) (e.exposes.same c.args.delegate.0 c.requires.live).name
+          (subst (λ k. IsReachedOrReflects v.heap own → StandsAfter v.heap k (λ g. graph.with_proxy g c.args.r own)) (sym p.heap)
+          (proxy-reflects v.heap c.args.r own e.ready.order.sound allowed (name_at-there [] v e.ready.order c.args.delegate.0)
+          (subst (λ k. IsReached v.heap own → StandsAfter v.heap k (λ g. graph.with_proxy g c.args.r own)) p.heap p.stands)))
+          (reflects-kept u.heap v.heap e.exposes.reached _ d));
       doomed = λ d. doomed-then u.heap v.heap w.heap (e.exposes.doomed d)
           (subst (KeepsDoomed v.heap) (sym p.heap)
           (make_proxy-doomed v.heap e.ready.order.sound.well_formed c.args.r (name_at v.scripts c.args.delegate.0)
-          (subst (IsReached v.heap) (sym (e.exposes.same c.args.delegate.0 c.requires.live).name) (e.exposes.reached _ d))));
+          (subst (IsReachedOrReflects v.heap) (sym (e.exposes.same c.args.delegate.0 c.requires.live).name) (reflects-kept u.heap v.heap e.exposes.reached _ d))));
     }
 
 pub returns-clause-came : goal.returns-clause-came

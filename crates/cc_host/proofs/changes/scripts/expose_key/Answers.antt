@@ -1,6 +1,6 @@
 use Rattle.std.proofs.Common.{[]}
 use Rattle.cc_script.specs.Objects.{name_at}
-use Rattle.cc_heaps.specs.Standing.{IsReached}
+use Rattle.cc_heaps.specs.Standing.{IsReachedOrReflects}
 use Rattle.cc_host.specs.Exposing.{Exposes}
 use Rattle.cc_host.proofs.Exposed.{exposed-colour, exposed-ready, exposes}
 use Rattle.cc_host.proofs.MarkedCalls.{exposed-is_past, exposed-marking}
@@ -10,7 +10,7 @@ use Rattle.cc_host.proofs.changes.scripts.expose_key.Goals as goal
 pub expose-requires-clause-order : goal.expose-requires-clause-order
 expose-requires-clause-order c = ([], c.requires.ready.order)
 
-given : (c : goal.After-expose) → Exposes (IsReached c.args.heaps.now.heap (name_at c.args.heaps.now.scripts c.args.key.0)) c.args.heaps.now c.expose.new.self
+given : (c : goal.After-expose) → Exposes (IsReachedOrReflects c.args.heaps.now.heap (name_at c.args.heaps.now.scripts c.args.key.0)) c.args.heaps.now c.expose.new.self
 given c =
     let v = c.args.heaps.now in
     let e = c.expose.ensures in

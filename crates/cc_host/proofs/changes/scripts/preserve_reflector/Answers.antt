@@ -2,7 +2,7 @@ use Rattle.std.proofs.Common.{◌≡◌, [], sym, ◌∙◌, ap, subst}
 use Rattle.cc_model.specs.Graph as graph
 use Rattle.cc_script.specs.Objects.{name_at}
 use Rattle.cc_heaps.specs.Keyed.{Keyed}
-use Rattle.cc_heaps.specs.Standing.{IsReached, MayHold, StandsAfter}
+use Rattle.cc_heaps.specs.Standing.{IsReached, IsReachedOrReflects, MayHold, StandsAfter}
 use Rattle.cc_heaps.proofs.Kept.{KeepsAll-black}
 use Rattle.cc_host.specs.Exposing.{AreSame}
 use Rattle.cc_host.specs.Missing.{KeepsDoomed}
@@ -12,6 +12,8 @@ use Rattle.cc_host.proofs.ScriptSteps.{StaysBeside, beside-none_came, beside-non
 use Rattle.cc_host.proofs.MarkedCalls.{preserved-marking}
 use Rattle.cc_host.proofs.Marked.{marking-after}
 use Rattle.cc_host.specs.Marked.{IsPastIfAny}
+use Rattle.cc_heaps.proofs.Following.{name_at-there}
+use Rattle.cc_host.proofs.Reflects.{preserved-held, preserved-reflects, reflects-kept}
 use Rattle.cc_host.proofs.changes.scripts.preserve_reflector.Goals as goal
 
 pub preserve-requires-clause-order : goal.preserve-requires-clause-order
@@ -35,14 +37,20 @@ returns-clause-change c =
     let v = c.expose_key.new.heaps in
     let w = c.preserve.new.heaps in
     let e = c.expose_key.ensures in
+    let own = name_at v.scripts c.args.key.0 in
+    let heap = ap (λ (x : Keyed). x.heap) c.preserve.ensures.heap in
     record {
       kept = KeepsAll-after u v w e.exposes.keys e.exposes.same e.exposes.kept (KeepsAll-black c.preserve.ensures.kept e.black);
       spared = beside-spared v w (beside c) e.ready.spared;
       stands = λ d. StandsAfter-still u.heap v.heap w.heap e.exposes.stands
-          (subst (λ x. IsReached v.heap x → StandsAfter v.heap w.heap (λ g. graph.preserve g x)) (name c) c.preserve.ensures.stands (e.exposes.reached _ d));
+          (subst (λ x. IsReachedOrReflects v.heap x → StandsAfter v.heap w.heap (λ g. graph.preserve g x)) (name c)
+          (subst (λ k. IsReachedOrReflects v.heap own → StandsAfter v.heap k (λ g. graph.preserve g own)) (sym heap)
+          (preserved-reflects v.heap own e.ready.order.sound (name_at-there [] v e.ready.order c.args.key.0)
+          (subst (λ k. IsReached v.heap own → StandsAfter v.heap k (λ g. graph.preserve g own)) heap c.preserve.ensures.stands)))
+          (reflects-kept u.heap v.heap e.exposes.reached _ d));
       doomed = λ d. doomed-then u.heap v.heap w.heap (e.exposes.doomed d)
           (subst (KeepsDoomed v.heap) (sym (ap (λ (x : Keyed). x.heap) c.preserve.ensures.heap))
-          (preserve-doomed v.heap e.ready.order.sound.well_formed (name_at v.scripts c.args.key.0) (subst (IsReached v.heap) (sym (name c)) (e.exposes.reached _ d))));
+          (preserve-doomed v.heap e.ready.order.sound.well_formed (name_at v.scripts c.args.key.0) (subst (IsReachedOrReflects v.heap) (sym (name c)) (reflects-kept u.heap v.heap e.exposes.reached _ d))));
     }
 
 pub returns-clause-keys : goal.returns-clause-keys
@@ -72,3 +80,16 @@ returns-clause-marking c =
     let e = c.expose_key.ensures in
     marking-after u v c.preserve.new.heaps e.marking (λ k. preserved-marking v c.preserve.new.heaps (name_at v.scripts c.args.key.0) c.preserve.ensures.heap
     (λ its. subst (IsPastIfAny v) (sym (name c)) (e.past k)))
+
+pub returns-clause-held : goal.returns-clause-held
+returns-clause-held c d =
+    let u = c.args.heaps.now in
+    let v = c.expose_key.new.heaps in
+    let e = c.expose_key.ensures in
+    let own = name_at v.scripts c.args.key.0 in
+    let heap = ap (λ (x : Keyed). x.heap) c.preserve.ensures.heap in
+    subst (IsReached c.preserve.new.heaps.heap) (name c)
+    (subst (λ h. IsReached h own) (sym heap)
+    (preserved-held v.heap own e.ready.order.sound (name_at-there [] v e.ready.order c.args.key.0)
+    (subst (IsReachedOrReflects v.heap) (sym (name c)) (reflects-kept u.heap v.heap e.exposes.reached _ d))
+    (λ y i. subst (λ h. IsReached h y) heap (c.preserve.ensures.reached y i))))

@@ -9,7 +9,7 @@ use Rattle.cc_script.specs.Objects.{name_at}
 use Rattle.cc_heaps.specs.Keyed.{Keyed}
 use Rattle.cc_heaps.specs.Changes.{script_name}
 use Rattle.cc_heaps.specs.Leaving.{NoneCame, NothingLeft}
-use Rattle.cc_heaps.specs.Standing.{IsReached, StandsAfter}
+use Rattle.cc_heaps.specs.Standing.{IsReached, IsReachedOrReflects, StandsAfter}
 use Rattle.cc_heaps.proofs.Kept.{KeepsAll-black}
 use Rattle.cc_heaps.proofs.EntriesSet.{map-there}
 use Rattle.cc_host.specs.Exposing.{Exposes}
@@ -23,6 +23,8 @@ use Rattle.cc_model.specs.WellFormed.{names_there}
 use Rattle.cc_host.proofs.MarkedCalls.{entry-marking}
 use Rattle.cc_host.proofs.Marked.{marking-after, marking-same}
 use Rattle.cc_host.specs.Marked.{IsPastIfAny}
+use Rattle.cc_host.proofs.Reflects.{reflects-kept}
+use Rattle.cc_host.proofs.ReflectsEntries.{entry_at-reflects}
 use Rattle.cc_host.proofs.Stopping.{refused-none}
 use Rattle.cc_host.proofs.changes.scripts.set_entry.Goals as goal
 
@@ -46,12 +48,14 @@ set_entry-requires-clause-value c = (AreSame-then _ _ _ c.expose_key.ensures.exp
 
 -- key and value exposed
 both : (c : goal.After-set_entry) →
-    Exposes (IsReached c.args.heaps.now.heap (script_name c.args.heaps.now (Some c.args.key)) × IsReached c.args.heaps.now.heap (script_name c.args.heaps.now (Some c.args.value)))
+    Exposes (IsReachedOrReflects c.args.heaps.now.heap (script_name c.args.heaps.now (Some c.args.key))
+    × IsReachedOrReflects c.args.heaps.now.heap (script_name c.args.heaps.now (Some c.args.value)))
     c.args.heaps.now c.expose_key-2.new.heaps
 both c =
     let e = c.expose_key.ensures.exposes in
     Exposes-then c.args.heaps.now c.expose_key.new.heaps c.expose_key-2.new.heaps e c.expose_key-2.ensures.exposes (λ r. r.0)
-    (λ r. subst (IsReached c.expose_key.new.heaps.heap) (sym (e.same c.args.value.0 c.requires.value).name) (e.reached _ r.1))
+    (λ r. subst (IsReachedOrReflects c.expose_key.new.heaps.heap) (sym (e.same c.args.value.0 c.requires.value).name)
+    (reflects-kept c.args.heaps.now.heap c.expose_key.new.heaps.heap e.reached _ r.1))
 
 -- natives and registers stay
 beside : (c : goal.After-set_entry) →
@@ -66,7 +70,7 @@ pub returns-clause-tried : goal.returns-clause-tried
 returns-clause-tried c =
     let u = c.args.heaps.now in
     on_err_weaker c.set_entry.result
-    (λ same. subst (IsTried (IsReached u.heap (script_name u (Some c.args.key)) × IsReached u.heap (script_name u (Some c.args.value))) u) (sym same)
+    (λ same. subst (IsTried (IsReachedOrReflects u.heap (script_name u (Some c.args.key)) × IsReachedOrReflects u.heap (script_name u (Some c.args.value))) u) (sym same)
     (exposed-change u c.expose_key-2.new.heaps (both c) c.requires.ready)) c.set_entry.ensures.same
 
 pub returns-clause-none_left : goal.returns-clause-none_left
@@ -91,17 +95,17 @@ returns-clause-none_came c x i =
 
 -- each is handed in under its name
 stood : (c : goal.After-set_entry) (p q r x y z : Option Name) → p ≡ x → q ≡ y → r ≡ z →
-    (IsReached c.expose_key-2.new.heaps.heap p → IsReached c.expose_key-2.new.heaps.heap q → IsReached c.expose_key-2.new.heaps.heap r →
+    (IsReached c.expose_key-2.new.heaps.heap p → IsReachedOrReflects c.expose_key-2.new.heaps.heap q → IsReachedOrReflects c.expose_key-2.new.heaps.heap r →
     StandsAfter c.expose_key-2.new.heaps.heap c.set_entry.new.self.heap (λ g. graph.set_entry g p q r)) →
-    IsReached c.args.heaps.now.heap x × IsReached c.args.heaps.now.heap y × IsReached c.args.heaps.now.heap z →
+    IsReached c.args.heaps.now.heap x × IsReachedOrReflects c.args.heaps.now.heap y × IsReachedOrReflects c.args.heaps.now.heap z →
     StandsAfter c.args.heaps.now.heap c.set_entry.new.self.heap (λ g. graph.set_entry g x y z)
 stood c p q r x y z e f g stands d =
     let u = c.args.heaps.now.heap in
     let v = c.expose_key-2.new.heaps.heap in
     let w = c.set_entry.new.self.heap in
     let b = both c in
-    let now : IsReached v x → IsReached v y → IsReached v z → StandsAfter v w (λ g. graph.set_entry g x y z) = rw (← e, ← f, ← g) stands in
-    StandsAfter-still u v w b.stands (now (b.reached x d.0) (b.reached y d.1) (b.reached z d.2))
+    let now : IsReached v x → IsReachedOrReflects v y → IsReachedOrReflects v z → StandsAfter v w (λ g. graph.set_entry g x y z) = rw (← e, ← f, ← g) stands in
+    StandsAfter-still u v w b.stands (now (b.reached x d.0) (reflects-kept u v b.reached y d.1) (reflects-kept u v b.reached z d.2))
 
 pub returns-clause-change : goal.returns-clause-change
 returns-clause-change c =
@@ -111,18 +115,20 @@ returns-clause-change c =
     let b = both c in
     let key = (both c).same c.args.key.0 c.requires.key in
     let black = c.expose_key-2.ensures.exposes.same c.args.key.0 (c.expose_key.ensures.exposes.same c.args.key.0 c.requires.key).there in
-    ok-both c.set_entry.result c.set_entry.ensures.heap c.set_entry.ensures.stands (λ heap stands. record {
-      kept = KeepsAll-after u v w b.keys b.same b.kept
-          (KeepsAll-black c.set_entry.ensures.kept (black.black c.expose_key.ensures.black, c.expose_key-2.ensures.black));
+    let last = KeepsAll-black c.set_entry.ensures.kept (black.black c.expose_key.ensures.black, c.expose_key-2.ensures.black) in
+    ok-both c.set_entry.result c.set_entry.ensures.heap c.set_entry.ensures.heap (λ heap again. record {
+      kept = KeepsAll-after u v w b.keys b.same b.kept last;
       spared = beside-spared v w (beside c heap) c.expose_key-2.ensures.ready.spared;
       stands = stood c _ _ _ (script_name u (Some c.args.the_map)) (script_name u (Some c.args.key)) (script_name u (Some c.args.value))
-          (b.same c.args.the_map.0 (map-there u.scripts c.args.the_map.0 c.requires.the_map)).name key.name (b.same c.args.value.0 c.requires.value).name stands;
+          (b.same c.args.the_map.0 (map-there u.scripts c.args.the_map.0 c.requires.the_map)).name key.name (b.same c.args.value.0 c.requires.value).name
+          (entry_at-reflects v w c.expose_key-2.ensures.ready.order (last.order [] c.expose_key-2.ensures.ready.order) c.args.the_map.0 c.args.key.0 c.args.value.0
+          ((b.same c.args.the_map.0 (map-there u.scripts c.args.the_map.0 c.requires.the_map)).kind ∙ c.requires.the_map) key.there (b.same c.args.value.0 c.requires.value).there heap);
       doomed = λ d. doomed-then u.heap v.heap w.heap (b.doomed (d.1, d.2))
           (subst (KeepsDoomed v.heap) (sym heap)
           (set_entry-doomed v.heap c.expose_key-2.ensures.ready.order.sound.well_formed (name_at v.scripts c.args.the_map.0) (name_at v.scripts c.args.key.0) (name_at v.scripts c.args.value.0)
           (subst (IsReached v.heap) (sym (b.same c.args.the_map.0 (map-there u.scripts c.args.the_map.0 c.requires.the_map)).name) (b.reached _ d.0))
-          (subst (IsReached v.heap) (sym key.name) (b.reached _ d.1))
-          (subst (IsReached v.heap) (sym (b.same c.args.value.0 c.requires.value).name) (b.reached _ d.2))));
+          (subst (IsReachedOrReflects v.heap) (sym key.name) (reflects-kept u.heap v.heap b.reached _ d.1))
+          (subst (IsReachedOrReflects v.heap) (sym (b.same c.args.value.0 c.requires.value).name) (reflects-kept u.heap v.heap b.reached _ d.2))));
     })
 
 pub returns-clause-marking : goal.returns-clause-marking

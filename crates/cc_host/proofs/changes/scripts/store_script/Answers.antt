@@ -2,7 +2,7 @@ use Rattle.std.proofs.Common.{◌<◌, [], Some, sym, subst}
 use Rattle.cc_model.specs.Graph as graph
 use Rattle.cc_script.specs.Objects.{name_at}
 use Rattle.cc_heaps.specs.Changes.{script_name}
-use Rattle.cc_heaps.specs.Standing.{IsReached, MayHold, StandsAfter}
+use Rattle.cc_heaps.specs.Standing.{IsReached, IsReachedOrReflects, MayHold, StandsAfter}
 use Rattle.cc_host.specs.Exposing.{AreSame}
 use Rattle.cc_host.specs.Missing.{KeepsDoomed}
 use Rattle.cc_host.proofs.KeptDoomed.{doomed-then, slot-doomed}
@@ -12,6 +12,7 @@ use Rattle.cc_host.proofs.ScriptSteps.{StaysBeside, beside-none_came, beside-non
 use Rattle.cc_host.proofs.MarkedCalls.{slot-marking}
 use Rattle.cc_host.proofs.Marked.{marking-after}
 use Rattle.cc_host.specs.Marked.{IsPastIfAny}
+use Rattle.cc_host.proofs.Reflects.{reflects-kept, script_slot-reflects}
 use Rattle.cc_host.proofs.changes.scripts.store_script.Goals as goal
 
 pub preserve_reflector-requires-clause-ready : goal.preserve_reflector-requires-clause-ready
@@ -62,26 +63,34 @@ returns-clause-change c =
     let was = (e.same c.args.key.0 c.requires.live).name in
     let name = (same c c.args.key.0 c.requires.live).name in
     let content = content-name t v (same c) c.args.content c.requires.there in
+    let now = p.change.kept.order [] c.expose_content.ensures.ready.order in
+    let own : IsReachedOrReflects t.heap (script_name t (Some c.args.key)) → IsReachedOrReflects u.heap (script_name u (Some c.args.key)) =
+    λ r. subst (IsReachedOrReflects u.heap) (sym was) (reflects-kept t.heap u.heap e.reached _ r) in
+    let held : IsReachedOrReflects t.heap (script_name t (Some c.args.key)) → IsReached v.heap (script_name t (Some c.args.key)) =
+    λ r. subst (IsReached v.heap) was (p.held (own r)) in
+    let handed : IsReachedOrReflects t.heap (script_name t c.args.content) → IsReachedOrReflects v.heap (script_name t c.args.content) =
+    λ r. reflects-kept u.heap v.heap p.reached _ (reflects-kept t.heap u.heap e.reached _ r) in
     record {
       kept = KeepsAll-after t u w e.keys e.same e.kept (KeepsAll-after u v w p.keys p.same p.change.kept c.store_script.ensures.kept);
       spared = beside-spared v w (beside c) p.change.spared;
       stands = λ d.
           let preserved : StandsAfter t.heap v.heap (λ g. graph.preserve g (script_name t (Some c.args.key))) =
           StandsAfter-still t.heap u.heap v.heap e.stands
-          (subst (λ x. IsReached u.heap x → StandsAfter u.heap v.heap (λ g. graph.preserve g x)) was p.change.stands (e.reached _ d.0)) in
-          let stored : IsReached v.heap (script_name t (Some c.args.key)) → IsReached v.heap (script_name t c.args.content) → MayHold v.heap (script_name t (Some c.args.key)) →
+          (subst (λ x. IsReachedOrReflects u.heap x → StandsAfter u.heap v.heap (λ g. graph.preserve g x)) was p.change.stands (reflects-kept t.heap u.heap e.reached _ d.0)) in
+          let stored : IsReached v.heap (script_name t (Some c.args.key)) → IsReachedOrReflects v.heap (script_name t c.args.content) → MayHold v.heap (script_name t (Some c.args.key)) →
           StandsAfter v.heap w.heap (λ g. graph.set_slot g (script_name t (Some c.args.key)) c.args.i (script_name t c.args.content)) =
-          subst (λ x. IsReached v.heap x → IsReached v.heap (script_name t c.args.content) → MayHold v.heap x → StandsAfter v.heap w.heap (λ g. graph.set_slot g x c.args.i (script_name t c.args.content))) name
-          (subst (λ y. IsReached v.heap (script_name v (Some c.args.key)) → IsReached v.heap y → MayHold v.heap (script_name v (Some c.args.key)) →
-          StandsAfter v.heap w.heap (λ g. graph.set_slot g (script_name v (Some c.args.key)) c.args.i y)) content c.store_script.ensures.stands) in
+          subst (λ x. IsReached v.heap x → IsReachedOrReflects v.heap (script_name t c.args.content) → MayHold v.heap x → StandsAfter v.heap w.heap (λ g. graph.set_slot g x c.args.i (script_name t c.args.content))) name
+          (subst (λ y. IsReached v.heap (script_name v (Some c.args.key)) → IsReachedOrReflects v.heap y → MayHold v.heap (script_name v (Some c.args.key)) →
+          StandsAfter v.heap w.heap (λ g. graph.set_slot g (script_name v (Some c.args.key)) c.args.i y)) content
+          (script_slot-reflects v w now c.args.key.0 c.args.i c.args.content (same c c.args.key.0 c.requires.live).there c.store_script.ensures.heap)) in
           stands-then t.heap v.heap w.heap _ _ preserved
-          (stored (p.reached _ (e.reached _ d.0)) (p.reached _ (e.reached _ d.1)) (subst (MayHold v.heap) was p.may_hold));
+          (stored (held d.0) (handed d.1) (subst (MayHold v.heap) was p.may_hold));
       doomed = λ d. doomed-then t.heap u.heap w.heap (e.doomed d.1)
-          (doomed-then u.heap v.heap w.heap (p.change.doomed (subst (IsReached u.heap) (sym was) (e.reached _ d.0)))
+          (doomed-then u.heap v.heap w.heap (p.change.doomed (own d.0))
           (subst (KeepsDoomed v.heap) (sym c.store_script.ensures.heap)
           (slot-doomed v.heap (name_at v.scripts c.args.key.0) c.args.i (script_name v c.args.content)
-          (subst (IsReached v.heap) (sym name) (p.reached _ (e.reached _ d.0)))
-          (subst (IsReached v.heap) (sym content) (p.reached _ (e.reached _ d.1))))));
+          (subst (IsReached v.heap) (sym name) (held d.0))
+          (subst (IsReachedOrReflects v.heap) (sym content) (handed d.1)))));
     }
 
 pub returns-clause-none_came : goal.returns-clause-none_came

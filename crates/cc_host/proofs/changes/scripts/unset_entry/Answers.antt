@@ -4,6 +4,10 @@ use Rattle.cc_host.specs.Missing.{KeepsDoomed}
 use Rattle.cc_host.proofs.KeptDoomed.{set_entry-doomed}
 use Rattle.cc_host.proofs.ScriptSteps.{StaysBeside, beside-none_came, beside-none_left, beside-spared, entry-beside}
 use Rattle.cc_host.proofs.MarkedCalls.{unset-marking}
+use Rattle.cc_model.specs.Graph as graph
+use Rattle.cc_laws_heap.specs.Sound.{IsSound}
+use Rattle.cc_heaps.specs.Standing.{StandsAfter}
+use Rattle.cc_host.proofs.ReflectsEntries.{unset-stands}
 use Rattle.cc_host.proofs.changes.scripts.unset_entry.Goals as goal
 
 pub unset_entry-requires-clause-order : goal.unset_entry-requires-clause-order
@@ -21,7 +25,9 @@ returns-clause-change c =
     record {
       kept = e.kept;
       spared = beside-spared c.args.heaps.now c.unset_entry.new.self (beside c) c.requires.ready.spared;
-      stands = λ d. e.stands d.0 d.1;
+      stands = λ d. subst (λ h. StandsAfter v.heap h (λ g. graph.set_entry g (name_at v.scripts c.args.the_map.0) (name_at v.scripts c.args.key.0) None)) (sym e.heap)
+          (unset-stands v.heap (name_at v.scripts c.args.the_map.0) (name_at v.scripts c.args.key.0) c.requires.ready.order.sound
+          (subst (IsSound []) e.heap (e.kept.order [] c.requires.ready.order).sound));
       doomed = λ d. subst (KeepsDoomed v.heap) (sym e.heap)
           (set_entry-doomed v.heap c.requires.ready.order.sound.well_formed (name_at v.scripts c.args.the_map.0) (name_at v.scripts c.args.key.0) None d.0 d.1 tt);
     }
