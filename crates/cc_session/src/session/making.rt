@@ -5,6 +5,7 @@ ghost use Rattle.cc_names.specs.declared.register.Reg.TheVariants.{N as n_regist
 ghost use Rattle.cc_model.specs.declared.command.Command.TheVariants as command;
 ghost use Rattle.cc_model.specs.Graph as graph;
 ghost use Rattle.cc_model.specs.Heap.{register};
+ghost use Rattle.cc_heaps.specs.Standing.{IsReachedOrReflects};
 ghost use Rattle.cc_host.specs.Calls.{Always, Comes, Does, NoneComes, TellsFreed, Tries};
 ghost use Rattle.cc_host.specs.Hosted.{IsRooted, IsThere};
 ghost use Rattle.cc_host.specs.Queues.{told_all};
@@ -98,13 +99,13 @@ impl Session {
     #[tactic(auto, using(cc_host::proofs::KeptDoomed::still_doomed))]
     pub fn new_proxy(&mut self, r: RegNo, delegate: Object) -> Result<Object, Stop>
         ensures stops { IsStoppedOrWants (stop_proxy self.old.host delegate r) result }
-        ensures does { OnOk result (Does (IsRooted self.old.host delegate) (λ g. graph.with_proxy g r (Some delegate.name)) self.old.host self.new.host) }
+        ensures does { OnOk result (Does (IsReachedOrReflects self.old.host.heaps.heap (Some delegate.name)) (λ g. graph.with_proxy g r (Some delegate.name)) self.old.host self.new.host) }
         ensures there { IfOk result (λ x. IsThere self.new.host x) }
         ensures name { IfOk result (λ x. x.name ≡ object (self.old.host.heaps.heap.scripts_made + 1)) }
         ensures held { IfOk result (λ x. register self.new.host.heaps.heap (s_register r) ≡ Some x.name) }
         // each other cause changes nothing
         ensures same { (s : Stop) → result ≡ Err s → s ≢ Stop.Full → s ≢ Stop.NoMemory → self.new ≡ self.old }
-        ensures tried { OnErr result (Tries (IsRooted self.old.host delegate) self.old.host self.new.host) }
+        ensures tried { OnErr result (Tries (IsReachedOrReflects self.old.host.heaps.heap (Some delegate.name)) self.old.host self.new.host) }
         ensures quiet { Quiet self.old self.new }
         // no other object comes
         ensures came { IfOk result (λ x. Comes x.name self.old.host self.new.host) }

@@ -1,13 +1,15 @@
 //! What roots, slots and entries hold, and why an object is there.
-ghost use Rattle.std.specs.Prelude.{◌≡◌, ◌≢◌, ◌<◌, ◌≤◌, [], length, map, Some, None, true, false, is_some, IfOk, OnErr, OnOk, IsTrue, slice_index_or};
+ghost use Rattle.std.specs.Prelude.{◌≡◌, ◌≢◌, ◌↔◌, ◌<◌, ◌≤◌, [], length, map, Some, None, true, false, is_some, IfOk, OnErr, OnOk, IsTrue, IsSome, slice_index_or};
+ghost use Rattle.cc_names.specs.declared.kind.Kind.TheVariants.{Proxy};
 ghost use Rattle.cc_names.specs.declared.register.Reg.TheVariants.{N as n_register, S as s_register};
 ghost use Rattle.cc_model.specs.Answers.{item_of_step};
 ghost use Rattle.cc_model.specs.Checks.{native_of, value_at};
 ghost use Rattle.cc_model.specs.Derivations.{is_led_to, leads_in, path_to};
-ghost use Rattle.cc_model.specs.Heap.{objects_of, register};
+ghost use Rattle.cc_model.specs.Heap.{delegate_at, objects_of, register};
 ghost use Rattle.cc_script.specs.Objects.{kind_at};
 ghost use Rattle.cc_host.specs.Hosted.{IsThereIfAny, named, slots_of};
-ghost use Rattle.cc_host.specs.Stops.{IsStoppedBy, IsStoppedOrRefused, stop_at, stop_entry, stop_reading, stop_script};
+ghost use Rattle.cc_host.specs.Reading.{preserved_in, reflector_in};
+ghost use Rattle.cc_host.specs.Stops.{IsStoppedBy, IsStoppedOrRefused, stop_at, stop_entry, stop_native, stop_reading, stop_reflector, stop_script};
 ghost use Rattle.cc_session.specs.Sessions.{numbered};
 
 use crate::session::Session;
@@ -65,6 +67,34 @@ impl Session {
         ensures there { IfOk result (λ native. IsThereIfAny self.now.host native) }
     {
         self.host.unwrap(x)
+    }
+
+    /// The reflector of a native, where there is one; none else. Nothing is made, and nothing exposed: it may be freed as long as
+    /// nothing holds it. To keep it, take it by `wrap`.
+    pub fn reflector_of(&self, x: Object) -> Result<Option<Object>, Stop>
+        ensures stops { IsStoppedBy (stop_native self.now.host x) result }
+        ensures name { IfOk result (λ reflector. named reflector ≡ reflector_in self.now.host.heaps.heap x.name) }
+        ensures there { IfOk result (λ reflector. IsThereIfAny self.now.host reflector) }
+    {
+        self.host.reflector_of(x)
+    }
+
+    /// Whether a reflector is preserved: whether its native holds it.
+    pub fn is_preserved(&self, x: Object) -> Result<bool, Stop>
+        ensures stops { IsStoppedBy (stop_reflector self.now.host x) result }
+        ensures preserved { IfOk result (λ preserved. preserved_in self.now.host.heaps.heap x.name ≡ Some preserved) }
+    {
+        self.host.is_preserved(x)
+    }
+
+    /// The delegate of a proxy; none of any other script object.
+    pub fn delegate(&self, x: Object) -> Result<Option<Object>, Stop>
+        ensures stops { IsStoppedBy (stop_script self.now.host x) result }
+        ensures name { IfOk result (λ delegate. named delegate ≡ delegate_at self.now.host.heaps.heap x.name) }
+        ensures exactly { IfOk result (λ delegate. IsSome delegate ↔ (kind_at self.now.host.heaps.scripts x.key ≡ Some Proxy)) }
+        ensures there { IfOk result (λ delegate. IsThereIfAny self.now.host delegate) }
+    {
+        self.host.delegate(x)
     }
 
     /// The value that a key has in a weak map; none where it has none.
