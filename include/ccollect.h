@@ -169,7 +169,14 @@ cc_status cc_move_slot(cc_collector *, const cc_object *to, uint16_t i, const cc
 cc_status cc_wrap(cc_collector *, const cc_object *native, cc_object *reflector);
 cc_status cc_unwrap(cc_collector *, const cc_object *, cc_object *native);
 cc_status cc_preserve(cc_collector *, const cc_object *reflector);
+/* cc_reflector answers CC_OK, and nothing, of a native without a reflector. It makes none, and what it answers may be freed while
+ * nothing holds it: to keep it, take it by cc_wrap. *preserved is 1 where the native holds its reflector, else 0. */
+cc_status cc_reflector(cc_collector *, const cc_object *native, cc_object *reflector);
+cc_status cc_is_preserved(cc_collector *, const cc_object *reflector, uint32_t *preserved);
+
+/* Script objects. cc_delegate of what is no proxy answers CC_OK, and nothing. */
 cc_status cc_kind(cc_collector *, const cc_object *, uint32_t *kind);
+cc_status cc_delegate(cc_collector *, const cc_object *, cc_object *delegate);
 
 /* Entries of weak maps. */
 cc_status cc_set_entry(cc_collector *, const cc_object *map, const cc_object *key, const cc_object *value);

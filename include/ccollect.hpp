@@ -178,7 +178,10 @@ public:
     expected<object> wrap(const object &native) noexcept { return ask<object>(cc_wrap, &native); }
     expected<object> unwrap(const object &x) noexcept { return ask<object>(cc_unwrap, &x); }
     cc_status preserve(const object &reflector) noexcept { return cc_preserve(&state_, &reflector); }
+    expected<object> reflector(const object &native) noexcept { return ask<object>(cc_reflector, &native); }
+    expected<bool> is_preserved(const object &reflector) noexcept { return ask_whether(cc_is_preserved, &reflector); }
     expected<uint32_t> kind(const object &x) noexcept { return ask<uint32_t>(cc_kind, &x); }
+    expected<object> delegate(const object &x) noexcept { return ask<object>(cc_delegate, &x); }
 
     cc_status set_entry(const object &map, const object &key, const object &value) noexcept {
         return cc_set_entry(&state_, &map, &key, &value);

@@ -243,7 +243,7 @@ static void mark_in_slices(cc_collector *c) {
 /* Other things that a program does. */
 static void move_and_proxy(cc_collector *c) {
     cc_object parent, child, proxy, found, reflector;
-    uint32_t kind, some, marks;
+    uint32_t kind, some, marks, preserved;
     printf("A reference is moved, and a proxy is made.\n");
     TRY(cc_new_native(c, 2, 2, &parent));
     TRY(cc_new_native(c, 3, 0, &child));
@@ -263,9 +263,21 @@ static void move_and_proxy(cc_collector *c) {
     HOLDS(is_same(&found, &parent));
     HOLDS(fetch(c) == 0);
 
+    TRY(cc_reflector(c, &child, &found));
+    HOLDS(found.kind == CC_NOTHING);
     TRY(cc_wrap(c, &child, &reflector));
+    TRY(cc_reflector(c, &child, &found));
+    HOLDS(is_same(&found, &reflector));
+    TRY(cc_is_preserved(c, &reflector, &preserved));
+    HOLDS(preserved == 0);
     TRY(cc_preserve(c, &reflector));
+    TRY(cc_is_preserved(c, &reflector, &preserved));
+    HOLDS(preserved == 1);
     TRY(cc_new_proxy(c, 0, &reflector, &proxy));
+    TRY(cc_delegate(c, &proxy, &found));
+    HOLDS(is_same(&found, &reflector));
+    TRY(cc_delegate(c, &reflector, &found));
+    HOLDS(found.kind == CC_NOTHING);
     TRY(cc_kind(c, &proxy, &kind));
     HOLDS(kind == CC_PROXY);
     TRY(cc_script_root(c, 0, &found));
@@ -474,6 +486,9 @@ static void meet_each_status(cc_collector *c, const struct page *p) {
     WANT(cc_wrap(c, &plain, &out), CC_KIND);
     WANT(cc_unwrap(c, &native, &out), CC_KIND);
     WANT(cc_preserve(c, &plain), CC_KIND);
+    WANT(cc_reflector(c, &plain, &out), CC_KIND);
+    WANT(cc_is_preserved(c, &plain, &over), CC_KIND);
+    WANT(cc_delegate(c, &native, &out), CC_KIND);
     WANT(cc_set_data(c, &plain, 1), CC_KIND);
     WANT(cc_set_entry(c, &plain, &plain, &plain), CC_KIND);
     WANT(cc_entry(c, &p->map, &native, &out), CC_KIND);

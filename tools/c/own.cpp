@@ -215,7 +215,9 @@ static void call_each() {
     const cc::object reflector = *c.wrap(element);
     WANT(c.set_script_root(3, reflector) == CC_OK && c.script_root(3)->number == element.number);
     WANT(c.native_root(0)->number == element.number && c.unwrap(reflector)->number == element.number);
-    WANT(c.preserve(reflector) == CC_OK && *c.kind(proxy) == CC_PROXY && *c.kind(map) == CC_MAP);
+    WANT(c.reflector(child)->kind == CC_NOTHING && c.reflector(element)->number == element.number && !*c.is_preserved(reflector));
+    WANT(c.preserve(reflector) == CC_OK && *c.is_preserved(reflector) && *c.kind(proxy) == CC_PROXY && *c.kind(map) == CC_MAP);
+    WANT(c.delegate(proxy)->number == listener.number && c.delegate(map)->kind == CC_NOTHING);
     WANT(*c.slots(element) == 2 && c.store(element, 0, child) == CC_OK && c.store(listener, 0, reflector) == CC_OK);
     WANT(c.move_slot(element, 1, element, 0) == CC_OK && c.slot(element, 0)->kind == CC_NOTHING);
     WANT(c.slot(element, 1)->number == child.number);

@@ -4,6 +4,7 @@ ghost use Rattle.cc_model.specs.Checks.{value_at};
 ghost use Rattle.cc_model.specs.Graph as graph;
 ghost use Rattle.cc_model.specs.Heap.{objects_of};
 ghost use Rattle.cc_host.specs.Calls.{Does, Tries};
+ghost use Rattle.cc_heaps.specs.Standing.{IsReachedOrReflects};
 ghost use Rattle.cc_host.specs.Hosted.{IsRooted, IsThereIfAny, named};
 ghost use Rattle.cc_host.specs.Stops.{stop_entry, stop_setting};
 ghost use Rattle.cc_session.specs.Sessions.{Quiet};
@@ -27,8 +28,8 @@ pub extern "C" fn cc_set_entry(
 ) -> u32
     ensures stays { Stays c.old.handle.session c.new.handle.session result }
     ensures stops { Open c.old.handle.session c.new.handle.session (λ s t. IsStatusOrRefused (stop_setting s.host (to_object the_map.now) (to_object key.now) (to_object value.now)) result) }
-    ensures does { result ≡ 0 → Open c.old.handle.session c.new.handle.session (λ s t. Does (IsRooted s.host (to_object the_map.now) × IsRooted s.host (to_object key.now) × IsRooted s.host (to_object value.now)) (λ g. graph.set_entry g (Some (to_object the_map.now).name) (Some (to_object key.now).name) (Some (to_object value.now).name)) s.host t.host) }
-    ensures tried { result ≢ 0 → Open c.old.handle.session c.new.handle.session (λ s t. Tries (IsRooted s.host (to_object key.now) × IsRooted s.host (to_object value.now)) s.host t.host) }
+    ensures does { result ≡ 0 → Open c.old.handle.session c.new.handle.session (λ s t. Does (IsRooted s.host (to_object the_map.now) × IsReachedOrReflects s.host.heaps.heap (Some (to_object key.now).name) × IsReachedOrReflects s.host.heaps.heap (Some (to_object value.now).name)) (λ g. graph.set_entry g (Some (to_object the_map.now).name) (Some (to_object key.now).name) (Some (to_object value.now).name)) s.host t.host) }
+    ensures tried { result ≢ 0 → Open c.old.handle.session c.new.handle.session (λ s t. Tries (IsReachedOrReflects s.host.heaps.heap (Some (to_object key.now).name) × IsReachedOrReflects s.host.heaps.heap (Some (to_object value.now).name)) s.host t.host) }
     ensures quiet { Open c.old.handle.session c.new.handle.session Quiet }
 {
     let Some(mut session) = c.take(alloc) else {
@@ -53,7 +54,7 @@ pub extern "C" fn cc_unset_entry(
 ) -> u32
     ensures stays { Stays c.old.handle.session c.new.handle.session result }
     ensures stops { Open c.old.handle.session c.new.handle.session (λ s t. IsStatus (stop_entry s.host (to_object the_map.now) (to_object key.now)) result) }
-    ensures does { result ≡ 0 → Open c.old.handle.session c.new.handle.session (λ s t. Does (IsRooted s.host (to_object the_map.now) × IsRooted s.host (to_object key.now)) (λ g. graph.set_entry g (Some (to_object the_map.now).name) (Some (to_object key.now).name) None) s.host t.host) }
+    ensures does { result ≡ 0 → Open c.old.handle.session c.new.handle.session (λ s t. Does (IsRooted s.host (to_object the_map.now) × IsReachedOrReflects s.host.heaps.heap (Some (to_object key.now).name)) (λ g. graph.set_entry g (Some (to_object the_map.now).name) (Some (to_object key.now).name) None) s.host t.host) }
     ensures same { result ≢ 0 → c.new.handle.session ≡ c.old.handle.session }
     ensures quiet { Open c.old.handle.session c.new.handle.session Quiet }
 {

@@ -6,6 +6,7 @@ ghost use Rattle.cc_model.specs.declared.command.Command.TheVariants as command;
 ghost use Rattle.cc_model.specs.Graph as graph;
 ghost use Rattle.cc_model.specs.Heap.{register};
 ghost use Rattle.cc_host.specs.Calls.{Always, Does, TellsFreed, Tries};
+ghost use Rattle.cc_heaps.specs.Standing.{IsReachedOrReflects};
 ghost use Rattle.cc_host.specs.Hosted.{IsRooted, IsThere};
 ghost use Rattle.cc_host.specs.Stops.{are_natives_made, are_scripts_made, stop_at, stop_making, stop_proxy};
 ghost use Rattle.cc_host.specs.Queues.{told_all};
@@ -136,14 +137,14 @@ pub extern "C" fn cc_new_proxy(
     ensures stays { Stays c.old.handle.session c.new.handle.session result }
     ensures stops { Open c.old.handle.session c.new.handle.session (λ s t. IsStatusOrWants (stop_proxy s.host (to_object delegate.now) r) result) }
     ensures does { result ≡ 0 → Open c.old.handle.session c.new.handle.session (λ s t.
-        Does (IsRooted s.host (to_object delegate.now)) (λ g. graph.with_proxy g r (Some (to_object delegate.now).name)) s.host t.host) }
+        Does (IsReachedOrReflects s.host.heaps.heap (Some (to_object delegate.now).name)) (λ g. graph.with_proxy g r (Some (to_object delegate.now).name)) s.host t.host) }
     ensures there { result ≡ 0 → Open c.old.handle.session c.new.handle.session (λ s t. IsThere t.host (to_object made.new)) }
     ensures name { result ≡ 0 → Open c.old.handle.session c.new.handle.session (λ s t.
         (to_object made.new).name ≡ object (s.host.heaps.heap.scripts_made + 1)) }
     ensures held { result ≡ 0 → Open c.old.handle.session c.new.handle.session (λ s t.
         register t.host.heaps.heap (s_register r) ≡ Some (to_object made.new).name) }
     ensures left { result ≢ 0 → made.new ≡ made.old }
-    ensures tried { result ≢ 0 → Open c.old.handle.session c.new.handle.session (λ s t. Tries (IsRooted s.host (to_object delegate.now)) s.host t.host) }
+    ensures tried { result ≢ 0 → Open c.old.handle.session c.new.handle.session (λ s t. Tries (IsReachedOrReflects s.host.heaps.heap (Some (to_object delegate.now).name)) s.host t.host) }
     ensures quiet { Open c.old.handle.session c.new.handle.session Quiet }
 {
     let Some(mut session) = c.take(alloc) else {

@@ -4,6 +4,7 @@ ghost use Rattle.cc_names.specs.Names.{number_of};
 ghost use Rattle.cc_model.specs.Graph as graph;
 ghost use Rattle.cc_heaps.specs.Changes.{slot_held};
 ghost use Rattle.cc_host.specs.Calls.{Does, TellsFreed, stored};
+ghost use Rattle.cc_heaps.specs.Standing.{IsReachedOrReflects};
 ghost use Rattle.cc_host.specs.Hosted.{IsRooted, IsRootedIfAny, IsThereIfAny, named, slots_of};
 ghost use Rattle.cc_host.specs.Stops.{stop_at, stop_moving, stop_reading, stop_storing};
 ghost use Rattle.cc_host.specs.Queues.{told_all};
@@ -85,7 +86,7 @@ pub extern "C" fn cc_store(
     ensures stays { Stays c.old.handle.session c.new.handle.session result }
     ensures stops { Open c.old.handle.session c.new.handle.session (λ s t. IsStatus (stop_storing s.host (to_object x.now) i (to_content y.now)) result) }
     ensures does { result ≡ 0 → Open c.old.handle.session c.new.handle.session (λ s t.
-        Does (IsRooted s.host (to_object x.now) × IsRootedIfAny s.host (to_content y.now))
+        Does (IsReachedOrReflects s.host.heaps.heap (Some (to_object x.now).name) × IsReachedOrReflects s.host.heaps.heap (named (to_content y.now)))
         (stored (to_object x.now) i (named (to_content y.now))) s.host t.host) }
     ensures same { result ≢ 0 → c.new.handle.session ≡ c.old.handle.session }
     ensures tells { Open c.old.handle.session c.new.handle.session (λ s t. TellsFreed s.host t.host (told_all s.told) (told_all t.told)) }
