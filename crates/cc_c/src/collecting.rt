@@ -27,7 +27,8 @@ pub extern "C" fn cc_slice(alloc: Global, c: &mut Collector, units: u32, over: &
     ensures unfetched { result ≡ 11 → Open c.old.handle.session c.new.handle.session IsUnfetched }
     ensures flag { result ≡ 0 → (over.new ≡ 0) ⊎ (over.new ≡ 1) }
     ensures collects { result ≢ 11 → Open c.old.handle.session c.new.handle.session (λ s t. Collects s.host t.host (told_all s.told) (told_all t.told)) }
-    ensures sliced { result ≢ 11 → Open c.old.handle.session c.new.handle.session (λ s t. (steps : ℕ) × IsSliced units (machine s.host) (machine t.host) (progress_in result over.new) 0 steps (told_all s.told) (told_all t.told)) }
+    ensures sliced { result ≢ 11 → Open c.old.handle.session c.new.handle.session (λ s t. (steps : ℕ)
+        × IsSliced units (machine s.host) (machine t.host) (progress_in result over.new) 0 steps (told_all s.told) (told_all t.told)) }
     ensures ended { (result ≡ 8) ⊎ ((result ≡ 0) × (over.new ≡ 1)) → Open c.old.handle.session c.new.handle.session (λ s t. t.host.running ≡ None) }
     ensures unmarked { result ≢ 11 → Open c.old.handle.session c.new.handle.session (λ s t. t.host.marking ≡ false) }
     ensures left { result ≢ 0 → over.new ≡ over.old }
@@ -63,14 +64,19 @@ pub extern "C" fn cc_collect(alloc: Global, c: &mut Collector) -> u32
     ensures status { Reads c.old.handle.session (λ s. (result ≡ 0) ⊎ (result ≡ 8) ⊎ (result ≡ 11)) }
     ensures unfetched { result ≡ 11 → Open c.old.handle.session c.new.handle.session IsUnfetched }
     ensures collects { result ≢ 11 → Open c.old.handle.session c.new.handle.session (λ s t. Collects s.host t.host (told_all s.told) (told_all t.told)) }
-    ensures done { result ≡ 0 → Open c.old.handle.session c.new.handle.session (λ s t. IsCollected (machine s.host) (machine t.host) at_end (told_all s.told) (told_all t.told)) }
-    ensures refused { result ≡ 8 → Open c.old.handle.session c.new.handle.session (λ s t. IsCollected (machine s.host) (machine t.host) refused (told_all s.told) (told_all t.told)) }
+    ensures done { result ≡ 0 → Open c.old.handle.session c.new.handle.session
+        (λ s t. IsCollected (machine s.host) (machine t.host) at_end (told_all s.told) (told_all t.told)) }
+    ensures refused { result ≡ 8 → Open c.old.handle.session c.new.handle.session
+        (λ s t. IsCollected (machine s.host) (machine t.host) refused (told_all s.told) (told_all t.told)) }
     ensures over { result ≢ 11 → Open c.old.handle.session c.new.handle.session (λ s t. t.host.running ≡ None) }
     ensures unmarked { result ≢ 11 → Open c.old.handle.session c.new.handle.session (λ s t. t.host.marking ≡ false) }
     ensures aside { Open c.old.handle.session c.new.handle.session Aside }
-    ensures takes { result ≢ 11 → Open c.old.handle.session c.new.handle.session (λ s t. (ds : List Name) → CannotMiss s.host ds → Takes ds (told_all s.told) (told_all t.told)) }
-    ensures takes_if_done { result ≡ 0 → Open c.old.handle.session c.new.handle.session (λ s t. (ds : List Name) → CannotMiss s.host ds → TellsUnlinked ds (told_all s.told) (told_all t.told)) }
-    ensures begins { result ≡ 0 → Open c.old.handle.session c.new.handle.session (λ s t. IsOfAGraph s.host → TakesGarbage s.host → TellsUnlinked (lost_in s.host) (told_all s.told) (told_all t.told)) }
+    ensures takes { result ≢ 11 → Open c.old.handle.session c.new.handle.session (λ s t. (ds : List Name) → CannotMiss s.host ds
+        → Takes ds (told_all s.told) (told_all t.told)) }
+    ensures takes_if_done { result ≡ 0 → Open c.old.handle.session c.new.handle.session (λ s t. (ds : List Name) → CannotMiss s.host ds
+        → TellsUnlinked ds (told_all s.told) (told_all t.told)) }
+    ensures begins { result ≡ 0 → Open c.old.handle.session c.new.handle.session (λ s t. IsOfAGraph s.host → TakesGarbage s.host
+        → TellsUnlinked (lost_in s.host) (told_all s.told) (told_all t.told)) }
 {
     let Some(mut session) = c.take(alloc) else {
         return CLOSED;
@@ -90,11 +96,13 @@ pub extern "C" fn cc_gc(alloc: Global, c: &mut Collector) -> u32
     ensures status { Reads c.old.handle.session (λ s. (result ≡ 0) ⊎ (result ≡ 11)) }
     ensures unfetched { result ≡ 11 → Open c.old.handle.session c.new.handle.session IsUnfetched }
     ensures collects { result ≡ 0 → Open c.old.handle.session c.new.handle.session (λ s t. Collects s.host t.host (told_all s.told) (told_all t.told)) }
-    ensures swept { result ≡ 0 → Open c.old.handle.session c.new.handle.session (λ s t. IsSwept (machine s.host) (machine t.host) (told_all s.told) (told_all t.told)) }
+    ensures swept { result ≡ 0 → Open c.old.handle.session c.new.handle.session
+        (λ s t. IsSwept (machine s.host) (machine t.host) (told_all s.told) (told_all t.told)) }
     ensures over { result ≡ 0 → Open c.old.handle.session c.new.handle.session (λ s t. t.host.running ≡ None) }
     ensures unmarked { result ≡ 0 → Open c.old.handle.session c.new.handle.session (λ s t. t.host.marking ≡ false) }
     ensures aside { Open c.old.handle.session c.new.handle.session Aside }
-    ensures takes { result ≡ 0 → Open c.old.handle.session c.new.handle.session (λ s t. (ds : List Name) → CannotMiss s.host ds → Takes ds (told_all s.told) (told_all t.told)) }
+    ensures takes { result ≡ 0 → Open c.old.handle.session c.new.handle.session (λ s t. (ds : List Name) → CannotMiss s.host ds
+        → Takes ds (told_all s.told) (told_all t.told)) }
     ensures garbage { result ≡ 0 → Open c.old.handle.session c.new.handle.session (λ s t. TakesGarbage t.host) }
 {
     let Some(mut session) = c.take(alloc) else {
@@ -156,7 +164,8 @@ pub extern "C" fn cc_settle(alloc: Global, c: &mut Collector) -> u32
     ensures over { result ≢ 11 → Open c.old.handle.session c.new.handle.session (λ s t. t.host.running ≡ None) }
     ensures unmarked { result ≢ 11 → Open c.old.handle.session c.new.handle.session (λ s t. t.host.marking ≡ false) }
     ensures aside { Open c.old.handle.session c.new.handle.session Aside }
-    ensures takes { result ≢ 11 → Open c.old.handle.session c.new.handle.session (λ s t. (ds : List Name) → CannotMiss s.host ds → Takes ds (told_all s.told) (told_all t.told)) }
+    ensures takes { result ≢ 11 → Open c.old.handle.session c.new.handle.session (λ s t. (ds : List Name) → CannotMiss s.host ds
+        → Takes ds (told_all s.told) (told_all t.told)) }
 {
     let Some(mut session) = c.take(alloc) else {
         return CLOSED;

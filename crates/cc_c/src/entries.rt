@@ -27,9 +27,15 @@ pub extern "C" fn cc_set_entry(
     value: &CObject,
 ) -> u32
     ensures stays { Stays c.old.handle.session c.new.handle.session result }
-    ensures stops { Open c.old.handle.session c.new.handle.session (λ s t. IsStatusOrRefused (stop_setting s.host (to_object the_map.now) (to_object key.now) (to_object value.now)) result) }
-    ensures does { result ≡ 0 → Open c.old.handle.session c.new.handle.session (λ s t. Does (IsRooted s.host (to_object the_map.now) × IsReachedOrReflects s.host.heaps.heap (Some (to_object key.now).name) × IsReachedOrReflects s.host.heaps.heap (Some (to_object value.now).name)) (λ g. graph.set_entry g (Some (to_object the_map.now).name) (Some (to_object key.now).name) (Some (to_object value.now).name)) s.host t.host) }
-    ensures tried { result ≢ 0 → Open c.old.handle.session c.new.handle.session (λ s t. Tries (IsReachedOrReflects s.host.heaps.heap (Some (to_object key.now).name) × IsReachedOrReflects s.host.heaps.heap (Some (to_object value.now).name)) s.host t.host) }
+    ensures stops { Open c.old.handle.session c.new.handle.session
+        (λ s t. IsStatusOrRefused (stop_setting s.host (to_object the_map.now) (to_object key.now) (to_object value.now)) result) }
+    ensures does { result ≡ 0 → Open c.old.handle.session c.new.handle.session (λ s t. Does (IsRooted s.host (to_object the_map.now)
+        × IsReachedOrReflects s.host.heaps.heap (Some (to_object key.now).name)
+        × IsReachedOrReflects s.host.heaps.heap (Some (to_object value.now).name)) (λ g. graph.set_entry g
+        (Some (to_object the_map.now).name) (Some (to_object key.now).name) (Some (to_object value.now).name)) s.host t.host) }
+    ensures tried { result ≢ 0 → Open c.old.handle.session c.new.handle.session
+        (λ s t. Tries (IsReachedOrReflects s.host.heaps.heap (Some (to_object key.now).name)
+        × IsReachedOrReflects s.host.heaps.heap (Some (to_object value.now).name)) s.host t.host) }
     ensures quiet { Open c.old.handle.session c.new.handle.session Quiet }
 {
     let Some(mut session) = c.take(alloc) else {
@@ -54,7 +60,9 @@ pub extern "C" fn cc_unset_entry(
 ) -> u32
     ensures stays { Stays c.old.handle.session c.new.handle.session result }
     ensures stops { Open c.old.handle.session c.new.handle.session (λ s t. IsStatus (stop_entry s.host (to_object the_map.now) (to_object key.now)) result) }
-    ensures does { result ≡ 0 → Open c.old.handle.session c.new.handle.session (λ s t. Does (IsRooted s.host (to_object the_map.now) × IsReachedOrReflects s.host.heaps.heap (Some (to_object key.now).name)) (λ g. graph.set_entry g (Some (to_object the_map.now).name) (Some (to_object key.now).name) None) s.host t.host) }
+    ensures does { result ≡ 0 → Open c.old.handle.session c.new.handle.session (λ s t. Does (IsRooted s.host (to_object the_map.now)
+        × IsReachedOrReflects s.host.heaps.heap (Some (to_object key.now).name)) (λ g. graph.set_entry g
+        (Some (to_object the_map.now).name) (Some (to_object key.now).name) None) s.host t.host) }
     ensures same { result ≢ 0 → c.new.handle.session ≡ c.old.handle.session }
     ensures quiet { Open c.old.handle.session c.new.handle.session Quiet }
 {
@@ -81,7 +89,8 @@ pub extern "C" fn cc_entry(
 ) -> u32
     ensures closed { c.old.handle.session ≡ None → result ≡ 1 }
     ensures stops { Reads c.old.handle.session (λ s. IsStatus (stop_entry s.host (to_object the_map.now) (to_object key.now)) result) }
-    ensures name { result ≡ 0 → Reads c.old.handle.session (λ s. named (to_content value.new) ≡ value_at (objects_of s.host.heaps.heap) (Some (to_object the_map.now).name) (Some (to_object key.now).name)) }
+    ensures name { result ≡ 0 → Reads c.old.handle.session (λ s. named (to_content value.new)
+        ≡ value_at (objects_of s.host.heaps.heap) (Some (to_object the_map.now).name) (Some (to_object key.now).name)) }
     ensures there { result ≡ 0 → Reads c.old.handle.session (λ s. IsThereIfAny s.host (to_content value.new)) }
     ensures left { result ≢ 0 → value.new ≡ value.old }
     ensures same { c.new.handle.session ≡ c.old.handle.session }

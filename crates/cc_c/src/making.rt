@@ -144,7 +144,8 @@ pub extern "C" fn cc_new_proxy(
     ensures held { result ≡ 0 → Open c.old.handle.session c.new.handle.session (λ s t.
         register t.host.heaps.heap (s_register r) ≡ Some (to_object made.new).name) }
     ensures left { result ≢ 0 → made.new ≡ made.old }
-    ensures tried { result ≢ 0 → Open c.old.handle.session c.new.handle.session (λ s t. Tries (IsReachedOrReflects s.host.heaps.heap (Some (to_object delegate.now).name)) s.host t.host) }
+    ensures tried { result ≢ 0 → Open c.old.handle.session c.new.handle.session
+        (λ s t. Tries (IsReachedOrReflects s.host.heaps.heap (Some (to_object delegate.now).name)) s.host t.host) }
     ensures quiet { Open c.old.handle.session c.new.handle.session Quiet }
 {
     let Some(mut session) = c.take(alloc) else {

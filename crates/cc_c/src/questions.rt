@@ -96,8 +96,10 @@ pub extern "C" fn cc_has_suspects(alloc: Global, c: &mut Collector, some: &mut u
 pub extern "C" fn cc_why(alloc: Global, c: &mut Collector, x: &CObject, led: &mut u32) -> u32
     ensures stays { Stays c.old.handle.session c.new.handle.session result }
     ensures stops { Open c.old.handle.session c.new.handle.session (λ s t. IsStatusOrRefused (stop_at s.host (to_object x.now)) result) }
-    ensures led { result ≡ 0 → Open c.old.handle.session c.new.handle.session (λ s t. led.new ≡ flag (is_led_to (leads_in s.host.heaps.heap) (to_object x.now).name)) }
-    ensures told { result ≡ 0 → Open c.old.handle.session c.new.handle.session (λ s t. t.steps ≡ map item_of_step (path_to (leads_in s.host.heaps.heap) (to_object x.now).name)) }
+    ensures led { result ≡ 0 → Open c.old.handle.session c.new.handle.session (λ s t. led.new
+        ≡ flag (is_led_to (leads_in s.host.heaps.heap) (to_object x.now).name)) }
+    ensures told { result ≡ 0 → Open c.old.handle.session c.new.handle.session (λ s t. t.steps
+        ≡ map item_of_step (path_to (leads_in s.host.heaps.heap) (to_object x.now).name)) }
     ensures none { result ≢ 0 → Reads c.new.handle.session (λ t. t.steps ≡ []) }
     ensures left { result ≢ 0 → led.new ≡ led.old }
     ensures rest { Open c.old.handle.session c.new.handle.session (λ s t. t ≡ record s { steps = t.steps }) }
@@ -147,7 +149,8 @@ pub extern "C" fn cc_set_data(alloc: Global, c: &mut Collector, x: &CObject, val
     ensures stays { Stays c.old.handle.session c.new.handle.session result }
     ensures stops { Open c.old.handle.session c.new.handle.session (λ s t. IsStatusOrRefused (stop_native s.host (to_object x.now)) result) }
     ensures given { result ≡ 0 → Open c.old.handle.session c.new.handle.session (λ s t. data_at t.books (number_of (to_object x.now).name) ≡ value) }
-    ensures others { Open c.old.handle.session c.new.handle.session (λ s t. (n : ℕ) → n ≢ number_of (to_object x.now).name → data_at t.books n ≡ data_at s.books n) }
+    ensures others { Open c.old.handle.session c.new.handle.session (λ s t. (n : ℕ) → n ≢ number_of (to_object x.now).name → data_at t.books n
+        ≡ data_at s.books n) }
     ensures refused { result ≢ 0 → Open c.old.handle.session c.new.handle.session (λ s t. (n : ℕ) → data_at t.books n ≡ data_at s.books n) }
     ensures rest { Open c.old.handle.session c.new.handle.session (λ s t. t ≡ record s { books = record s.books { given = t.books.given } }) }
 {

@@ -31,9 +31,11 @@ pub extern "C" fn cc_wrap(
 ) -> u32
     ensures stays { Stays c.old.handle.session c.new.handle.session result }
     ensures stops { Open c.old.handle.session c.new.handle.session (λ s t. IsStatusOrWants (stop_native s.host (to_object x.now)) result) }
-    ensures does { result ≡ 0 → Open c.old.handle.session c.new.handle.session (λ s t. Does (IsRooted s.host (to_object x.now)) (λ g. graph.wrapped g (Some (to_object x.now).name)) s.host t.host) }
+    ensures does { result ≡ 0 → Open c.old.handle.session c.new.handle.session (λ s t. Does (IsRooted s.host (to_object x.now))
+        (λ g. graph.wrapped g (Some (to_object x.now).name)) s.host t.host) }
     ensures there { result ≡ 0 → Open c.old.handle.session c.new.handle.session (λ s t. IsThere t.host (to_object reflector.new)) }
-    ensures name { result ≡ 0 → Open c.old.handle.session c.new.handle.session (λ s t. Some (to_object reflector.new).name ≡ reflector_of (Some (to_object x.now).name)) }
+    ensures name { result ≡ 0 → Open c.old.handle.session c.new.handle.session (λ s t. Some (to_object reflector.new).name
+        ≡ reflector_of (Some (to_object x.now).name)) }
     ensures tried { result ≢ 0 → Open c.old.handle.session c.new.handle.session (λ s t. Tries (IsRooted s.host (to_object x.now)) s.host t.host) }
     ensures left { result ≢ 0 → reflector.new ≡ reflector.old }
     ensures tells { Open c.old.handle.session c.new.handle.session (λ s t. TellsFreed s.host t.host (told_all s.told) (told_all t.told)) }
@@ -89,7 +91,9 @@ pub extern "C" fn cc_unwrap(
 pub extern "C" fn cc_preserve(alloc: Global, c: &mut Collector, x: &CObject) -> u32
     ensures stays { Stays c.old.handle.session c.new.handle.session result }
     ensures stops { Open c.old.handle.session c.new.handle.session (λ s t. IsStatus (stop_reflector s.host (to_object x.now)) result) }
-    ensures does { result ≡ 0 → Open c.old.handle.session c.new.handle.session (λ s t. Does (IsReachedOrReflects s.host.heaps.heap (Some (to_object x.now).name)) (λ g. graph.preserve g (Some (to_object x.now).name)) s.host t.host) }
+    ensures does { result ≡ 0 → Open c.old.handle.session c.new.handle.session
+        (λ s t. Does (IsReachedOrReflects s.host.heaps.heap (Some (to_object x.now).name)) (λ g. graph.preserve g
+        (Some (to_object x.now).name)) s.host t.host) }
     ensures same { result ≢ 0 → c.new.handle.session ≡ c.old.handle.session }
     ensures quiet { Open c.old.handle.session c.new.handle.session Quiet }
 {
