@@ -151,7 +151,8 @@ pub(crate) fn store_native<N: Notices>(
     requires live { IsSome (number_at heaps.old key.0) }
     requires within { i < length (slots_of (counts_of heaps.old) key.0) }
     requires there { IsThere heaps.old content }
-    ensures change { IsChange (IsReachedOrReflects heaps.old.heap (native_name heaps.old (Some key)) × IsReachedOrReflects heaps.old.heap (held_name heaps.old content))
+    ensures change { IsChange (IsReachedOrReflects heaps.old.heap (native_name heaps.old (Some key))
+        × IsReachedOrReflects heaps.old.heap (held_name heaps.old content))
         (λ g. graph.set_slot g (native_name heaps.old (Some key)) i (held_name heaps.old content)) heaps.old heaps.new }
     ensures marking { KeepsMarking heaps.old heaps.new }
     ensures places { KeepsPlaces heaps.old.heap heaps.new.heap }

@@ -13,6 +13,7 @@ ghost use Rattle.cc_host.specs.Missing.{CannotMiss, IsNoneOf};
 /// of them: then the law holds of lists that have neither it nor what leads to it (`brings`).
 pub fn calls_make_it_miss_nothing()
     ensures does { (change : Graph → Graph) (old new : Hosted) (ds : List Name) → Does Always change old new → CannotMiss old ds → CannotMiss new ds }
-    ensures brings { (x : Option Name) (change : Graph → Graph) (old new : Hosted) (ds : List Name) → Brings x change old new → IsNoneOf ds x → CannotMiss old ds → CannotMiss new ds }
+    ensures brings { (x : Option Name) (change : Graph → Graph) (old new : Hosted) (ds : List Name) → Brings x change old new → IsNoneOf ds x
+        → CannotMiss old ds → CannotMiss new ds }
     ensures tries { (old new : Hosted) (ds : List Name) → Tries Always old new → CannotMiss old ds → CannotMiss new ds }
 {}

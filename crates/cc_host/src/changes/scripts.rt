@@ -143,7 +143,8 @@ pub(crate) fn unset_entry(heaps: &mut Heaps, the_map: SKey, key: SKey)
     requires ready { IsReady heaps.old }
     requires the_map { kind_at heaps.old.scripts the_map.0 ≡ Some Map }
     requires key { IsTrue (is_there heaps.old.scripts key.0) }
-    ensures change { IsChange (IsReached heaps.old.heap (script_name heaps.old (Some the_map)) × IsReachedOrReflects heaps.old.heap (script_name heaps.old (Some key)))
+    ensures change { IsChange (IsReached heaps.old.heap (script_name heaps.old (Some the_map))
+        × IsReachedOrReflects heaps.old.heap (script_name heaps.old (Some key)))
         (λ g. graph.set_entry g (script_name heaps.old (Some the_map)) (script_name heaps.old (Some key)) None) heaps.old heaps.new }
     ensures marking { KeepsMarking heaps.old heaps.new }
     ensures places { KeepsPlaces heaps.old.heap heaps.new.heap }

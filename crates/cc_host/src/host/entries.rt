@@ -24,12 +24,14 @@ impl Host {
     #[tactic(auto, using(crate::proofs::KeptDoomed::still_doomed))]
     pub fn set_entry(&mut self, the_map: Object, key: Object, value: Object) -> Result<(), Stop>
         ensures stops { IsStoppedOrRefused (stop_setting self.old the_map key value) result }
-        ensures does { OnOk result (Does (IsRooted self.old the_map × IsReachedOrReflects self.old.heaps.heap (Some key.name) × IsReachedOrReflects self.old.heaps.heap (Some value.name))
+        ensures does { OnOk result (Does (IsRooted self.old the_map × IsReachedOrReflects self.old.heaps.heap (Some key.name)
+            × IsReachedOrReflects self.old.heaps.heap (Some value.name))
             (λ g. graph.set_entry g (Some the_map.name) (Some key.name) (Some value.name)) self.old self.new) }
         // each other cause is told before anything is done; memory is wanted only for an entry that is not there
         ensures same { (s : Stop) → result ≡ Err s → s ≢ Stop.NoMemory → self.new ≡ self.old }
         ensures wanted { result ≡ Err Stop.NoMemory → value_at (objects_of self.old.heaps.heap) (Some the_map.name) (Some key.name) ≡ None }
-        ensures tried { OnErr result (Tries (IsReachedOrReflects self.old.heaps.heap (Some key.name) × IsReachedOrReflects self.old.heaps.heap (Some value.name)) self.old self.new) }
+        ensures tried { OnErr result (Tries (IsReachedOrReflects self.old.heaps.heap (Some key.name)
+            × IsReachedOrReflects self.old.heaps.heap (Some value.name)) self.old self.new) }
         ensures none_left { NothingLeft self.old.heaps.heap self.new.heaps.heap }
         ensures none_came { NoneComes self.old self.new }
         ensures places { KeepsPlaces self.old.heaps.heap self.new.heaps.heap }

@@ -111,7 +111,8 @@ impl Host {
     #[tactic(auto, using(crate::proofs::KeptDoomed::still_doomed))]
     pub fn new_proxy(&mut self, r: RegNo, delegate: Object) -> Result<Object, Stop>
         ensures stops { IsStoppedOrRefused (stop_proxy self.old delegate r) result }
-        ensures does { OnOk result (Does (IsReachedOrReflects self.old.heaps.heap (Some delegate.name)) (λ g. graph.with_proxy g r (Some delegate.name)) self.old self.new) }
+        ensures does { OnOk result (Does (IsReachedOrReflects self.old.heaps.heap (Some delegate.name))
+            (λ g. graph.with_proxy g r (Some delegate.name)) self.old self.new) }
         ensures there { IfOk result (λ x. IsThere self.new x) }
         ensures name { IfOk result (λ x. x.name ≡ object (self.old.heaps.heap.scripts_made + 1)) }
         ensures held { IfOk result (λ x. register self.new.heaps.heap (s_register r) ≡ Some x.name) }

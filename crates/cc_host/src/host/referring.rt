@@ -68,7 +68,8 @@ impl Host {
         ensures stops { IsStoppedBy (stop_upgrade self.old r w) result }
         ensures exactly { IfOk result (λ x. x ≡ upgraded self.old w) }
         ensures none { IfOk result (λ x. x ≡ None ↔ HasEnded self.old w) }
-        ensures does { OnOk result (Brings (named (upgraded self.old w)) (λ g. graph.set_register g (n_register r) (named (upgraded self.old w))) self.old self.new) }
+        ensures does { OnOk result (Brings (named (upgraded self.old w))
+            (λ g. graph.set_register g (n_register r) (named (upgraded self.old w))) self.old self.new) }
         ensures held { OnOk result (register self.new.heaps.heap (n_register r) ≡ named (upgraded self.old w)) }
         ensures same { OnErr result (self.new ≡ self.old) }
         ensures tells { TellsFreed self.old self.new (N.telling out.old) (N.telling out.new) }

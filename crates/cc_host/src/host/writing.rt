@@ -76,7 +76,8 @@ impl Host {
     ) -> Result<(), Stop>
         requires { is_native x.name ≡ true }
         ensures stops { IsStoppedBy (stop_storing self.old x i y) result }
-        ensures does { OnOk result (Does (IsReachedOrReflects self.old.heaps.heap (Some x.name) × IsReachedOrReflects self.old.heaps.heap (named y)) (stored x i (named y)) self.old self.new) }
+        ensures does { OnOk result (Does (IsReachedOrReflects self.old.heaps.heap (Some x.name)
+            × IsReachedOrReflects self.old.heaps.heap (named y)) (stored x i (named y)) self.old self.new) }
         ensures same { OnErr result (self.new ≡ self.old) }
         ensures tells { TellsFreed self.old self.new (N.telling out.old) (N.telling out.new) }
         ensures silent { OnErr result (N.telling out.new ≡ N.telling out.old) }
@@ -96,7 +97,8 @@ impl Host {
     fn store_in_script(&mut self, x: Object, i: SlotNo, y: Option<Object>) -> Result<(), Stop>
         requires { is_native x.name ≡ false }
         ensures stops { IsStoppedBy (stop_storing self.old x i y) result }
-        ensures does { OnOk result (Does (IsReachedOrReflects self.old.heaps.heap (Some x.name) × IsReachedOrReflects self.old.heaps.heap (named y)) (stored x i (named y)) self.old self.new) }
+        ensures does { OnOk result (Does (IsReachedOrReflects self.old.heaps.heap (Some x.name)
+            × IsReachedOrReflects self.old.heaps.heap (named y)) (stored x i (named y)) self.old self.new) }
         ensures same { OnErr result (self.new ≡ self.old) }
         ensures none_left { NothingLeft self.old.heaps.heap self.new.heaps.heap }
         ensures none_came { NoneComes self.old self.new }
@@ -127,7 +129,8 @@ impl Host {
         out: &mut N,
     ) -> Result<(), Stop>
         ensures stops { IsStoppedBy (stop_storing self.old x i y) result }
-        ensures does { OnOk result (Does (IsReachedOrReflects self.old.heaps.heap (Some x.name) × IsReachedOrReflects self.old.heaps.heap (named y)) (stored x i (named y)) self.old self.new) }
+        ensures does { OnOk result (Does (IsReachedOrReflects self.old.heaps.heap (Some x.name)
+            × IsReachedOrReflects self.old.heaps.heap (named y)) (stored x i (named y)) self.old self.new) }
         ensures same { OnErr result (self.new ≡ self.old) }
         ensures tells { TellsFreed self.old self.new (N.telling out.old) (N.telling out.new) }
         ensures silent { OnErr result (N.telling out.new ≡ N.telling out.old) }
