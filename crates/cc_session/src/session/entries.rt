@@ -20,12 +20,14 @@ impl Session {
     #[tactic(auto, using(crate::proofs::HasRoom::after_nothing))]
     pub fn set_entry(&mut self, the_map: Object, key: Object, value: Object) -> Result<(), Stop>
         ensures stops { IsStoppedOrRefused (stop_setting self.old.host the_map key value) result }
-        ensures does { OnOk result (Does (IsRooted self.old.host the_map × IsReachedOrReflects self.old.host.heaps.heap (Some key.name) × IsReachedOrReflects self.old.host.heaps.heap (Some value.name))
+        ensures does { OnOk result (Does (IsRooted self.old.host the_map × IsReachedOrReflects self.old.host.heaps.heap (Some key.name)
+            × IsReachedOrReflects self.old.host.heaps.heap (Some value.name))
             (λ g. graph.set_entry g (Some the_map.name) (Some key.name) (Some value.name)) self.old.host self.new.host) }
         // each other cause is told before anything is done; memory is wanted only for an entry that is not there
         ensures same { (s : Stop) → result ≡ Err s → s ≢ Stop.NoMemory → self.new ≡ self.old }
         ensures wanted { result ≡ Err Stop.NoMemory → value_at (objects_of self.old.host.heaps.heap) (Some the_map.name) (Some key.name) ≡ None }
-        ensures tried { OnErr result (Tries (IsReachedOrReflects self.old.host.heaps.heap (Some key.name) × IsReachedOrReflects self.old.host.heaps.heap (Some value.name)) self.old.host self.new.host) }
+        ensures tried { OnErr result (Tries (IsReachedOrReflects self.old.host.heaps.heap (Some key.name)
+            × IsReachedOrReflects self.old.host.heaps.heap (Some value.name)) self.old.host self.new.host) }
         ensures quiet { Quiet self.old self.new }
         ensures none_came { NoneComes self.old.host self.new.host }
     {

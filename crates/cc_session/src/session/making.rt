@@ -99,7 +99,8 @@ impl Session {
     #[tactic(auto, using(cc_host::proofs::KeptDoomed::still_doomed))]
     pub fn new_proxy(&mut self, r: RegNo, delegate: Object) -> Result<Object, Stop>
         ensures stops { IsStoppedOrWants (stop_proxy self.old.host delegate r) result }
-        ensures does { OnOk result (Does (IsReachedOrReflects self.old.host.heaps.heap (Some delegate.name)) (λ g. graph.with_proxy g r (Some delegate.name)) self.old.host self.new.host) }
+        ensures does { OnOk result (Does (IsReachedOrReflects self.old.host.heaps.heap (Some delegate.name))
+            (λ g. graph.with_proxy g r (Some delegate.name)) self.old.host self.new.host) }
         ensures there { IfOk result (λ x. IsThere self.new.host x) }
         ensures name { IfOk result (λ x. x.name ≡ object (self.old.host.heaps.heap.scripts_made + 1)) }
         ensures held { IfOk result (λ x. register self.new.host.heaps.heap (s_register r) ≡ Some x.name) }

@@ -55,7 +55,8 @@ impl Session {
     #[tactic(auto, using(crate::proofs::HasRoom::after_freeing, crate::proofs::HasRoom::told_freed))]
     pub fn store(&mut self, x: Object, i: SlotNo, y: Option<Object>) -> Result<(), Stop>
         ensures stops { IsStoppedBy (stop_storing self.old.host x i y) result }
-        ensures does { OnOk result (Does (IsReachedOrReflects self.old.host.heaps.heap (Some x.name) × IsReachedOrReflects self.old.host.heaps.heap (named y)) (stored x i (named y)) self.old.host self.new.host) }
+        ensures does { OnOk result (Does (IsReachedOrReflects self.old.host.heaps.heap (Some x.name)
+            × IsReachedOrReflects self.old.host.heaps.heap (named y)) (stored x i (named y)) self.old.host self.new.host) }
         ensures same { OnErr result (self.new ≡ self.old) }
         ensures tells { TellsFreed self.old.host self.new.host (told_all self.old.told) (told_all self.new.told) }
         ensures aside { Aside self.old self.new }
@@ -118,7 +119,8 @@ impl Session {
     #[tactic(auto, using(crate::proofs::HasRoom::after_nothing))]
     pub fn preserve(&mut self, x: Object) -> Result<(), Stop>
         ensures stops { IsStoppedBy (stop_reflector self.old.host x) result }
-        ensures does { OnOk result (Does (IsReachedOrReflects self.old.host.heaps.heap (Some x.name)) (λ g. graph.preserve g (Some x.name)) self.old.host self.new.host) }
+        ensures does { OnOk result (Does (IsReachedOrReflects self.old.host.heaps.heap (Some x.name))
+            (λ g. graph.preserve g (Some x.name)) self.old.host self.new.host) }
         ensures same { OnErr result (self.new ≡ self.old) }
         ensures quiet { Quiet self.old self.new }
         ensures none_came { NoneComes self.old.host self.new.host }
