@@ -72,8 +72,8 @@
  * object; CC_INDEX; CC_FULL. Where memory is wanted CC_NO_MEMORY may come in place of any of these but CC_CLOSED. Unless it is
  * CC_OK nothing was changed and no out-parameter written; but of cc_slice, cc_collect and cc_settle CC_NO_MEMORY means that a
  * collection was given up, and nothing is lost; CC_NONE of cc_upgrade_into means that its root was emptied; cc_why drops the
- * steps of before; and cc_wrap, cc_set_entry and cc_new_proxy leave every object as it is then, but may have made a suspect, or
- * shown an object to script. */
+ * steps of before; cc_hold and cc_upgrade may use up a serial number; and cc_wrap, cc_set_entry and cc_new_proxy leave every
+ * object as it is then, but may have made a suspect, or shown an object to script. */
 #ifndef CCOLLECT_H
 #define CCOLLECT_H
 #include <stdint.h>

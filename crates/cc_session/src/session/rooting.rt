@@ -32,7 +32,7 @@ impl Session {
     ///
     /// The root is one that was not in use, and holds the object from then on (`holds`). It is no object, and counts for no limit.
     /// `Full` only where each place was taken at some time, or where no serial number is left (`full`). `Full` and `NoMemory` leave
-    /// all as it is, and no root is in use that was not.
+    /// the heaps and what was told as they are, and no root is in use that was not (`same`, `none`); a serial number may be used up.
     pub fn root(&mut self, x: Object) -> Result<Root, Stop>
         ensures stops { IsRootRefused (stop_at self.old.host x) result }
         ensures full { result ≡ Err Stop.Full → (places ≤ length self.old.books.roots) ⊎ (2 ^ 64 ≤ self.old.books.last + 1) }
