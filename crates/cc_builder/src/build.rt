@@ -101,7 +101,8 @@ impl Build {
         requires built { IsBuilt self.old heaps.now }
         requires held { AreHeld self.old.graph (HasKey heaps.now) }
         requires order { IsInOrder [] heaps.now }
-        ensures names { OnOk result (vertex_names self.new.graph.nodes ≡ with_all_last same_name (vertex_names self.old.graph.nodes) (holders_of heaps.now.heap)) }
+        ensures names { OnOk result (vertex_names self.new.graph.nodes ≡ with_all_last same_name (vertex_names self.old.graph.nodes)
+            (holders_of heaps.now.heap)) }
         ensures edges { self.new.graph.edges ≡ self.old.graph.edges }
         ensures hyperedges { self.new.graph.hyperedges ≡ self.old.graph.hyperedges }
         ensures next { self.new.next ≡ self.old.next }
@@ -230,7 +231,8 @@ impl Build {
         requires held { AreHeld self.old.graph (HasKey heaps.now) }
         requires order { IsInOrder [] heaps.now }
         requires live { IsSome (number_at heaps.now key.0) }
-        ensures names { OnOk result (vertex_names self.new.graph.nodes ≡ with_all_last same_name (vertex_names self.old.graph.nodes) (purple_name heaps.now.heap (the_number heaps.now key.0))) }
+        ensures names { OnOk result (vertex_names self.new.graph.nodes ≡ with_all_last same_name (vertex_names self.old.graph.nodes)
+            (purple_name heaps.now.heap (the_number heaps.now key.0))) }
         ensures edges { self.new.graph.edges ≡ self.old.graph.edges }
         ensures hyperedges { self.new.graph.hyperedges ≡ self.old.graph.hyperedges }
         ensures next { self.new.next ≡ self.old.next }

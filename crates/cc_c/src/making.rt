@@ -137,7 +137,8 @@ pub extern "C" fn cc_new_proxy(
     ensures stays { Stays c.old.handle.session c.new.handle.session result }
     ensures stops { Open c.old.handle.session c.new.handle.session (λ s t. IsStatusOrWants (stop_proxy s.host (to_object delegate.now) r) result) }
     ensures does { result ≡ 0 → Open c.old.handle.session c.new.handle.session (λ s t.
-        Does (IsReachedOrReflects s.host.heaps.heap (Some (to_object delegate.now).name)) (λ g. graph.with_proxy g r (Some (to_object delegate.now).name)) s.host t.host) }
+        Does (IsReachedOrReflects s.host.heaps.heap (Some (to_object delegate.now).name))
+        (λ g. graph.with_proxy g r (Some (to_object delegate.now).name)) s.host t.host) }
     ensures there { result ≡ 0 → Open c.old.handle.session c.new.handle.session (λ s t. IsThere t.host (to_object made.new)) }
     ensures name { result ≡ 0 → Open c.old.handle.session c.new.handle.session (λ s t.
         (to_object made.new).name ≡ object (s.host.heaps.heap.scripts_made + 1)) }

@@ -116,7 +116,8 @@ impl Answer {
 
     /// Whether the answer can still end: one with events is no refusal by the graph.
     pub(crate) fn can_go_on(self) -> bool
-        ensures { (g : Graph) (names ended : List Name) (row : Row) (asks : List Ask) → IsTrue result ↔ CanGoOn (within (hearing_of self g names ended row)) asks }
+        ensures { (g : Graph) (names ended : List Name) (row : Row) (asks : List Ask) → IsTrue result ↔
+            CanGoOn (within (hearing_of self g names ended row)) asks }
     {
         !(is_refused(self.reply) && !runs_units(self.command)) || !self.any
     }
@@ -183,7 +184,8 @@ impl Answer {
 
     /// Whether want of memory may end it.
     fn ends_abandoned(self) -> bool
-        ensures { (g : Graph) (names ended : List Name) (row : Row) → IsTrue result ↔ EndsAbandoned (hearing_of self g names ended row) (replies.Refused refusals.NoMemory) }
+        ensures { (g : Graph) (names ended : List Name) (row : Row) → IsTrue result ↔
+            EndsAbandoned (hearing_of self g names ended row) (replies.Refused refusals.NoMemory) }
     {
         runs_units(self.command) && self.abandoned
     }

@@ -114,7 +114,8 @@ impl Known {
         requires well_made { IsWellMade graph.now }
         requires known { IsOf self.old graph.now }
         requires names { names.now ≡ census_order listed.now }
-        ensures quiet { IfOk result (λ b. (ended : List TheName) → IsTrue b ↔ CensusIsQuiet (row_meant row) (state_of graph.now listed.now ended) (taken command.Census)) }
+        ensures quiet { IfOk result (λ b. (ended : List TheName) → IsTrue b ↔
+            CensusIsQuiet (row_meant row) (state_of graph.now listed.now ended) (taken command.Census)) }
         ensures known { OnOk result (IsOf self.new graph.now) }
     {
         match row {

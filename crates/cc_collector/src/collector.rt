@@ -131,8 +131,10 @@ impl Collector {
     /// `NoMemory` as in a slice. What the end of the marking did, or of the first collection, stays.
     pub fn whole<N: Notices>(&mut self, heaps: &mut Heaps, out: &mut N) -> Result<(), NoMemory>
         requires runs { RunsIn heaps.old self.old }
-        ensures done { OnOk result (IsCollected (machine_of heaps.old self.old) (machine_of heaps.new self.new) at_end (N.telling out.old) (N.telling out.new)) }
-        ensures refused { OnErr result (IsCollected (machine_of heaps.old self.old) (machine_of heaps.new self.new) refused (N.telling out.old) (N.telling out.new)) }
+        ensures done { OnOk result (IsCollected (machine_of heaps.old self.old) (machine_of heaps.new self.new) at_end (N.telling out.old)
+            (N.telling out.new)) }
+        ensures refused { OnErr result (IsCollected (machine_of heaps.old self.old) (machine_of heaps.new self.new) refused (N.telling out.old)
+            (N.telling out.new)) }
         ensures given_up { OnErr result (IsCollectGivenUp (machine_of heaps.old self.old) heaps.new.heap) }
         ensures over { self.new ≡ record { running = None; marking = false } }
         ensures keeps { KeepsWhatIsReached heaps.old.heap heaps.new.heap }
@@ -179,7 +181,8 @@ impl Collector {
         steps: &mut Steps<L>,
     ) -> Ended
         requires runs { RunsIn heaps.old self.old }
-        ensures marked { IsMarkedOn units (machine_of heaps.old self.old) (machine_of heaps.new self.new) result steps.old steps.new (N.telling out.old) (N.telling out.new) }
+        ensures marked { IsMarkedOn units (machine_of heaps.old self.old) (machine_of heaps.new self.new) result steps.old steps.new (N.telling out.old)
+            (N.telling out.new) }
         ensures over { self.new.running ≡ None }
         ensures ended { result ≡ Ended.Yes → self.new.marking ≡ false }
         ensures goes_on { result ≡ Ended.No → 0 < units → self.new.marking ≡ true }

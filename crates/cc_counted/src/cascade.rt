@@ -21,7 +21,8 @@ impl Natives {
     #[inline(always)]
     fn give_up(&mut self, key: NKey)
         requires placed { IsPlaced self.old.lists }
-        requires balanced { (owned : List ℕ) × (c : Placed) × (cell_at self.old.lists.cells key.0 ≡ Some c) × IsBalanced (c.number ∷ owned) (draining_of self.old.lists []) }
+        requires balanced { (owned : List ℕ) × (c : Placed) × (cell_at self.old.lists.cells key.0 ≡ Some c) ×
+            IsBalanced (c.number ∷ owned) (draining_of self.old.lists []) }
         ensures { GivesUp self.old.lists self.new.lists (the_number (keyed self.old.lists.cells) key.0 ∷ []) }
     {
         if self.lower(key) > 0 {
@@ -78,7 +79,8 @@ impl Natives {
     /// Gives up one reference, with all that it deletes.
     pub(crate) fn release<N: Notices>(&mut self, key: NKey, out: &mut N)
         requires placed { IsPlaced self.old.lists }
-        requires balanced { (owned : List ℕ) × (c : Placed) × (cell_at self.old.lists.cells key.0 ≡ Some c) × IsBalanced (c.number ∷ owned) (draining_of self.old.lists []) }
+        requires balanced { (owned : List ℕ) × (c : Placed) × (cell_at self.old.lists.cells key.0 ≡ Some c) ×
+            IsBalanced (c.number ∷ owned) (draining_of self.old.lists []) }
         requires emptied { self.old.lists.queue ≡ [] }
         ensures { ComesTo self.old.lists self.new.lists (N.telling out.old) (N.telling out.new)
             (cascade (heap_of (shows self.old)) (the_number (keyed self.old.lists.cells) key.0)) }
@@ -94,7 +96,8 @@ impl Natives {
     fn empty_slot<N: Notices>(&mut self, key: NKey, i: SlotNo, out: &mut N)
         requires at_rest { IsAtRest self.old }
         requires within { i < length (slots_placed (cell_at self.old.lists.cells key.0)) }
-        requires owned { (others : List ℕ) × (c : Placed) × (cell_at self.old.lists.cells key.0 ≡ Some c) × IsBalanced (c.number ∷ others) (draining_of self.old.lists []) }
+        requires owned { (others : List ℕ) × (c : Placed) × (cell_at self.old.lists.cells key.0 ≡ Some c) ×
+            IsBalanced (c.number ∷ others) (draining_of self.old.lists []) }
         ensures empties { EmptiesSlot self.old.lists self.new.lists key.0 i (N.telling out.old) (N.telling out.new) }
         ensures at_rest { IsAtRest self.new }
     {
@@ -108,7 +111,8 @@ impl Natives {
     pub(crate) fn empty_each<N: Notices>(&mut self, key: NKey, slots: SlotNo, out: &mut N)
         requires at_rest { IsAtRest self.old }
         requires slots { slots ≡ length (slots_placed (cell_at self.old.lists.cells key.0)) }
-        requires owned { (others : List ℕ) × (c : Placed) × (cell_at self.old.lists.cells key.0 ≡ Some c) × IsBalanced (c.number ∷ others) (draining_of self.old.lists []) }
+        requires owned { (others : List ℕ) × (c : Placed) × (cell_at self.old.lists.cells key.0 ≡ Some c) ×
+            IsBalanced (c.number ∷ others) (draining_of self.old.lists []) }
         ensures empties { EmptiesEach self.old.lists self.new.lists key.0 (N.telling out.old) (N.telling out.new) }
         ensures at_rest { IsAtRest self.new }
     {

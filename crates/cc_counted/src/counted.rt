@@ -328,7 +328,8 @@ impl Counted {
     /// Takes out the front of the buffer with its mark; none exactly where the buffer is empty.
     pub fn select_next(&mut self) -> Option<(NKey, bool)>
         ensures front { MatchOption result ((self.old.buffer ≡ []) × (self.new ≡ self.old))
-            (λ front. (self.old.buffer ≡ buffered_as (the_number self.old front.0.0) front.1 ∷ self.new.buffer) × (self.new ≡ record self.old { buffer = self.new.buffer }) × IsSome (number_at self.old front.0.0)) }
+            (λ front. (self.old.buffer ≡ buffered_as (the_number self.old front.0.0) front.1 ∷ self.new.buffer) ×
+            (self.new ≡ record self.old { buffer = self.new.buffer }) × IsSome (number_at self.old front.0.0)) }
         ensures owned { Transfers [] [] self.old self.new }
     {
         self.natives.select_next()

@@ -433,7 +433,8 @@ fn refers_by_reflector(cell: &Cell) -> bool
 #[inline(always)]
 fn recount(cell: &Cell, holders: &mut Holders, before: bool, after: bool)
     requires { count_of (entry_at holders.old cell.now.number) < 65535 }
-    ensures { (n : ℕ) → entry_at holders.new n ≡ (if cell.now.number == n then recounted before after (entry_at holders.old cell.now.number) else entry_at holders.old n) }
+    ensures { (n : ℕ) → entry_at holders.new n ≡ (if cell.now.number == n then recounted before after
+        (entry_at holders.old cell.now.number) else entry_at holders.old n) }
 {
     match (before, after) {
         (false, true) => holders.raise(cell.number.0),

@@ -349,7 +349,8 @@ impl Graph {
         ensures place { option_map (λ e. place_from self.now.edges e.source (j + 1)) (slice_get self.now.edges j) ≡ Some result }
         ensures within { IfSome result (λ k. k < length self.now.edges) }
         ensures behind { IfSome result (λ k. j < k) }
-        ensures source { IfSome result (λ k. option_map (λ e. e.source) (slice_get self.now.edges k) ≡ option_map (λ e. e.source) (slice_get self.now.edges j)) }
+        ensures source { IfSome result (λ k. option_map (λ e. e.source) (slice_get self.now.edges k) ≡ option_map (λ e. e.source)
+            (slice_get self.now.edges j)) }
     {
         widen(self.references.at(j).next)
     }

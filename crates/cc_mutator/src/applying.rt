@@ -183,7 +183,8 @@ pub fn apply<N: Notices>(
         × (heaps.new ≡ heaps.old) × (weak.new ≡ weak.old) × (N.telling out.new ≡ N.telling out.old) }
     ensures replies { (s : State) → StandsFor heaps.old.heap s.graph → AreListedFor command.now heaps.old.heap s.listed →
         AgreesFor (class_of command.now) heaps.old.heap (names_noted weak.old) s → RepliesWith s command.now result }
-    ensures stands { (s : State) → AgreesFor (class_of command.now) heaps.old.heap (names_noted weak.old) s → IsWellMade s.graph → StandsFor heaps.old.heap s.graph →
+    ensures stands { (s : State) → AgreesFor (class_of command.now) heaps.old.heap (names_noted weak.old) s → IsWellMade s.graph →
+        StandsFor heaps.old.heap s.graph →
         IsWellMade (graph_after s.ended s.graph command.now (Some result)) × StandsFor heaps.new.heap (graph_after s.ended s.graph command.now (Some result)) }
     ensures keys { HoldKeys weak.new heaps.new }
     ensures kept { KeepsAll heaps.old heaps.new }

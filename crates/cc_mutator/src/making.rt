@@ -30,7 +30,8 @@ pub(crate) fn make_native<N: Notices>(
     requires order { (owned : List ℕ) × IsInOrder owned heaps.old }
     requires slots { slots ≤ most_slots }
     requires room { heaps.old.heap.natives_made < heaps.old.heap.limits.natives }
-    ensures { IsAnswered (native_made d slots) (named (native (heaps.old.heap.natives_made + 1))) true heaps.old heaps.new result (N.telling out.old) (N.telling out.new) }
+    ensures { IsAnswered (native_made d slots) (named (native (heaps.old.heap.natives_made + 1))) true heaps.old heaps.new result (N.telling out.old)
+        (N.telling out.new) }
 {
     match heaps.new_native(d, slots, out) {
         Ok(name) => Reply::Named(name),
@@ -75,7 +76,8 @@ pub(crate) fn make_proxy(heaps: &mut Heaps, d: RegNo, s: RegNo) -> Reply
     requires colours { HasColourInvariant (view heaps.old.heap) }
     requires room { heaps.old.heap.scripts_made < heaps.old.heap.limits.scripts }
     requires there { is_none (register heaps.old.heap (s_register s)) ≡ false }
-    ensures { (t : Telling) → IsAnswered (proxy_made d (register heaps.old.heap (s_register s))) (named (object (heaps.old.heap.scripts_made + 1))) true heaps.old heaps.new result t t }
+    ensures { (t : Telling) → IsAnswered (proxy_made d (register heaps.old.heap (s_register s)))
+        (named (object (heaps.old.heap.scripts_made + 1))) true heaps.old heaps.new result t t }
 {
     let Some(delegate) = heaps.script_reg(s) else {
         unreachable!();
@@ -93,7 +95,9 @@ pub(crate) fn wrap(heaps: &mut Heaps, d: RegNo, s: RegNo) -> Reply
     requires order { (owned : List ℕ) × IsInOrder owned heaps.old × AreOwnedOnce owned }
     requires colours { HasColourInvariant (view heaps.old.heap) }
     requires there { is_none (register heaps.old.heap (n_register s)) ≡ false }
-    ensures { (t : Telling) → IsAnswered (reflector_held d (register heaps.old.heap (n_register s))) (named_or_nothing (reflector_of (register heaps.old.heap (n_register s)))) (lacks_reflector heaps.old.heap (register heaps.old.heap (n_register s))) heaps.old heaps.new result t t }
+    ensures { (t : Telling) → IsAnswered (reflector_held d (register heaps.old.heap (n_register s)))
+        (named_or_nothing (reflector_of (register heaps.old.heap (n_register s))))
+        (lacks_reflector heaps.old.heap (register heaps.old.heap (n_register s))) heaps.old heaps.new result t t }
 {
     let Some(key) = heaps.native_reg(s) else {
         unreachable!();

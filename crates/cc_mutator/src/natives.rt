@@ -33,7 +33,8 @@ pub(crate) fn hold<N: Notices>(
     requires within { d < bank_length }
     requires order { (owned : List ℕ) × IsInOrder owned heaps.old × AreOwnedOnce owned }
     requires there { IsNativeThere heaps.old content }
-    ensures { IsNamed (native_held d (native_name heaps.old content)) (native_name heaps.old content) heaps.old heaps.new result (N.telling out.old) (N.telling out.new) }
+    ensures { IsNamed (native_held d (native_name heaps.old content)) (native_name heaps.old content) heaps.old heaps.new result (N.telling out.old)
+        (N.telling out.new) }
 {
     let reply = naming_native(heaps, content);
     heaps.set_native_reg(d, content, out);
@@ -44,7 +45,8 @@ pub(crate) fn hold<N: Notices>(
 pub(crate) fn copy_native<N: Notices>(heaps: &mut Heaps, d: RegNo, s: RegNo, out: &mut N) -> Reply
     requires within { d < bank_length }
     requires order { (owned : List ℕ) × IsInOrder owned heaps.old × AreOwnedOnce owned }
-    ensures { IsNamed (native_held d (register heaps.old.heap (n_register s))) (register heaps.old.heap (n_register s)) heaps.old heaps.new result (N.telling out.old) (N.telling out.new) }
+    ensures { IsNamed (native_held d (register heaps.old.heap (n_register s))) (register heaps.old.heap (n_register s)) heaps.old heaps.new result
+        (N.telling out.old) (N.telling out.new) }
 {
     let content = heaps.native_reg(s);
     hold(heaps, d, content, out)
@@ -72,7 +74,8 @@ pub(crate) fn get_native<N: Notices>(
     requires order { (owned : List ℕ) × IsInOrder owned heaps.old × AreOwnedOnce owned }
     requires slot { i < length (slots_at (objects_of heaps.old.heap) (n_register s)) }
     requires content { is_script_there (slot_at (objects_of heaps.old.heap) (n_register s) i) ≡ false }
-    ensures { IsNamed (native_held d (slot_at (objects_of heaps.old.heap) (n_register s) i)) (slot_at (objects_of heaps.old.heap) (n_register s) i) heaps.old heaps.new result (N.telling out.old) (N.telling out.new) }
+    ensures { IsNamed (native_held d (slot_at (objects_of heaps.old.heap) (n_register s) i))
+        (slot_at (objects_of heaps.old.heap) (n_register s) i) heaps.old heaps.new result (N.telling out.old) (N.telling out.new) }
 {
     let content = as_native(native_content(heaps, s, i));
     hold(heaps, d, content, out)
@@ -82,7 +85,8 @@ pub(crate) fn get_native<N: Notices>(
 pub(crate) fn unwrap<N: Notices>(heaps: &mut Heaps, d: RegNo, s: RegNo, out: &mut N) -> Reply
     requires within { d < bank_length }
     requires order { (owned : List ℕ) × IsInOrder owned heaps.old × AreOwnedOnce owned }
-    ensures { IsNamed (native_held d (native_of (register heaps.old.heap (s_register s)))) (native_of (register heaps.old.heap (s_register s))) heaps.old heaps.new result (N.telling out.old) (N.telling out.new) }
+    ensures { IsNamed (native_held d (native_of (register heaps.old.heap (s_register s))))
+        (native_of (register heaps.old.heap (s_register s))) heaps.old heaps.new result (N.telling out.old) (N.telling out.new) }
 {
     let content = native_behind(heaps, s);
     hold(heaps, d, content, out)
@@ -142,7 +146,8 @@ pub(crate) fn move_slot<N: Notices>(
     requires order { (owned : List ℕ) × IsInOrder owned heaps.old }
     requires to_slot { i < length (slots_at (objects_of heaps.old.heap) (n_register d)) }
     requires from_slot { j < length (slots_at (objects_of heaps.old.heap) (n_register s)) }
-    ensures { IsNamed (slot_moved d i s j) (slot_at (objects_of heaps.old.heap) (n_register s) j) heaps.old heaps.new result (N.telling out.old) (N.telling out.new) }
+    ensures { IsNamed (slot_moved d i s j) (slot_at (objects_of heaps.old.heap) (n_register s) j) heaps.old heaps.new result (N.telling out.old)
+        (N.telling out.new) }
 {
     let content = native_content(heaps, s, j);
     let reply = naming(heaps, content);

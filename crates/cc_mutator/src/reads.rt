@@ -76,7 +76,8 @@ pub(crate) fn script_content(heaps: &Heaps, r: RegNo, i: u32) -> Option<SKey>
 /// The value that the key in a register has in the weak map in another. None exactly where it has none.
 pub(crate) fn entry_value(heaps: &Heaps, m: RegNo, k: RegNo) -> Option<SKey>
     requires { (owned : List ℕ) × IsInOrder owned heaps.now }
-    ensures name { script_name heaps.now result ≡ value_at (objects_of heaps.now.heap) (register heaps.now.heap (s_register m)) (register heaps.now.heap (s_register k)) }
+    ensures name { script_name heaps.now result ≡ value_at (objects_of heaps.now.heap) (register heaps.now.heap (s_register m))
+        (register heaps.now.heap (s_register k)) }
     ensures there { IsScriptThere heaps.now result }
 {
     let the_map = heaps.script_reg(m)?;

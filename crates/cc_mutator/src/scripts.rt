@@ -45,7 +45,8 @@ pub(crate) fn copy_script(heaps: &mut Heaps, d: RegNo, s: RegNo) -> Reply
     requires within { d < bank_length }
     requires order { (owned : List ℕ) × IsInOrder owned heaps.old }
     requires colours { HasColourInvariant (view heaps.old.heap) }
-    ensures { (t : Telling) → IsNamed (script_copied d (register heaps.old.heap (s_register s))) (register heaps.old.heap (s_register s)) heaps.old heaps.new result t t }
+    ensures { (t : Telling) → IsNamed (script_copied d (register heaps.old.heap (s_register s)))
+        (register heaps.old.heap (s_register s)) heaps.old heaps.new result t t }
 {
     let content = heaps.script_reg(s);
     let reply = naming_script(heaps, content);
@@ -69,7 +70,8 @@ pub(crate) fn get_script(heaps: &mut Heaps, d: RegNo, s: RegNo, i: u32) -> Reply
     requires order { (owned : List ℕ) × IsInOrder owned heaps.old }
     requires slot { i < length (slots_at (objects_of heaps.old.heap) (n_register s)) }
     requires content { is_native_there (slot_at (objects_of heaps.old.heap) (n_register s) i) ≡ false }
-    ensures { (t : Telling) → IsNamed (script_held d (slot_at (objects_of heaps.old.heap) (n_register s) i)) (slot_at (objects_of heaps.old.heap) (n_register s) i) heaps.old heaps.new result t t }
+    ensures { (t : Telling) → IsNamed (script_held d (slot_at (objects_of heaps.old.heap) (n_register s) i))
+        (slot_at (objects_of heaps.old.heap) (n_register s) i) heaps.old heaps.new result t t }
 {
     let content = as_script(native_content(heaps, s, i));
     hold(heaps, d, content)
@@ -80,7 +82,8 @@ pub(crate) fn take(heaps: &mut Heaps, d: RegNo, s: RegNo, i: u32) -> Reply
     requires within { d < bank_length }
     requires order { (owned : List ℕ) × IsInOrder owned heaps.old }
     requires slot { i < length (slots_at (objects_of heaps.old.heap) (s_register s)) }
-    ensures { (t : Telling) → IsNamed (script_held d (slot_at (objects_of heaps.old.heap) (s_register s) i)) (slot_at (objects_of heaps.old.heap) (s_register s) i) heaps.old heaps.new result t t }
+    ensures { (t : Telling) → IsNamed (script_held d (slot_at (objects_of heaps.old.heap) (s_register s) i))
+        (slot_at (objects_of heaps.old.heap) (s_register s) i) heaps.old heaps.new result t t }
 {
     let content = script_content(heaps, s, i);
     hold(heaps, d, content)
@@ -90,7 +93,9 @@ pub(crate) fn take(heaps: &mut Heaps, d: RegNo, s: RegNo, i: u32) -> Reply
 pub(crate) fn get_entry(heaps: &mut Heaps, d: RegNo, m: RegNo, k: RegNo) -> Reply
     requires within { d < bank_length }
     requires order { (owned : List ℕ) × IsInOrder owned heaps.old }
-    ensures { (t : Telling) → IsNamed (script_held d (value_at (objects_of heaps.old.heap) (register heaps.old.heap (s_register m)) (register heaps.old.heap (s_register k)))) (value_at (objects_of heaps.old.heap) (register heaps.old.heap (s_register m)) (register heaps.old.heap (s_register k))) heaps.old heaps.new result t t }
+    ensures { (t : Telling) → IsNamed (script_held d (value_at (objects_of heaps.old.heap) (register heaps.old.heap (s_register m))
+        (register heaps.old.heap (s_register k)))) (value_at (objects_of heaps.old.heap) (register heaps.old.heap (s_register m))
+        (register heaps.old.heap (s_register k))) heaps.old heaps.new result t t }
 {
     let content = entry_value(heaps, m, k);
     hold(heaps, d, content)
@@ -122,7 +127,8 @@ pub(crate) fn put(heaps: &mut Heaps, d: RegNo, i: u32, from: Option<RegNo>) -> R
     requires order { (owned : List ℕ) × IsInOrder owned heaps.old }
     requires colours { HasColourInvariant (view heaps.old.heap) }
     requires slot { i < length (slots_at (objects_of heaps.old.heap) (s_register d)) }
-    ensures { (t : Telling) → IsDone (script_stored (register heaps.old.heap (s_register d)) i (source heaps.old.heap (option_map s_register from))) heaps.old heaps.new result t t }
+    ensures { (t : Telling) → IsDone (script_stored (register heaps.old.heap (s_register d)) i (source heaps.old.heap (option_map s_register from))) heaps.old
+        heaps.new result t t }
 {
     let content = script_source(heaps, from);
     store_script(heaps, d, i, content);
@@ -150,14 +156,16 @@ fn write_entry(heaps: &mut Heaps, m: RegNo, k: RegNo, value: Option<SKey>) -> Re
     requires the_map { IsTrue (is_map_in (objects_of heaps.old.heap) (register heaps.old.heap (s_register m))) }
     requires key { is_none (register heaps.old.heap (s_register k)) ≡ false }
     requires value { IsScriptThere heaps.old value }
-    ensures heap { OnOk result (heaps.new.heap ≡ entry_set heaps.old.heap (register heaps.old.heap (s_register m)) (register heaps.old.heap (s_register k)) (script_name heaps.old value)) }
+    ensures heap { OnOk result (heaps.new.heap ≡ entry_set heaps.old.heap (register heaps.old.heap (s_register m)) (register heaps.old.heap (s_register k))
+        (script_name heaps.old value)) }
     ensures keys { KeepsKeys heaps.old heaps.new }
     ensures order { (owned : List ℕ) → IsInOrder owned heaps.old → IsInOrder owned heaps.new }
     ensures marks { MarksGoOn heaps.old heaps.new }
     ensures marking { AreListed heaps.old → marks_of heaps.new ≡ marks_of heaps.old }
     ensures same { OnErr result (heaps.new ≡ heaps.old) }
     ensures some { OnErr result (IsSome value) }
-    ensures none { OnErr result (value_at (objects_of heaps.old.heap) (register heaps.old.heap (s_register m)) (register heaps.old.heap (s_register k)) ≡ None) }
+    ensures none { OnErr result (value_at (objects_of heaps.old.heap) (register heaps.old.heap (s_register m))
+        (register heaps.old.heap (s_register k)) ≡ None) }
 {
     let Some(the_map) = heaps.script_reg(m) else {
         unreachable!();
@@ -179,7 +187,8 @@ pub(crate) fn set_entry(heaps: &mut Heaps, m: RegNo, k: RegNo, from: Option<RegN
     requires order { (owned : List ℕ) × IsInOrder owned heaps.old }
     requires the_map { IsTrue (is_map_in (objects_of heaps.old.heap) (register heaps.old.heap (s_register m))) }
     requires key { is_none (register heaps.old.heap (s_register k)) ≡ false }
-    ensures { (t : Telling) → IsAnswered (entry_written (register heaps.old.heap (s_register m)) (register heaps.old.heap (s_register k)) (source heaps.old.heap (option_map s_register from))) done (takes_memory heaps.old.heap (SetEntry m k from)) heaps.old heaps.new result t t }
+    ensures { (t : Telling) → IsAnswered (entry_written (register heaps.old.heap (s_register m)) (register heaps.old.heap (s_register k))
+        (source heaps.old.heap (option_map s_register from))) done (takes_memory heaps.old.heap (SetEntry m k from)) heaps.old heaps.new result t t }
 {
     let value = script_source(heaps, from);
     match write_entry(heaps, m, k, value) {
@@ -208,7 +217,8 @@ pub(crate) fn expose(heaps: &mut Heaps, s: RegNo, i: u32) -> Reply
     requires order { (owned : List ℕ) × IsInOrder owned heaps.old }
     requires slot { i < length (slots_at (objects_of heaps.old.heap) (n_register s)) }
     requires content { is_native_there (slot_at (objects_of heaps.old.heap) (n_register s) i) ≡ false }
-    ensures { (t : Telling) → IsNamed (object_exposed (slot_at (objects_of heaps.old.heap) (n_register s) i)) (slot_at (objects_of heaps.old.heap) (n_register s) i) heaps.old heaps.new result t t }
+    ensures { (t : Telling) → IsNamed (object_exposed (slot_at (objects_of heaps.old.heap) (n_register s) i))
+        (slot_at (objects_of heaps.old.heap) (n_register s) i) heaps.old heaps.new result t t }
 {
     let content = as_script(native_content(heaps, s, i));
     let reply = naming_script(heaps, content);

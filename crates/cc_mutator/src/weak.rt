@@ -53,7 +53,8 @@ fn empty_weak(weak: &mut WeakRegs, r: Reg)
 /// Names what a weak register is to note. The heaps do nothing for it.
 pub(crate) fn name_noted(heaps: &Heaps, w: WeakNo, s: RegNo) -> Reply
     requires order { (owned : List ℕ) × IsInOrder owned heaps.now }
-    ensures { (t : Telling) → IsNamed (weak_written w (register heaps.now.heap (n_register s))) (register heaps.now.heap (n_register s)) heaps.now heaps.now result t t }
+    ensures { (t : Telling) → IsNamed (weak_written w (register heaps.now.heap (n_register s)))
+        (register heaps.now.heap (n_register s)) heaps.now heaps.now result t t }
 {
     naming_native(heaps, heaps.native_reg(s))
 }
@@ -86,7 +87,8 @@ pub(crate) fn dereference<N: Notices>(
     requires within { d < bank_length }
     requires order { (owned : List ℕ) × IsInOrder owned heaps.old × AreOwnedOnce owned }
     requires keys { HoldKeys weak.now heaps.old }
-    ensures { IsNamed (native_held d (usable_noted heaps.old.heap (names_noted weak.now) w)) (usable_noted heaps.old.heap (names_noted weak.now) w) heaps.old heaps.new result (N.telling out.old) (N.telling out.new) }
+    ensures { IsNamed (native_held d (usable_noted heaps.old.heap (names_noted weak.now) w))
+        (usable_noted heaps.old.heap (names_noted weak.now) w) heaps.old heaps.new result (N.telling out.old) (N.telling out.new) }
 {
     let content = weak.resolve(heaps, w);
     hold(heaps, d, content, out)

@@ -44,7 +44,8 @@ impl BytesSink {
     ///
     /// `NoMemory` where the room is not to be had.
     pub fn new(alloc: Global, room: usize, fails: Vec<u64>) -> Result<BytesSink, NoMemory>
-        ensures made { IfOk result (λ s. s ≡ record { written = []; room = room; most = usize.MAX; fails = fails.items; calls = 0; faults = 0; writes = no_writes }) }
+        ensures made { IfOk result
+            (λ s. s ≡ record { written = []; room = room; most = usize.MAX; fails = fails.items; calls = 0; faults = 0; writes = no_writes }) }
         ensures nothing_taken { room ≡ 0 → IsOk result }
     {
         BytesSink::with_most(alloc, room, fails, usize::MAX)
@@ -58,7 +59,8 @@ impl BytesSink {
         most: usize,
     ) -> Result<BytesSink, NoMemory>
         requires { 1 ≤ most }
-        ensures made { IfOk result (λ s. s ≡ record { written = []; room = room; most = most; fails = fails.items; calls = 0; faults = 0; writes = no_writes }) }
+        ensures made { IfOk result
+            (λ s. s ≡ record { written = []; room = room; most = most; fails = fails.items; calls = 0; faults = 0; writes = no_writes }) }
         ensures nothing_taken { room ≡ 0 → IsOk result }
     {
         Ok(BytesSink {

@@ -221,7 +221,8 @@ fn answer_text<N: Notices>(
     requires runs { RunsIn heaps.old collector.old }
     requires keys { HoldKeys weak.old heaps.old }
     ensures keys { HoldKeys weak.new heaps.new }
-    ensures answered { LineIsAnswered dialect.old dialect.new (machine_beside heaps.old collector.old weak.old) (machine_beside heaps.new collector.new weak.new)
+    ensures answered { LineIsAnswered dialect.old dialect.new (machine_beside heaps.old collector.old weak.old)
+        (machine_beside heaps.new collector.new weak.new)
         text.now (N.telling out.old) (N.telling out.new) }
     ensures runs { RunsIn heaps.new collector.new }
 {
@@ -271,8 +272,10 @@ fn answer_next<S: Source, N: Notices>(
     ensures over { result ≡ Err ReadStop.Limit → (start : Option (List ℕ)) (given : List (List ℕ)) →
         HasGiven start (S.left lines.old.source.now) lines.old.window given →
         IsOver start (S.left lines.new.source.now) lines.new.window given }
-    ensures quiet { result ≡ Ok Next.End → (dialect.new ≡ dialect.old) × (heaps.new ≡ heaps.old) × (weak.new ≡ weak.old) × (collector.new ≡ collector.old) × (N.telling out.new ≡ N.telling out.old) }
-    ensures still { OnErr result ((dialect.new ≡ dialect.old) × (heaps.new ≡ heaps.old) × (weak.new ≡ weak.old) × (collector.new ≡ collector.old) × (N.telling out.new ≡ N.telling out.old)) }
+    ensures quiet { result ≡ Ok Next.End → (dialect.new ≡ dialect.old) × (heaps.new ≡ heaps.old) × (weak.new ≡ weak.old) × (collector.new ≡ collector.old) ×
+        (N.telling out.new ≡ N.telling out.old) }
+    ensures still { OnErr result ((dialect.new ≡ dialect.old) × (heaps.new ≡ heaps.old) × (weak.new ≡ weak.old) × (collector.new ≡ collector.old) ×
+        (N.telling out.new ≡ N.telling out.old)) }
     ensures runs { RunsIn heaps.new collector.new }
     ensures limit { lines.new.window.limit ≡ lines.old.window.limit }
     ensures reads { ReadsOn (S.reads lines.old.source.now) (S.reads lines.new.source.now) lines.old.window lines.new.window }

@@ -22,7 +22,8 @@ fn read_script<S: Source>(
     limit: u32,
     source: &mut S,
 ) -> Result<Vec<u8>, CheckStop>
-    ensures script { IfOk result (λ script. ReadsScript most limit (S.left source.old) (S.left source.new) (S.reads source.old) (S.reads source.new) script.items) }
+    ensures script { IfOk result (λ script. ReadsScript most limit (S.left source.old) (S.left source.new) (S.reads source.old)
+        (S.reads source.new) script.items) }
     ensures over { result ≡ Err CheckStop.Limit → PassesLimit limit (S.left source.old) (S.left source.new) (S.reads source.old) (S.reads source.new) }
     ensures reads { (S.reads source.new).answered ≤ (S.reads source.old).answered + limit + 1 }
     ensures end_unread { (result ≡ Err CheckStop.Fault) ⊎ (result ≡ Err CheckStop.Limit) → (S.reads source.new).ended ≡ (S.reads source.old).ended }
@@ -68,7 +69,8 @@ fn verdict_on<S: Source>(
     limits: Limits,
     source: &mut S,
 ) -> Result<Verdict, CheckStop>
-    ensures verdict { IfOk result (λ verdict. IsJudged limits script (S.left source.old) (S.left source.new) (S.reads source.old) (S.reads source.new) verdict) }
+    ensures verdict { IfOk result (λ verdict. IsJudged limits script (S.left source.old) (S.left source.new) (S.reads source.old)
+        (S.reads source.new) verdict) }
     ensures over { result ≡ Err CheckStop.Limit → PassesLimit limits.bytes (S.left source.old) (S.left source.new) (S.reads source.old) (S.reads source.new) }
     ensures reads { (S.reads source.new).answered ≤ (S.reads source.old).answered + limits.bytes + 1 }
     ensures end_unread { (result ≡ Err CheckStop.Fault) ⊎ (result ≡ Err CheckStop.Limit) → (S.reads source.new).ended ≡ (S.reads source.old).ended }

@@ -140,7 +140,8 @@ impl Cells {
     /// What the object at a key is.
     pub(crate) fn cell(&self, key: u32) -> &Cell
         requires { ContainsKey self.now key }
-        ensures { (colour : Colour) × ((mark : Colour) × ((content : Content) × (get self.now key ≡ Some (in_colour colour (in_new_mark mark (filled content result.now)))))) }
+        ensures { (colour : Colour) × ((mark : Colour) × ((content : Content) ×
+            (get self.now key ≡ Some (in_colour colour (in_new_mark mark (filled content result.now)))))) }
     {
         &self.slab[key as usize]
     }
@@ -148,7 +149,8 @@ impl Cells {
     /// What marking looks at of the object at a key.
     pub(crate) fn body(&self, key: u32) -> &Body
         requires { ContainsKey self.now key }
-        ensures { (colour : Colour) × ((mark : Colour) × ((label : Label) × (get self.now key ≡ Some (in_colour colour (in_new_mark mark (filled result.now label)))))) }
+        ensures { (colour : Colour) × ((mark : Colour) × ((label : Label) ×
+            (get self.now key ≡ Some (in_colour colour (in_new_mark mark (filled result.now label)))))) }
     {
         &self.bodies[key as usize]
     }

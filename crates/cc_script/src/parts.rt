@@ -64,7 +64,8 @@ impl ScriptParts {
         requires at_rest { IsAtRest self.old }
         requires slots { slots ≤ most_slots }
         requires delegate { (q : ℕ) → delegate_key_of being ≡ Some q → colour_at (shows self.old) q ≡ Some Black }
-        ensures made { IfOk result (λ key. shows self.new ≡ shows self.old ++ new_object key.0 (name_of being) (kind_of being) (native_key_of being) (delegate_key_of being) slots ∷ []) }
+        ensures made { IfOk result (λ key. shows self.new ≡ shows self.old ++ new_object key.0 (name_of being) (kind_of being) (native_key_of being)
+            (delegate_key_of being) slots ∷ []) }
         ensures vacant { IfOk result (λ key. is_there (shows self.old) key.0 ≡ false) }
         ensures err { OnErr result (shows self.new ≡ shows self.old) }
         ensures at_rest { IsAtRest self.new }
@@ -106,7 +107,8 @@ impl ScriptParts {
     pub(crate) fn cell(&self, key: SKey) -> &Cell
         requires placed { IsPlaced (lists_of self.now) }
         requires live { IsTrue (is_there (shows self.now) key.0) }
-        ensures { (colour : Colour) × ((mark : Colour) × ((content : Content) × (cell_at (lists_of self.now).cells key.0 ≡ Some (in_colour colour (in_new_mark mark (filled content result.now))).placed))) }
+        ensures { (colour : Colour) × ((mark : Colour) × ((content : Content) ×
+            (cell_at (lists_of self.now).cells key.0 ≡ Some (in_colour colour (in_new_mark mark (filled content result.now))).placed))) }
     {
         self.cells.cell(key.0)
     }
@@ -115,7 +117,8 @@ impl ScriptParts {
     pub(crate) fn body(&self, key: SKey) -> &Body
         requires placed { IsPlaced (lists_of self.now) }
         requires live { IsTrue (is_there (shows self.now) key.0) }
-        ensures { (colour : Colour) × ((mark : Colour) × ((label : Label) × (cell_at (lists_of self.now).cells key.0 ≡ Some (in_colour colour (in_new_mark mark (filled result.now label))).placed))) }
+        ensures { (colour : Colour) × ((mark : Colour) × ((label : Label) ×
+            (cell_at (lists_of self.now).cells key.0 ≡ Some (in_colour colour (in_new_mark mark (filled result.now label))).placed))) }
     {
         self.cells.body(key.0)
     }

@@ -134,7 +134,8 @@ impl<'a, L: Leads> Search<'a, L> {
         requires the_map { IsSome (L.name_of self.old.0 the_map) }
         requires key { IsSome (L.name_of self.old.0 key) }
         requires value { IsSome (L.name_of self.old.0 value) }
-        ensures { OnOk result ((m k v : TheName) → L.name_of self.old.0 the_map ≡ Some m → L.name_of self.old.0 key ≡ Some k → L.name_of self.old.0 value ≡ Some v →
+        ensures { OnOk result ((m k v : TheName) → L.name_of self.old.0 the_map ≡ Some m → L.name_of self.old.0 key ≡ Some k →
+            L.name_of self.old.0 value ≡ Some v →
             self.new ≡ (self.old.0, with_joint self.old.1 (joint m k v))) }
     {
         let leads = self.leads();
@@ -156,7 +157,8 @@ impl<'a, L: Leads> Search<'a, L> {
         requires the_map { IsSome (L.name_of self.old.0 the_map) }
         requires delegate { IfSome delegate (λ o. IsSome (L.name_of self.old.0 o)) }
         requires key { IsSome (L.name_of self.old.0 key) }
-        ensures { OnOk result ((m k : TheName) (d : Option TheName) → L.name_of self.old.0 the_map ≡ Some m → L.name_of self.old.0 key ≡ Some k → IsHeldAs (L.name_of self.old.0) d delegate →
+        ensures { OnOk result ((m k : TheName) (d : Option TheName) → L.name_of self.old.0 the_map ≡ Some m → L.name_of self.old.0 key ≡ Some k →
+            IsHeldAs (L.name_of self.old.0) d delegate →
             self.new ≡ (self.old.0, with_joints (key_joint m d k) self.old.1)) }
     {
         match delegate {
@@ -180,7 +182,8 @@ impl<'a, L: Leads> Search<'a, L> {
     /// their places.
     fn add_entries(&mut self, object: L::Object, entries: &mut Vec<usize>) -> Result<(), NoMemory>
         requires { IsSome (L.name_of self.old.0 object) }
-        ensures { OnOk result ((x : TheName) → L.name_of self.old.0 object ≡ Some x → self.new ≡ (self.old.0, with_entries x (L.leads self.old.0).entries self.old.1)) }
+        ensures { OnOk result ((x : TheName) → L.name_of self.old.0 object ≡ Some x →
+            self.new ≡ (self.old.0, with_entries x (L.leads self.old.0).entries self.old.1)) }
     {
         places_with(self.leads(), object, entries)?;
         'entries: while let Some(i) = entries.pop() {
@@ -249,7 +252,8 @@ fn places_with<L: Leads>(
 ) -> Result<(), NoMemory>
     requires ready { L.is_ready leads.now }
     requires there { IsSome (L.name_of leads.now object) }
-    ensures { OnOk result ((x : TheName) → L.name_of leads.now object ≡ Some x → entries.new.items ≡ falling (L.leads leads.now).entries x (length (L.leads leads.now).entries)) }
+    ensures { OnOk result ((x : TheName) → L.name_of leads.now object ≡ Some x →
+        entries.new.items ≡ falling (L.leads leads.now).entries x (length (L.leads leads.now).entries)) }
 {
     entries.clear();
     let mut place = leads.first_with(object);

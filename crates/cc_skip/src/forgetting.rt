@@ -23,7 +23,8 @@ use cc_heaps::Heaps;
 pub fn forget(heaps: &mut Heaps) -> u32
     requires order { (owned : List ℕ) × IsInOrder owned heaps.old }
     ensures forgotten { heaps.new ≡ unwalked (changed_to heaps.old (forgotten heaps.old.heap)) }
-    ensures exactly { (k : ℕ) → Among (native k) (view heaps.old.heap).purple → (¬ Among (native k) (view heaps.new.heap).purple) ↔ IsSkippable heaps.old.heap (native k) }
+    ensures exactly { (k : ℕ) → Among (native k) (view heaps.old.heap).purple → (¬ Among (native k) (view heaps.new.heap).purple) ↔
+        IsSkippable heaps.old.heap (native k) }
     ensures count { result + length (view heaps.new.heap).purple ≡ length (view heaps.old.heap).purple }
     ensures places { (view heaps.new.heap).buffer ≡ (view heaps.old.heap).buffer }
     ensures kept { KeepsAll heaps.old heaps.new }

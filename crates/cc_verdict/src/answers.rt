@@ -27,11 +27,14 @@ pub fn lines_that_ask_nothing_have_no_answer()
 /// exactly the reached names and does not.
 pub fn exact_answers_are_recited()
     ensures long { (p : Place) (asks : List Ask) (lines : List (List ℕ)) →
-        Follows p (long ∷ asks) lines ↔ Recites (items_of (replying [] (reply.Refused refusal.Long))) (place_after p long (replying [] (reply.Refused refusal.Long))) asks lines }
+        Follows p (long ∷ asks) lines ↔ Recites (items_of (replying [] (reply.Refused refusal.Long)))
+        (place_after p long (replying [] (reply.Refused refusal.Long))) asks lines }
     ensures bad { (p : Place) (asks : List Ask) (lines : List (List ℕ)) →
-        Follows p (bad ∷ asks) lines ↔ Recites (items_of (replying [] (reply.Refused refusal.Line))) (place_after p bad (replying [] (reply.Refused refusal.Line))) asks lines }
+        Follows p (bad ∷ asks) lines ↔ Recites (items_of (replying [] (reply.Refused refusal.Line)))
+        (place_after p bad (replying [] (reply.Refused refusal.Line))) asks lines }
     ensures census { (p : Place) (asks : List Ask) (lines : List (List ℕ)) → CensusIsQuiet p.row p.state (taken command.Census) →
-        Follows p (taken command.Census ∷ asks) lines ↔ Recites (items_of (census_of p.state.listed)) (place_after p (taken command.Census) (census_of p.state.listed)) asks lines }
+        Follows p (taken command.Census ∷ asks) lines ↔ Recites (items_of (census_of p.state.listed))
+        (place_after p (taken command.Census) (census_of p.state.listed)) asks lines }
     ensures unquiet { (p : Place) (asks : List Ask) (lines : List (List ℕ)) → ¬ (CensusIsQuiet p.row p.state (taken command.Census)) →
         ¬ (Follows p (taken command.Census ∷ asks) lines) }
 {}
@@ -43,7 +46,8 @@ pub fn reasons_are_recited()
         ↔ Follows (place_after p (taken (command.Why x)) (replying [] (reply.Refused refusal.NoMemory))) asks lines }
     ensures told { (p : Place) (x : Name) (asks : List Ask) (line : List ℕ) (lines : List (List ℕ)) → line ≢ text_of_reply (reply.Refused refusal.NoMemory) →
         Follows p (taken (command.Why x) ∷ asks) (line ∷ lines)
-        ↔ Recites (items_of (why_of (leads_made p.state.graph) x)) (place_after p (taken (command.Why x)) (why_of (leads_made p.state.graph) x)) asks (line ∷ lines) }
+        ↔ Recites (items_of (why_of (leads_made p.state.graph) x)) (place_after p (taken (command.Why x)) (why_of (leads_made p.state.graph) x)) asks
+        (line ∷ lines) }
     ensures end { (p : Place) (x : Name) (asks : List Ask) → ¬ (Follows p (taken (command.Why x) ∷ asks) []) }
 {}
 

@@ -22,7 +22,8 @@ pub fn dead_ends_lead_nowhere()
 
 /// Wherever else a check stands, some lines go on, to the end of the script, whatever it asks, where it reads no weak register.
 pub fn other_ends_lead_on()
-    ensures { (p : Position) (asks : List Ask) → AreInRange asks → ReadNone asks → ListsAllAt p → CanGoOn p asks → (lines : List (List ℕ)) × GoesOn p asks lines }
+    ensures { (p : Position) (asks : List Ask) → AreInRange asks → ReadNone asks → ListsAllAt p → CanGoOn p asks → (lines : List (List ℕ)) ×
+        GoesOn p asks lines }
 {}
 
 /// What is reached is listed, wherever a check stands: at the start, and with each answer, event by event, but to a command that reads a

@@ -99,7 +99,8 @@ impl WeakRegs {
     /// the natives that they note (`HoldKeys`), it is the native that the register notes by name, unless that has ended.
     pub fn resolve(&self, heaps: &Heaps, w: WeakNo) -> Option<NKey>
         ensures exactly { result ≡ key_resolved heaps.now (slice_index_or self.now w None) }
-        ensures there { IfSome result (λ key. (native_name heaps.now (Some key) ≡ slice_index_or (names_noted self.now) w None) × (native_name heaps.now (Some key) ≢ None)) }
+        ensures there { IfSome result (λ key. (native_name heaps.now (Some key) ≡ slice_index_or (names_noted self.now) w None) ×
+            (native_name heaps.now (Some key) ≢ None)) }
         ensures usable { IfSome result (λ key. unlinked_of (counts_of heaps.now) key.0 ≡ false) }
         ensures noted { (owned : List ℕ) → IsInOrder owned heaps.now → HoldKeys self.now heaps.now →
             native_name heaps.now result ≡ usable_noted heaps.now.heap (names_noted self.now) w }

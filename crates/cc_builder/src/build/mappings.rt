@@ -111,7 +111,8 @@ impl Build {
         requires last { IfSome last (λ m. IsMapNode heaps.now self.old.graph.nodes m.the_map.0 m.node) }
         ensures last { IfOk result (λ l. IfSome l (λ m. IsMapNode heaps.now self.new.graph.nodes m.the_map.0 m.node)) }
         ensures names { OnOk result (vertex_names self.new.graph.nodes
-            ≡ with_all_last same_name (vertex_names self.old.graph.nodes) (flat_map members_of (key_mappings heaps.now the_map.0 (option_map (λ d. d.0) delegate) key.0))) }
+            ≡ with_all_last same_name (vertex_names self.old.graph.nodes)
+            (flat_map members_of (key_mappings heaps.now the_map.0 (option_map (λ d. d.0) delegate) key.0))) }
         ensures mappings { OnOk result (map (mapping_of self.new.graph.nodes) self.new.graph.hyperedges
             ≡ map (mapping_of self.old.graph.nodes) self.old.graph.hyperedges ++ key_mappings heaps.now the_map.0 (option_map (λ d. d.0) delegate) key.0) }
         ensures edges { self.new.graph.edges ≡ self.old.graph.edges }
@@ -149,9 +150,11 @@ impl Build {
         requires last { IfSome last (λ m. IsMapNode heaps.now self.old.graph.nodes m.the_map.0 m.node) }
         ensures last { IfOk result (λ l. IfSome l (λ m. IsMapNode heaps.now self.new.graph.nodes m.the_map.0 m.node)) }
         ensures names { OnOk result (vertex_names self.new.graph.nodes
-            ≡ with_all_last same_name (vertex_names self.old.graph.nodes) (flat_map members_of (mappings_in heaps.now.heap (named_joint heaps.now.scripts the_map.0 key.0 value.0)))) }
+            ≡ with_all_last same_name (vertex_names self.old.graph.nodes)
+            (flat_map members_of (mappings_in heaps.now.heap (named_joint heaps.now.scripts the_map.0 key.0 value.0)))) }
         ensures mappings { OnOk result (map (mapping_of self.new.graph.nodes) self.new.graph.hyperedges
-            ≡ map (mapping_of self.old.graph.nodes) self.old.graph.hyperedges ++ mappings_in heaps.now.heap (named_joint heaps.now.scripts the_map.0 key.0 value.0)) }
+            ≡ map (mapping_of self.old.graph.nodes) self.old.graph.hyperedges ++ mappings_in heaps.now.heap
+            (named_joint heaps.now.scripts the_map.0 key.0 value.0)) }
         ensures edges { self.new.graph.edges ≡ self.old.graph.edges }
         ensures next { self.new.next ≡ self.old.next }
         ensures candidates { self.new.candidates ≡ self.old.candidates }
@@ -188,9 +191,11 @@ impl Build {
         requires last { IfSome last (λ m. IsMapNode heaps.now self.old.graph.nodes m.the_map.0 m.node) }
         ensures node { IfOk result (λ i. IsMapNode heaps.now self.new.graph.nodes the_map.0 i) }
         ensures names { OnOk result (vertex_names self.new.graph.nodes
-            ≡ with_all_last same_name (vertex_names self.old.graph.nodes) (members_of (units.mapping_of heaps.now.heap (named_joint heaps.now.scripts the_map.0 key.0 value.0)))) }
+            ≡ with_all_last same_name (vertex_names self.old.graph.nodes)
+            (members_of (units.mapping_of heaps.now.heap (named_joint heaps.now.scripts the_map.0 key.0 value.0)))) }
         ensures mappings { OnOk result (map (mapping_of self.new.graph.nodes) self.new.graph.hyperedges
-            ≡ map (mapping_of self.old.graph.nodes) self.old.graph.hyperedges ++ units.mapping_of heaps.now.heap (named_joint heaps.now.scripts the_map.0 key.0 value.0) ∷ []) }
+            ≡ map (mapping_of self.old.graph.nodes) self.old.graph.hyperedges ++ units.mapping_of heaps.now.heap
+            (named_joint heaps.now.scripts the_map.0 key.0 value.0) ∷ []) }
         ensures edges { self.new.graph.edges ≡ self.old.graph.edges }
         ensures next { self.new.next ≡ self.old.next }
         ensures candidates { self.new.candidates ≡ self.old.candidates }

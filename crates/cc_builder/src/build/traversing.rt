@@ -144,7 +144,8 @@ impl Build {
         requires within { node < length self.old.graph.nodes }
         requires there { IsThere heaps.now (Some object) }
         requires room { length (contents_at heaps.now object) ≤ self.old.graph.spare }
-        ensures noted { OnOk result (snapshot_of self.new ≡ noting (snapshot_of self.old) (vertex_name self.old.graph.nodes node) (contents_at heaps.now object)) }
+        ensures noted { OnOk result (snapshot_of self.new ≡ noting (snapshot_of self.old) (vertex_name self.old.graph.nodes node)
+            (contents_at heaps.now object)) }
         ensures refused { OnErr result (contents_at heaps.now object ≢ []) }
         ensures candidates { (snapshot_of self.new).candidates ≡ (snapshot_of self.old).candidates }
         ensures next { self.new.next ≡ self.old.next }
@@ -176,7 +177,8 @@ impl Build {
         requires there { IsThere heaps.now (Some object) }
         requires place { i < length (places_at heaps.now object) }
         requires room { length (noted_place heaps.now object i) ≤ self.old.graph.spare }
-        ensures noted { OnOk result (snapshot_of self.new ≡ noting (snapshot_of self.old) (vertex_name self.old.graph.nodes node) (noted_place heaps.now object i)) }
+        ensures noted { OnOk result (snapshot_of self.new ≡ noting (snapshot_of self.old) (vertex_name self.old.graph.nodes node)
+            (noted_place heaps.now object i)) }
         ensures node { vertex_name self.new.graph.nodes node ≡ vertex_name self.old.graph.nodes node }
         ensures within { node < length self.new.graph.nodes }
         ensures spare { OnOk result (self.new.graph.spare + length (noted_place heaps.now object i) ≡ self.old.graph.spare) }
@@ -200,7 +202,8 @@ impl Build {
         requires within { node < length self.old.graph.nodes }
         requires there { IsThere heaps.now (Some target) }
         requires room { 0 < self.old.graph.spare }
-        ensures noted { OnOk result (snapshot_of self.new ≡ noting_one (snapshot_of self.old) (vertex_name self.old.graph.nodes node) (the_name heaps.now target)) }
+        ensures noted { OnOk result (snapshot_of self.new ≡ noting_one (snapshot_of self.old) (vertex_name self.old.graph.nodes node)
+            (the_name heaps.now target)) }
         ensures node { vertex_name self.new.graph.nodes node ≡ vertex_name self.old.graph.nodes node }
         ensures within { node < length self.new.graph.nodes }
         ensures spare { OnOk result (self.new.graph.spare + 1 ≡ self.old.graph.spare) }

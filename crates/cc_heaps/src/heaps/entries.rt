@@ -25,7 +25,8 @@ impl Heaps {
         requires key { IsTrue (is_there self.old.scripts key.0) }
         requires value { IsTrue (is_there self.old.scripts value.0) }
         ensures heap { OnOk result (self.new.heap ≡ record self.old.heap {
-          entries = with_entry self.old.heap.entries (the_name_at self.old.scripts the_map.0) (the_name_at self.old.scripts key.0) (delegate_at self.old.heap (the_name_at self.old.scripts key.0)) (the_name_at self.old.scripts value.0);
+          entries = with_entry self.old.heap.entries (the_name_at self.old.scripts the_map.0) (the_name_at self.old.scripts key.0)
+              (delegate_at self.old.heap (the_name_at self.old.scripts key.0)) (the_name_at self.old.scripts value.0);
         }) }
         ensures in_place { IsSome (value_at (objects_of self.old.heap) (name_at self.old.scripts the_map.0) (name_at self.old.scripts key.0)) → IsOk result }
         ensures natives { self.new.keys ≡ self.old.keys }
@@ -60,7 +61,8 @@ impl Heaps {
         requires the_map { kind_at self.old.scripts the_map.0 ≡ Some Map }
         requires key { IsTrue (is_there self.old.scripts key.0) }
         requires value { IsTrue (is_there self.old.scripts value.0) }
-        ensures heap { OnOk result (self.new.heap ≡ set_entry self.old.heap (name_at self.old.scripts the_map.0) (name_at self.old.scripts key.0) (name_at self.old.scripts value.0)) }
+        ensures heap { OnOk result (self.new.heap ≡ set_entry self.old.heap (name_at self.old.scripts the_map.0) (name_at self.old.scripts key.0)
+            (name_at self.old.scripts value.0)) }
         ensures in_place { IsSome (value_at (objects_of self.old.heap) (name_at self.old.scripts the_map.0) (name_at self.old.scripts key.0)) → IsOk result }
         ensures natives { self.new.keys ≡ self.old.keys }
         ensures kept { KeepsAllIfBlack (IsBlackHeld self.old (Some (held.Script key)) × IsBlackHeld self.old (Some (held.Script value))) self.old self.new }
@@ -68,7 +70,8 @@ impl Heaps {
         ensures same { OnErr result (self.new ≡ self.old) }
         ensures stands { OnOk result (IsReached self.old.heap (name_at self.old.scripts the_map.0) → IsReached self.old.heap (name_at self.old.scripts key.0) →
             IsReached self.old.heap (name_at self.old.scripts value.0) →
-            StandsAfter self.old.heap self.new.heap (λ g. graph.set_entry g (name_at self.old.scripts the_map.0) (name_at self.old.scripts key.0) (name_at self.old.scripts value.0))) }
+            StandsAfter self.old.heap self.new.heap (λ g. graph.set_entry g (name_at self.old.scripts the_map.0) (name_at self.old.scripts key.0)
+            (name_at self.old.scripts value.0))) }
     {
         self.put_entry(the_map, key, value)?;
         self.preserve(key);

@@ -59,7 +59,8 @@ impl Heaps {
     pub fn next_holder(&self, after: Option<NKey>) -> Option<NKey>
         requires order { (owned : List ℕ) × IsInOrder owned self.now }
         requires there { IsNativeThere self.now after }
-        ensures number { option_and_then (λ k. number_at self.now k.0) result ≡ holder_after self.now.heap (option_and_then (λ k. number_at self.now k.0) after) }
+        ensures number { option_and_then (λ k. number_at self.now k.0) result ≡ holder_after self.now.heap
+            (option_and_then (λ k. number_at self.now k.0) after) }
         ensures there { IsNativeThere self.now result }
     {
         let mut next = referring_above(&self.counted, after);

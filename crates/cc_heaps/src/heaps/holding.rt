@@ -72,7 +72,8 @@ impl Heaps {
         ensures heap { self.new ≡ changed_to self.old (set_register self.old.heap (n_register r) (native_name self.old content)) }
         ensures held { native_name self.old result ≡ register self.old.heap (n_register r) }
         ensures there { IsNativeThere self.new result }
-        ensures order { (owned : List ℕ) → IsInOrder (numbers_of (native_name self.old content) ++ owned) self.old → IsInOrder (numbers_of (native_name self.new result) ++ owned) self.new }
+        ensures order { (owned : List ℕ) → IsInOrder (numbers_of (native_name self.old content) ++ owned) self.old →
+            IsInOrder (numbers_of (native_name self.new result) ++ owned) self.new }
     {
         let held = self.native_reg(r);
         self.native_registers[r as usize] = content;
@@ -106,7 +107,8 @@ impl Heaps {
         ensures heap { self.new ≡ changed_to self.old (set_slot self.old.heap (Some (native (the_number self.old key.0))) i (held_name self.old content)) }
         ensures held { held_name self.old result ≡ slice_index_or (slots_now (native_at self.old.heap (the_number self.old key.0))) i None }
         ensures there { IsThere self.new result }
-        ensures order { (owned : List ℕ) → IsInOrder (numbers_of (held_name self.old content) ++ owned) self.old → IsInOrder (numbers_of (held_name self.new result) ++ owned) self.new }
+        ensures order { (owned : List ℕ) → IsInOrder (numbers_of (held_name self.old content) ++ owned) self.old →
+            IsInOrder (numbers_of (held_name self.new result) ++ owned) self.new }
     {
         self.counted.set_slot(key, i, content)
     }
@@ -201,7 +203,8 @@ impl Heaps {
         ensures natives { self.new.keys ≡ self.old.keys }
         ensures keys { KeepsKeys self.old self.new }
         ensures marks { MarksGoOn self.old self.new }
-        ensures marking { marks_of self.new ≡ option_map (exposed_marks self.old.heap (slot_held self.old.heap (the_number self.old key.0) j)) (marks_of self.old) }
+        ensures marking { marks_of self.new ≡ option_map (exposed_marks self.old.heap (slot_held self.old.heap (the_number self.old key.0) j))
+            (marks_of self.old) }
         ensures name { held_name self.new result ≡ slot_held self.old.heap (the_number self.old key.0) j }
         ensures there { IsThere self.new result }
         ensures order { (owned : List ℕ) → IsInOrder owned self.old → IsInOrder (numbers_of (held_name self.new result) ++ owned) self.new }
@@ -235,8 +238,10 @@ impl Heaps {
         ensures tells { TellsWhatIsFreed self.old.heap self.new.heap (N.telling out.old) (N.telling out.new) }
         ensures kept { KeepsAllIfReached
             (IsReached (taken_from self.old.heap (the_number self.old from.0) j) (Some (native (the_number self.old to.0)))) self.old self.new }
-        ensures marking { marks_of self.new ≡ option_map (exposed_marks self.old.heap (slot_held self.old.heap (the_number self.old from.0) j)) (marks_of self.old) }
-        ensures stands { IsReached self.old.heap (Some (native (the_number self.old to.0))) → IsReached self.old.heap (Some (native (the_number self.old from.0))) →
+        ensures marking { marks_of self.new ≡ option_map (exposed_marks self.old.heap (slot_held self.old.heap (the_number self.old from.0) j))
+            (marks_of self.old) }
+        ensures stands { IsReached self.old.heap (Some (native (the_number self.old to.0))) →
+            IsReached self.old.heap (Some (native (the_number self.old from.0))) →
             StandsAfter self.old.heap self.new.heap (λ g. graph.move_slot g (Some (native (the_number self.old to.0))) i
             (Some (native (the_number self.old from.0))) j (slot_held self.old.heap (the_number self.old from.0) j)) }
     {

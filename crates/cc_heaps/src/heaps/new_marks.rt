@@ -65,7 +65,8 @@ fn raise_content(scripts: &mut Scripts, to_scan: &mut ToScan, content: Option<SK
     requires marked { to ≢ White }
     requires going_on { IsGoingOn scripts.old to_scan.old }
     ensures marks { marks_held scripts.new to_scan.new ≡
-        option_map (λ m. each_raised (raised_to to) m (contents (name_held scripts.old (option_map (λ k. k.0) content) ∷ []))) (marks_held scripts.old to_scan.old) }
+        option_map (λ m. each_raised (raised_to to) m (contents (name_held scripts.old (option_map (λ k. k.0) content) ∷ [])))
+        (marks_held scripts.old to_scan.old) }
     ensures same { IsRemarked scripts.old scripts.new }
     ensures going_on { IsGoingOn scripts.new to_scan.new }
 {

@@ -91,7 +91,8 @@ impl Heaps {
         requires order { (owned : List ℕ) × IsInOrder owned self.old × AreOwnedOnce owned }
         requires there { IsNativeThere self.old content }
         ensures heap { OnOk result (self.new.heap ≡ (root_at self.old.heap (n_register place) (native_name self.old content)).heap) }
-        ensures told { OnOk result (TellsEvents (N.telling out.old) (N.telling out.new) (root_at self.old.heap (n_register place) (native_name self.old content)).events) }
+        ensures told { OnOk result (TellsEvents (N.telling out.old) (N.telling out.new)
+            (root_at self.old.heap (n_register place) (native_name self.old content)).events) }
         ensures tells { TellsWhatIsFreed self.old.heap self.new.heap (N.telling out.old) (N.telling out.new) }
         ensures kept { KeepsAll self.old self.new }
         ensures marks { KeepsMarks self.old self.new }
@@ -141,7 +142,8 @@ impl Heaps {
         requires order { (owned : List ℕ) × IsInOrder owned self.old × AreOwnedOnce owned }
         requires there { IsRootedThere self.old content }
         ensures heap { OnOk result (self.new.heap ≡ (root_at self.old.heap (register_at place content) (rooted_name self.old content)).heap) }
-        ensures told { OnOk result (TellsEvents (N.telling out.old) (N.telling out.new) (root_at self.old.heap (register_at place content) (rooted_name self.old content)).events) }
+        ensures told { OnOk result (TellsEvents (N.telling out.old) (N.telling out.new)
+            (root_at self.old.heap (register_at place content) (rooted_name self.old content)).events) }
         ensures tells { TellsWhatIsFreed self.old.heap self.new.heap (N.telling out.old) (N.telling out.new) }
         ensures kept { KeepsAll self.old self.new }
         ensures marks { IsOfNatives content → KeepsMarks self.old self.new }

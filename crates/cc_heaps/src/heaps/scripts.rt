@@ -148,7 +148,8 @@ impl Heaps {
         ensures full { result ≡ Err MakeStop.Full → self.old.heap.limits.scripts ≤ self.old.heap.scripts_made }
         ensures full_always { self.old.heap.limits.scripts ≤ self.old.heap.scripts_made → result ≡ Err MakeStop.Full }
         ensures name { IfOk result (λ x. x ≡ object (self.old.heap.scripts_made + 1)) }
-        ensures heap { OnOk result (self.new.heap ≡ make_object (preserve self.old.heap (delegate_name self.old what)) r (kind_to_make what) (slots_to_make what) (delegate_name self.old what)) }
+        ensures heap { OnOk result (self.new.heap ≡ make_object (preserve self.old.heap (delegate_name self.old what)) r (kind_to_make what)
+            (slots_to_make what) (delegate_name self.old what)) }
         ensures natives { self.new.keys ≡ self.old.keys }
         ensures kept { KeepsAll self.old self.new }
         ensures marks { KeepsMarks self.old self.new }

@@ -39,7 +39,8 @@ impl ObjectGraph {
     /// Makes a plain object with so many empty slots, which a register holds.
     pub(super) fn make_plain(&mut self, d: RegNo, slots: SlotNo) -> Result<(), NoMemory>
         requires { length self.old.scripts < 1000000 }
-        ensures { OnOk result (self.new ≡ set_register (with_script self.old (plain_object (empty_slots slots))) (reg.S d) (Some (object (length self.old.scripts + 1)))) }
+        ensures { OnOk result (self.new ≡ set_register (with_script self.old (plain_object (empty_slots slots))) (reg.S d)
+            (Some (object (length self.old.scripts + 1)))) }
     {
         let slots = Slots::empty(self.alloc, slots as usize)?;
         self.make_script(d, MadeScript::Plain(slots))

@@ -36,7 +36,8 @@ impl Session {
     pub fn root(&mut self, x: Object) -> Result<Root, Stop>
         ensures stops { IsRootRefused (stop_at self.old.host x) result }
         ensures full { result ≡ Err Stop.Full → (places ≤ length self.old.books.roots) ⊎ (2 ^ 64 ≤ self.old.books.last + 1) }
-        ensures does { IfOk result (λ root. Does (IsReachedOrReflects self.old.host.heaps.heap (Some x.name)) (placed root.index x.name) self.old.host self.new.host) }
+        ensures does { IfOk result (λ root. Does (IsReachedOrReflects self.old.host.heaps.heap (Some x.name))
+            (placed root.index x.name) self.old.host self.new.host) }
         ensures brings { IfOk result (λ root. is_native x.name ≡ true → Brings (Some x.name) (placed root.index x.name) self.old.host self.new.host) }
         ensures free { IfOk result (λ root. serial_at self.old.books root.index ≡ None) }
         ensures holds { IfOk result (λ root. held_at self.new.host.heaps.heap root.index ≡ Some x.name) }
