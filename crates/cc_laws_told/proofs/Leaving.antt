@@ -34,7 +34,7 @@ length-there : (h : Heap) → length (names_there h) ≡ objects h
 length-there h = omega (arith, length-append (native_names h) (script_names h), length-map h.natives (λ (n : HeapNative). native n.number), length-map h.scripts (λ (o : HeapScript). o.name))
 
 -- natives that are told once have names that stand once
-natives-once : (ks : List ℕ) → ((k : ℕ) → times k ks ≤ 1) → AreOnce (map native ks)
+pub natives-once : (ks : List ℕ) → ((k : ℕ) → times k ks ≤ 1) → AreOnce (map native ks)
 natives-once ks once (name.Native k) = subst (λ c. c ≤ 1) (sym (count_by-map (same_name (native k.0)) native ks ∙ ap (λ p. count_by p ks) (fun_ext (λ j. eqb-sym k.0 j)))) (once k.0)
 natives-once ks once (name.Script k) = subst (λ c. c ≤ 1) (sym (count_by-map (same_name (object k.0)) native ks ∙ count_by-none (λ j. false) ks (λ j m. refl))) (omega arith)
 natives-once ks once (name.Reflector k) = subst (λ c. c ≤ 1) (sym (count_by-map (same_name (reflector k.0)) native ks ∙ count_by-none (λ j. false) ks (λ j m. refl))) (omega arith)

@@ -7,3 +7,6 @@ pub mod UnitsTell
 pub mod ScriptsTell
 pub mod CollectionsTell
 pub mod Leaving
+pub mod Lasting
+pub mod FreedOnce
+pub mod LastingUnits

@@ -22,7 +22,7 @@ use cc_laws_snapshot::{
     loyal_changes_keep_suspected, units_keep_fresh, waiting_asks_less, waiting_keeps_suspected,
     white_is_unreached,
 };
-use cc_laws_told::collections_tell_few;
+use cc_laws_told::{collections_bring_nothing_back, collections_tell_few};
 use cc_lists::{closure_is_least, membership_is_decided, rarer_is_shorter};
 use cc_made::{
     known_scripts_are_made, made_scripts_are_cut_into_their_lines, made_scripts_ask_commands,
@@ -130,6 +130,7 @@ fn laws_of_the_run_can_be_called() {
     freshness_can_be_met();
     suspicion_can_be_met();
     collections_tell_few();
+    collections_bring_nothing_back();
     lawful_transcripts_tell_of_a_graph();
 }
 
