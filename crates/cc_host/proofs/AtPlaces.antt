@@ -27,7 +27,7 @@ use Rattle.cc_heaps.specs.Changes.{native_name, script_name}
 use Rattle.cc_heaps.specs.Leaving.{NoneCame, NothingLeft, TellsWhatIsFreed}
 use Rattle.cc_heaps.specs.Standing.{IsReached, IsReachedOrReflects, MayBeHeld, StandsAfter}
 use Rattle.cc_collector.specs.Kept.{Kept}
-use Rattle.cc_host.specs.declared.host.rooted.TheConstants.{FIRST_PLACE}
+use Rattle.cc_host.specs.declared.runtime.rooted.TheConstants.{FIRST_PLACE}
 use Rattle.cc_host.specs.declared.object.Object.{Object}
 use Rattle.cc_host.specs.Calls.{Brings, Does}
 use Rattle.cc_host.specs.Changes.{IsChange, IsReady}
@@ -123,6 +123,7 @@ module _ (h : Hosted) (v w : Keyed) (c : Kept) (m p : ℕ) (is_view : hosted v c
       subst (λ y. Brings (Some y) (placed p y) h (hosted w c m)) (sym is)
       (subst (λ (k : Hosted). Brings (Some (name.Native number)) (placed p (name.Native number)) k (hosted w c m)) is_view
       (record {
+        held = subst (MayBeHeld v.heap) its-name usable;
         stands = subst (λ y. StandsAfter v.heap w.heap (λ g. graph.root_at g (N (FIRST_PLACE + p)) y)) its-name (stands usable);
         doomed = subst (λ y. KeepsDoomedBut y v.heap w.heap) its-name doomed;
         keys = t.kept.keys;

@@ -1,5 +1,5 @@
 -- SUSPECTS FORGOTTEN: what is doomed stays doomed, a collection that begins then takes what it would take, and each object is there.
-use Rattle.std.proofs.Common.{◌≡◌, ℕ, ◌==◌, ◌&&◌, true, not, List, [], ◌++◌, map, Option, Some, None, option_map, refl, sym, ◌∙◌, ap, subst, ◌⊎◌, ⊎_elim}
+use Rattle.std.proofs.Common.{◌≡◌, ℕ, ◌==◌, ◌&&◌, true, not, List, [], ◌++◌, map, Option, Some, None, option_map, refl, sym, ◌∙◌, ap, subst, inl, ◌⊎◌, ⊎_elim, arith}
 use Rattle.std.specs.List.{filter, flat_map}
 use Rattle.std.specs.Prelude.{◌↔◌, ◌+◌, find, length}
 use Rattle.std.proofs.lemmas.Bool.{false≢true}
@@ -52,21 +52,42 @@ use Rattle.cc_host.proofs.Referring.{unlinked-of}
 use Rattle.cc_host.specs.Places.{KeepsPlaces}
 use Rattle.cc_host.proofs.PlacesKept.{places-as, registers-places}
 
--- THE BUFFER HAS THE NAMES THAT IT HAD, and all but marks is as it was. So what is doomed stays so.
+-- THE BUFFER HAS THE NAMES THAT IT HAD, and all but marks is as it was. So what is doomed stays so, what is out of reach and what is lost.
 pub forgotten-doomed : (h : Heap) → KeepsDoomed h (forgotten h)
 unfolding KeepsDoomed forgotten
-forgotten-doomed h s ds keeps d = record {
-  natives = d.natives;
-  scripts = d.scripts;
-  unregistered = d.unregistered;
-  unbuffered = λ x m i. d.unbuffered x m (subst (Among x) (forgotten-names h) i);
-  unmarked = d.unmarked;
-  holder = d.holder;
-  joint = d.joint;
-  noted_held = d.noted_held;
-  mapping_held = d.mapping_held;
-  covered = d.covered;
-}
+forgotten-doomed h = (
+  λ s ds keeps d. record {
+    natives = d.natives;
+    scripts = d.scripts;
+    unregistered = d.unregistered;
+    unbuffered = λ x m i. d.unbuffered x m (subst (Among x) (forgotten-names h) i);
+    unmarked = d.unmarked;
+    holder = d.holder;
+    joint = d.joint;
+    noted_held = d.noted_held;
+    mapping_held = d.mapping_held;
+    covered = d.covered;
+  },
+  λ ds d. record {
+    emptied = d.emptied;
+    reflectors = d.reflectors;
+    natives_made = d.natives_made;
+    scripts_made = d.scripts_made;
+    unregistered = d.unregistered;
+    holder = d.holder;
+    joint = d.joint;
+  },
+  λ ds keeps d. record {
+    natives = d.natives;
+    scripts = d.scripts;
+    unregistered = d.unregistered;
+    unmarked = d.unmarked;
+    holder = d.holder;
+    joint = d.joint;
+    held_up = d.held_up;
+  },
+  record { made = omega arith; natives = λ n i. inl (n, i, refl, refl) },
+)
 
 -- A collection that begins
 

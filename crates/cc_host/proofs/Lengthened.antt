@@ -5,7 +5,7 @@ use Rattle.cc_lists.specs.Members.{Among}
 use Rattle.cc_names.specs.Sizes.{most_roots}
 use Rattle.cc_names.specs.declared.name.Name.{Name}
 use Rattle.cc_names.specs.declared.register.Reg.TheVariants.{N}
-use Rattle.cc_model.specs.Banks.{Bank, of_natives, of_scripts}
+use Rattle.cc_model.specs.Banks.{Bank, of_natives, of_scripts, of_weak}
 use Rattle.cc_model.specs.Slots.{Slots, empty_slots, lengthened}
 use Rattle.cc_model.specs.Graph as graph
 use Rattle.cc_model.specs.Graph.{Graph}
@@ -19,6 +19,9 @@ use Rattle.cc_laws_heap.proofs.NativesHold.{HeldOr-same}
 use Rattle.cc_laws_run.specs.Doomed.{IsDoomed}
 use Rattle.cc_heaps.specs.Standing.{IsReached, StandsAfter}
 use Rattle.cc_host.specs.Missing.{KeepsDoomed, KeepsDoomedBut}
+use Rattle.cc_host.specs.Later.{AreLost}
+use Rattle.cc_host.specs.Next.{AreOutOfReach, BringsNoneBack}
+use Rattle.cc_host.proofs.KeptDoomed.{none_back-then}
 use Rattle.cc_host.proofs.Marked.{LeadsBut}
 use Rattle.cc_host.proofs.MarkedSteps.{leads-same}
 
@@ -61,15 +64,51 @@ lengthen-emptied h r l =
     emptied (lengthen h of_natives (r + 1)) r none
     ∙ ap (λ (ss : Slots). silently (record h { native_registers = ss })) (ap (set rs r) (sym none) ∙ set-get_or rs r None)
 
--- what is doomed stays doomed, since the heaps are seen as before
+-- what lengthening leaves
+natives-longer : (h : Heap) (b : Bank) (n : ℕ) → ((lengthen h b n).natives ≡ h.natives) × ((lengthen h b n).natives_made ≡ h.natives_made) × ((lengthen h b n).scripts_made ≡ h.scripts_made)
+natives-longer h of_natives n = (refl, refl, refl)
+natives-longer h of_scripts n = (refl, refl, refl)
+natives-longer h of_weak n = (refl, refl, refl)
+
+-- what is out of reach stays so, since the heaps are seen as before
+out-longer : (h : Heap) (b : Bank) (n : ℕ) (ds : List Name) → AreOutOfReach h ds → AreOutOfReach (lengthen h b n) ds
+out-longer h b n ds d =
+    let same = natives-longer h b n in
+    record {
+      emptied = λ m there. d.emptied m (subst (λ ns. Among m ns) same.0 there);
+      reflectors = d.reflectors;
+      natives_made = λ k m. subst (λ j. k ≤ j) (sym same.1) (d.natives_made k m);
+      scripts_made = λ k m. subst (λ j. k ≤ j) (sym same.2) (d.scripts_made k m);
+      unregistered = λ x m i. d.unregistered x m (subst (λ (a : View). Among x a.registers) (view-lengthen h b n) i);
+      holder = λ x y e m. d.holder x y (subst (λ (a : View). Among (x, y) a.edges) (view-lengthen h b n) e) m;
+      joint = λ e i m. d.joint e (subst (λ (a : View). Among e a.joints) (view-lengthen h b n) i) m;
+    }
+
+-- natives stay what they are
+none_back-longer : (h : Heap) (b : Bank) (n : ℕ) → BringsNoneBack h (lengthen h b n)
+none_back-longer h b n =
+    let same = natives-longer h b n in
+    record { made = omega (arith, same.1); natives = λ m there. inl (m, subst (λ ns. Among m ns) same.0 there, refl, refl) }
+
+-- what is doomed stays doomed, too
 pub doomed-longer : (h : Heap) (b : Bank) (n : ℕ) → KeepsDoomed h (lengthen h b n)
 unfolding KeepsDoomed
-doomed-longer h b n s ds keeps d = subst (λ (a : View). IsDoomed a s ds) (sym (view-lengthen h b n)) d
+doomed-longer h b n = (
+  λ s ds keeps d. subst (λ (a : View). IsDoomed a s ds) (sym (view-lengthen h b n)) d,
+  λ ds d. out-longer h b n ds d,
+  λ ds keeps d. subst (λ (a : View). AreLost a ds) (sym (view-lengthen h b n)) d,
+  none_back-longer h b n,
+)
 
 -- and so it does but for what is brought then
 pub doomed_but-longer : (h k : Heap) (b : Bank) (n : ℕ) (x : Option Name) → KeepsDoomedBut x (lengthen h b n) k → KeepsDoomedBut x h k
 unfolding KeepsDoomedBut
-doomed_but-longer h k b n x f s ds keeps none d = f s ds keeps none (subst (λ (a : View). IsDoomed a s ds) (sym (view-lengthen h b n)) d)
+doomed_but-longer h k b n x f = (
+  λ s ds keeps none d. f.0 s ds keeps none (subst (λ (a : View). IsDoomed a s ds) (sym (view-lengthen h b n)) d),
+  λ ds none d. f.1 ds none (out-longer h b n ds d),
+  λ ds keeps none d. f.2 ds keeps none (subst (λ (a : View). AreLost a ds) (sym (view-lengthen h b n)) d),
+  none_back-then h (lengthen h b n) k (none_back-longer h b n) f.3,
+)
 
 -- the heaps stand for the graph whose bank is as long
 pub stands-lengthen : (h : Heap) (b : Bank) (n : ℕ) → n ≤ most_roots → IsWellFormed h → StandsAfter h (lengthen h b n) (λ g. graph.lengthen g b n)

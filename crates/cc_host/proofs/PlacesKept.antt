@@ -15,7 +15,7 @@ use Rattle.cc_laws_heap.proofs.Face.{HoldsTheSame-take_up, Leaves-let_go}
 use Rattle.cc_heaps.specs.Keyed.{Keyed, left_with}
 use Rattle.cc_heaps.specs.Changes.{moved_in, slot_held, stored_in, taken_from}
 use Rattle.cc_heaps.proofs.ReflectingMade.{wrapped_by}
-use Rattle.cc_host.specs.declared.host.rooted.TheConstants.{FIRST_PLACE}
+use Rattle.cc_host.specs.declared.runtime.rooted.TheConstants.{FIRST_PLACE}
 use Rattle.cc_host.specs.Hosted.{spare}
 use Rattle.cc_host.specs.Places.{KeepsPlaces}
 use Rattle.cc_host.specs.Writing.{WritesNative, WritesScript}

@@ -18,7 +18,9 @@ use Rattle.cc_model.specs.View.{view}
 use Rattle.cc_model.specs.WellFormed.{IsWellFormed, names_there}
 use Rattle.cc_model.specs.Lawful.{State, state_of}
 use Rattle.cc_model.specs.Snapshot.{Snapshot}
-use Rattle.cc_model.specs.Sweep.{collect_scripts}
+use Rattle.cc_model.specs.Suspected.{IsSuspected}
+use Rattle.cc_model.specs.Colours.{HasColours}
+use Rattle.cc_model.specs.Sweep.{collect_scripts, unmarked as unmarked_in}
 use Rattle.cc_model.specs.Units.{begun, with_empty_buffer}
 use Rattle.cc_model.specs.End.{Progress, went_on, at_end, refused, unit}
 use Rattle.cc_model.specs.Collecting.{Machine, UnitsDone, behind, no_units, next_answer, units_done, enough_units, to_the_end, finish_marking, finish_running, one_marked, starting_anew, units_came, unless_stopped, with_outcome, without_marking, collect_cycles, slice, collect, gc, mark}
@@ -29,11 +31,11 @@ use Rattle.cc_model.specs.Telling.{Telling, TellsEvents}
 use Rattle.cc_model.proofs.Tellings.{TellsEvents-trans}
 use Rattle.cc_model.proofs.UnitsEnd.{to_the_end-stops}
 use Rattle.cc_laws_run.specs.Running.{IsFreshNow, IsMarkingNow, IsRunning}
-use Rattle.cc_laws_run.specs.Doomed.{IsDoomed, KeepsReflectors, garbage}
+use Rattle.cc_laws_run.specs.Doomed.{IsDoomed, IsSuspectedNow, KeepsReflectors, candidates_now, garbage}
 use Rattle.cc_laws_run.specs.Memory.{with_memory}
 use Rattle.cc_laws_run.specs.Missing.{lost}
 use Rattle.cc_laws_run.proofs.Face.{IsFollowed, ask-follows, begin-follows, collect-none, collect-unmarked, collected-doomed, filter-first, filter-second, finish_marking-none, gc-collects, lost-doomed, lost-keeps, units_done-keep, units_marked-keep}
-use Rattle.cc_laws_heap.proofs.Face.{script_names-named}
+use Rattle.cc_laws_heap.proofs.Face.{collect_scripts-colours, collect_scripts-unmarked, script_names-named}
 use Rattle.cc_laws_snapshot.proofs.Face.{native-name_of}
 use Rattle.cc_builder.specs.Building.{Built}
 use Rattle.cc_heaps.specs.Keyed.{Keyed}
@@ -45,7 +47,8 @@ use Rattle.cc_collector.specs.Collected.{LedTo, IsSliced, IsCollected, IsMarkedO
 use Rattle.cc_collector.specs.Settled.{IsSettled, IsUnsettled}
 use Rattle.cc_host.specs.Hosted.{Hosted, IsKept, kept, machine}
 use Rattle.cc_host.proofs.Beside.{ended-agrees, ended-made, ended_natives, unnoted, unnoted-made, unnoted-stands}
-use Rattle.cc_host.specs.Missing.{IsOfAGraph, CannotMiss, TakesGarbage, TellsUnlinked, TellsAbandoned, TakesBySlice, Takes}
+use Rattle.cc_host.proofs.NextLater.{doomed-lost, lost-dooms}
+use Rattle.cc_host.specs.Missing.{WillTake, IsOfAGraph, CannotMiss, TakesGarbage, TellsUnlinked, TellsAbandoned, TakesBySlice, Takes}
 
 -- what holds of each result holds
 pub on_both : {T E P : Type 0} (r : Result T E) → OnOk r P → OnErr r P → P
@@ -224,17 +227,25 @@ unmarked-by : (v : Keyed) (c : Option Built) (marking : Bool) → MarksIn v c ma
 unmarked-by v c true t e = absurd (cc)
 unmarked-by v c false t e = ap (option_map (new_marks_with v)) t
 
+-- a collection that begins now dooms these names
+pub record WouldDoom (h : Hosted) (ds : List Name) : Type 0 where
+  pub graph : IsOfAGraph h
+  pub reflectors : KeepsReflectors ds
+  pub idle : h.running ≡ None
+  pub unmarked : h.marking ≡ false
+  pub dooms : IsDoomed (view (with_empty_buffer h.heaps.heap)) (begun h.heaps.heap) ds
+
 module _ (h : Hosted) (r : RunsIn h.heaps (kept h)) (memory : List Bool) where
   -- as the plain run has it, with answers of memory
-  abbrev plain : Machine
+  abbrev pub plain : Machine
   plain = with_memory (machine h) memory
 
   -- beside a graph
-  abbrev beside : Graph → State
+  abbrev pub beside : Graph → State
   beside g = state_of (unnoted g) (names_there h.heaps.heap) (ended_natives h.heaps.heap)
 
   -- it runs beside each graph that its heaps stand for
-  is-running : (g : IsOfAGraph h) → IsRunning plain (beside g.0)
+  pub is-running : (g : IsOfAGraph h) → IsRunning plain (beside g.0)
   is-running g = record {
     sound = r.order.sound;
     colours = r.colours;
@@ -252,8 +263,8 @@ module _ (h : Hosted) (r : RunsIn h.heaps (kept h)) (memory : List Bool) where
   unmarked : (ds : List Name) → CannotMiss h ds → plain.marking ≡ None
   unmarked ds c = unmarked-in h.heaps h.running c.doomed.0 h.marking r.marks c.doomed.1
 
-  none-marked : TakesGarbage h → plain.marking ≡ None
-  none-marked t = unmarked-by h.heaps h.running h.marking r.marks t.unmarked
+  none-marked : (ds : List Name) → WouldDoom h ds → plain.marking ≡ None
+  none-marked ds t = unmarked-by h.heaps h.running h.marking r.marks t.unmarked
 
   -- the running collection, by a slice
   slice-follows : (ds : List Name) → CannotMiss h ds → (units : ℕ) →
@@ -262,12 +273,11 @@ module _ (h : Hosted) (r : RunsIn h.heaps (kept h)) (memory : List Bool) where
   slice-follows ds c units = ask-follows plain (beside c.graph.0) (taken (Slice units)) ds (is-running c.graph) refl c.reflectors c.doomed refl
 
   -- one that begins
-  slice-begins : (units : ℕ) → 0 < units → IsOfAGraph h → TakesGarbage h →
-      let d = slice units plain in IsFollowed (lost h.heaps.heap) d.events d.progress d.machine
+  slice-begins : (ds : List Name) (units : ℕ) → 0 < units → WouldDoom h ds → let d = slice units plain in IsFollowed ds d.events d.progress d.machine
   unfolding do_ask
-  slice-begins zero p g t = absurd (omega (arith, p))
-  slice-begins (suc n) p g t = begin-follows plain (beside g.0) (lost h.heaps.heap) (is-running g) (ap running_snapshot t.idle) (none-marked t)
-      (lost-doomed h.heaps.heap g.0 r.order.sound g.1 g.2 t.garbage_doomed) (taken (Slice (suc n))) refl
+  slice-begins ds zero p t = absurd (omega (arith, p))
+  slice-begins ds (suc n) p t = begin-follows plain (beside t.graph.0) ds (is-running t.graph) (ap running_snapshot t.idle) (none-marked ds t)
+      t.dooms (taken (Slice (suc n))) refl
 
   -- the running collection, brought to its end
   finished : (ds : List Name) → CannotMiss h ds → finish_running plain ≡ to_the_end (no_units plain)
@@ -292,10 +302,10 @@ module _ (h : Hosted) (r : RunsIn h.heaps (kept h)) (memory : List Bool) where
   mark-follows ds c units = ask-follows plain (beside c.graph.0) (taken (Mark units)) ds (is-running c.graph) refl c.reflectors c.doomed refl
 
   -- one that begins, brought to its end
-  whole-begins : IsOfAGraph h → TakesGarbage h → let d = to_the_end (no_units plain) in IsFollowed (lost h.heaps.heap) d.events d.progress (do_ask plain (taken Collect)).machine
-  whole-begins g t = subst (λ (d : UnitsDone). IsFollowed (lost h.heaps.heap) d.events d.progress (do_ask plain (taken Collect)).machine)
-      (first-unmarked plain (none-marked t)) (begin-follows plain (beside g.0) (lost h.heaps.heap) (is-running g) (ap running_snapshot t.idle) (none-marked t)
-      (lost-doomed h.heaps.heap g.0 r.order.sound g.1 g.2 t.garbage_doomed) (taken Collect) refl)
+  whole-begins : (ds : List Name) → WouldDoom h ds → let d = to_the_end (no_units plain) in IsFollowed ds d.events d.progress (do_ask plain (taken Collect)).machine
+  whole-begins ds t = subst (λ (d : UnitsDone). IsFollowed ds d.events d.progress (do_ask plain (taken Collect)).machine)
+      (first-unmarked plain (none-marked ds t)) (begin-follows plain (beside t.graph.0) ds (is-running t.graph) (ap running_snapshot t.idle) (none-marked ds t)
+      t.dooms (taken Collect) refl)
 
 -- THE CALLS
 
@@ -309,13 +319,44 @@ module _ (h : Hosted) (r : RunsIn h.heaps (kept h)) where
       (subst (λ q. IsFollowed ds d.events q d.machine) s.led.came_to (slice-follows h r s.memory ds c units))
 
   -- of one that begins
+  slice-takes_begun : (units steps steps_now : ℕ) (new : Hosted) (p : Progress) (t t₁ : Telling) → IsSliced units (machine h) (machine new) p steps steps_now t t₁ →
+      StillStands h.heaps.heap new.heaps.heap → 0 < units → (ds : List Name) → WouldDoom h ds → TakesBySlice ds new p t t₁
+  slice-takes_begun units steps steps_now new p t t₁ s stands some ds w =
+      let d : UnitsDone = slice units (plain h r s.memory) in
+      let g = w.graph in
+      by_slice ds d (machine h) new p t t₁ w.reflectors (g.0, g.1, stands g.0 g.1 g.2) s.led
+      (subst (λ q. IsFollowed ds d.events q d.machine) s.led.came_to (slice-begins h r s.memory ds units some w))
+
+  -- it dooms what nothing reaches, right after `gc`
+  garbage-dooms : IsOfAGraph h → TakesGarbage h → WouldDoom h (lost h.heaps.heap)
+  garbage-dooms g t = record {
+    graph = g;
+    reflectors = lost-keeps h.heaps.heap r.order.sound;
+    idle = t.idle;
+    unmarked = t.unmarked;
+    dooms = lost-doomed h.heaps.heap g.0 r.order.sound g.1 g.2 t.garbage_doomed;
+  }
+
+  -- and what is lost, whenever that is
+  will-doom : IsSuspectedNow (machine h) → (ds : List Name) → WillTake h ds → WouldDoom h ds
+  will-doom suspected ds t = record {
+    graph = t.graph;
+    reflectors = t.reflectors;
+    idle = t.idle;
+    unmarked = t.unmarked;
+    dooms = lost-dooms h.heaps.heap ds t.lost r.order.sound r.colours
+        (subst (λ (o : Option Built). IsSuspected (view h.heaps.heap) (candidates_now (running_snapshot o))) t.idle suspected);
+  }
+
   pub slice-takes_lost : (units steps steps_now : ℕ) (new : Hosted) (p : Progress) (t t₁ : Telling) → IsSliced units (machine h) (machine new) p steps steps_now t t₁ →
       StillStands h.heaps.heap new.heaps.heap → 0 < units → IsOfAGraph h → TakesGarbage h → TakesBySlice (lost h.heaps.heap) new p t t₁
   slice-takes_lost units steps steps_now new p t t₁ s stands some g garbage =
-      let d : UnitsDone = slice units (plain h r s.memory) in
-      let ds : List Name = lost h.heaps.heap in
-      by_slice ds d (machine h) new p t t₁ (lost-keeps h.heaps.heap r.order.sound) (g.0, g.1, stands g.0 g.1 g.2) s.led
-      (subst (λ q. IsFollowed ds d.events q d.machine) s.led.came_to (slice-begins h r s.memory units some g garbage))
+      slice-takes_begun units steps steps_now new p t t₁ s stands some (lost h.heaps.heap) (garbage-dooms g garbage)
+
+  pub slice-takes_later : (units steps steps_now : ℕ) (new : Hosted) (p : Progress) (t t₁ : Telling) → IsSliced units (machine h) (machine new) p steps steps_now t t₁ →
+      StillStands h.heaps.heap new.heaps.heap → IsSuspectedNow (machine h) → 0 < units → (ds : List Name) → WillTake h ds → TakesBySlice ds new p t t₁
+  slice-takes_later units steps steps_now new p t t₁ s stands suspected some ds w =
+      slice-takes_begun units steps steps_now new p t t₁ s stands some ds (will-doom suspected ds w)
 
   -- a whole collection, whatever it came to
   pub collect-takes : (new : Machine) (p : Progress) (t t₁ : Telling) → IsCollected (machine h) new p t t₁ → (ds : List Name) → CannotMiss h ds → Takes ds t t₁
@@ -332,14 +373,20 @@ module _ (h : Hosted) (r : RunsIn h.heaps (kept h)) where
       (finish-stops h r s.memory ds c) (λ e. at_end-unrefused (sym s.led.came_to ∙ collect-refused m (unmarked h r s.memory ds c) e)) (collect-follows h r s.memory ds c)
 
   -- that began
-  pub collect-takes_lost : (new : Machine) (t t₁ : Telling) → IsCollected (machine h) new at_end t t₁ → IsOfAGraph h → TakesGarbage h → TellsUnlinked (lost h.heaps.heap) t t₁
-  collect-takes_lost new t t₁ s g garbage =
+  collect-takes_begun : (new : Machine) (t t₁ : Telling) → IsCollected (machine h) new at_end t t₁ → (ds : List Name) → WouldDoom h ds → TellsUnlinked ds t t₁
+  collect-takes_begun new t t₁ s ds w =
       let m : Machine = plain h r s.memory in
       let d : UnitsDone = to_the_end (no_units m) in
-      let same : collect m ≡ d = collect-none m (ap running_snapshot garbage.idle) (none-marked h r s.memory garbage) in
-      followed-done (lost h.heaps.heap) d (do_ask m (taken Collect)).machine (collect m).events t t₁
+      let same : collect m ≡ d = collect-none m (ap running_snapshot w.idle) (none-marked h r s.memory ds w) in
+      followed-done ds d (do_ask m (taken Collect)).machine (collect m).events t t₁
       ([], ap (λ (u : UnitsDone). u.events) same ∙ sym (append-nil d.events)) s.led.told
-      (to_the_end-stops m) (λ e. at_end-unrefused (sym s.led.came_to ∙ (ap (λ (u : UnitsDone). u.progress) same ∙ e))) (whole-begins h r s.memory g garbage)
+      (to_the_end-stops m) (λ e. at_end-unrefused (sym s.led.came_to ∙ (ap (λ (u : UnitsDone). u.progress) same ∙ e))) (whole-begins h r s.memory ds w)
+
+  pub collect-takes_lost : (new : Machine) (t t₁ : Telling) → IsCollected (machine h) new at_end t t₁ → IsOfAGraph h → TakesGarbage h → TellsUnlinked (lost h.heaps.heap) t t₁
+  collect-takes_lost new t t₁ s g garbage = collect-takes_begun new t t₁ s (lost h.heaps.heap) (garbage-dooms g garbage)
+
+  pub collect-takes_later : (new : Machine) (t t₁ : Telling) → IsCollected (machine h) new at_end t t₁ → IsSuspectedNow (machine h) → (ds : List Name) → WillTake h ds → TellsUnlinked ds t t₁
+  collect-takes_later new t t₁ s suspected ds w = collect-takes_begun new t t₁ s ds (will-doom suspected ds w)
 
   -- `gc`
   pub gc-takes : (new : Machine) (t t₁ : Telling) → IsSwept (machine h) new t t₁ → (ds : List Name) → CannotMiss h ds → Takes ds t t₁
@@ -381,4 +428,31 @@ gc-takes_garbage h new t t₁ k idle unmarked s =
       idle = idle;
       unmarked = unmarked;
       garbage_doomed = subst (λ (g : Heap). IsDoomed (view (with_empty_buffer g)) (begun g) (garbage g)) (sym f.3 ∙ s.led.same.heap) (collected-doomed f.0 f.1 f.2);
+    }
+
+-- it leaves the colours of marking, and nothing unmarked
+gc-colours : (m : Machine) → HasColours (gc m).machine.heap
+unfolding gc
+gc-colours m = collect_scripts-colours (finish_running (without_marking m)).machine.heap
+
+gc-none_unmarked : (m : Machine) → unmarked_in (gc m).machine.heap ≡ []
+unfolding gc
+gc-none_unmarked m = collect_scripts-unmarked (finish_running (without_marking m)).machine.heap
+
+-- AND LATER IT TAKES what is lost now.
+pub gc-will_take : (h new : Hosted) (t t₁ : Telling) → IsKept h → IsKept new → new.running ≡ None → new.marking ≡ false → StillStands h.heaps.heap new.heaps.heap →
+    IsSwept (machine h) (machine new) t t₁ → IsOfAGraph h → WillTake new (lost new.heaps.heap)
+gc-will_take h new t t₁ k after idle unmarked stands s g =
+    let m : Machine = with_memory (machine h) s.memory in
+    let sound = after.runs.order.sound in
+    let heap : Heap = new.heaps.heap in
+    let garbage : TakesGarbage new = gc-takes_garbage h new t t₁ k idle unmarked s in
+    let there = stands g.0 g.1 g.2 in
+    record {
+      graph = (g.0, g.1, there);
+      reflectors = lost-keeps heap sound;
+      idle = idle;
+      unmarked = unmarked;
+      lost = doomed-lost heap (lost heap) (lost-doomed heap g.0 sound g.1 there garbage.garbage_doomed)
+          (subst HasColours s.led.same.heap (gc-colours m)) (subst (λ j. unmarked_in j ≡ []) s.led.same.heap (gc-none_unmarked m));
     }

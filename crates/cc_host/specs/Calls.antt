@@ -14,9 +14,10 @@ use Rattle.cc_collector.specs.Collected.{TellsWhatLeaves}
 use Rattle.cc_heaps.specs.Changes.{KeepsKeys}
 use Rattle.cc_heaps.specs.Leaving.{NoneCame, TellsWhatIsFreed}
 use Rattle.cc_laws_told.specs.Told.{objects}
-use Rattle.cc_heaps.specs.Standing.{StandsAfter, StillStands}
+use Rattle.cc_heaps.specs.Standing.{MayBeHeld, StandsAfter, StillStands}
 use Rattle.cc_host.specs.Hosted.{Hosted}
-use Rattle.cc_host.specs.Missing.{KeepsDoomed, KeepsDoomedBut, TakesGarbage}
+use Rattle.cc_host.specs.Missing.{IsOfAGraph, IsUsedWell, KeepsDoomed, KeepsDoomedBut, LeavesUnlinked, TakesGarbage}
+use Rattle.cc_host.specs.Next.{TellsEnded}
 use Rattle.cc_host.specs.Stops.{stop_at}
 use Rattle.cc_host.specs.declared.object.Object.{Object}
 
@@ -38,6 +39,8 @@ pub record Does (premise : Type 0) (change : Graph → Graph) (old new : Hosted)
 -- A CALL HANDS A ROOT A NATIVE that is there, reached or not: it changes the graph so, with no premise. What the running collection
 -- can't miss it can't miss afterwards either, where it does not have that native.
 pub record Brings (brought : Option Name) (change : Graph → Graph) (old new : Hosted) : Type 0 where
+  -- it was not unlinked, or is reached
+  pub held : MayBeHeld old.heaps.heap brought
   pub stands : StandsAfter old.heaps.heap new.heaps.heap change
   pub doomed : KeepsDoomedBut brought old.heaps.heap new.heaps.heap
   pub keys : KeepsKeys old.heaps new.heaps
@@ -66,11 +69,15 @@ Comes made old new = (x : Name) → Among x (names_there new.heaps.heap) → Amo
 abbrev pub TellsFreed : Hosted → Hosted → Telling → Telling → Type 0
 TellsFreed old new before after = TellsWhatIsFreed old.heaps.heap new.heaps.heap before after
 
--- A COLLECTION LEAVES THE GRAPH as it is; what the roots reach stays as it was, and what leaves is told
+-- A COLLECTION LEAVES THE GRAPH as it is; what the roots reach stays as it was, and what leaves is told; what it unlinks is out of reach, and
+-- what it tells unlinked has ended
 pub record Collects (old new : Hosted) (before after : Telling) : Type 0 where
   pub stands : StillStands old.heaps.heap new.heaps.heap
   pub keeps : KeepsWhatIsReached old.heaps.heap new.heaps.heap
   pub tells : TellsWhatLeaves old.heaps.heap new.heaps.heap before after
+  pub used : IsUsedWell old → IsUsedWell new
+  pub unlinked : LeavesUnlinked old.heaps.heap new.heaps.heap
+  pub ends : IsOfAGraph old → TellsEnded new.heaps.heap before after
   pub keys : KeepsKeys old.heaps new.heaps
   pub mark : new.mark ≡ old.mark
 

@@ -16,7 +16,7 @@ use Rattle.cc_counted.specs.Counts.{unlinked_of}
 use Rattle.cc_heaps.specs.Keyed.{Keyed, counts_of, number_at}
 use Rattle.cc_heaps.specs.Standing.{IsReached}
 use Rattle.cc_collector.specs.Kept.{Kept, RunsIn, machine_of}
-use Rattle.cc_host.specs.declared.host.TheConstants.{ROOTS}
+use Rattle.cc_host.specs.declared.runtime.TheConstants.{NUMBERED_ROOTS}
 use Rattle.cc_host.specs.declared.object.Object.{Object}
 
 pub record Hosted : Type 0 where
@@ -35,11 +35,11 @@ machine h = machine_of h.heaps (kept h)
 
 -- so many native registers are roots, and so many script registers
 abbrev pub roots : ℕ
-roots = ROOTS
+roots = NUMBERED_ROOTS
 
 -- the native register behind them, which the host keeps for itself
 abbrev pub spare : ℕ
-spare = ROOTS
+spare = NUMBERED_ROOTS
 
 -- WHAT A HOST KEEPS between its calls: the collector runs in the heaps, no native that nothing reaches is forgotten, and the
 -- register that the host keeps for itself holds nothing

@@ -1,8 +1,11 @@
 pub mod Hosted
+pub mod Next
+pub mod Later
 pub mod Missing
 pub mod Places
 pub mod Reading
 pub mod Writing
+pub mod Spots
 pub mod Stops
 pub mod Referring
 pub mod Calls
@@ -11,3 +14,10 @@ pub mod Holding
 pub mod Exposing
 pub mod Queues
 pub mod Marked
+pub mod Hosts
+pub mod Booking
+pub mod Refusals
+pub mod Ways
+pub mod Walks
+pub mod Lasting
+pub mod Freed

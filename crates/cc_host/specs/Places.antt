@@ -8,7 +8,7 @@ use Rattle.cc_names.specs.Names.{is_native}
 use Rattle.cc_model.specs.Graph as graph
 use Rattle.cc_model.specs.Graph.{Graph}
 use Rattle.cc_model.specs.Heap.{Heap, register}
-use Rattle.cc_host.specs.declared.host.rooted.TheConstants.{FIRST_PLACE, PLACES}
+use Rattle.cc_host.specs.declared.runtime.rooted.TheConstants.{FIRST_PLACE, PLACES}
 
 -- so many places there are, counted from 0; the registers before them are the numbered roots, and the host's own
 abbrev pub places : ℕ

@@ -2,7 +2,7 @@
 //!
 //! What is written is in a register of the host's own meanwhile, so that it is reached; what is stored is exposed before, so
 //! that it is black. When the native leaves that register again it is a suspect, and the next collection looks at it.
-ghost use Rattle.std.specs.Prelude.{◌≡◌, ◌⊎◌, ◌+◌, ◌<◌, ◌≤◌, ℕ, false, [], length, Option, Some, None, Err, IsSome, IfOk, OnOk, OnErr};
+ghost use Rattle.std.specs.Prelude.{◌≡◌, ◌≢◌, ◌⊎◌, ◌+◌, ◌<◌, ◌≤◌, ℕ, false, [], ◌∷◌, length, Option, Some, None, Err, IsSome, IfOk, OnOk, OnErr};
 ghost use Rattle.cc_lists.specs.Members.{Among};
 ghost use Rattle.cc_names.specs.declared.name.Name.{Name};
 ghost use Rattle.cc_names.specs.declared.register.Reg.TheVariants.{N as n_register};
@@ -19,11 +19,14 @@ ghost use Rattle.cc_heaps.specs.Keyed.{IsInOrder, counts_of, number_at, the_numb
 ghost use Rattle.cc_heaps.specs.Changes.{IsBlackHeld, IsNativeThere, IsThere, held_name, native_name, script_name, slot_held};
 ghost use Rattle.cc_heaps.specs.Leaving.{NoneCame, TellsWhatIsFreed};
 ghost use Rattle.cc_heaps.specs.Standing.{IsReached, IsReachedOrReflects, MayBeHeld, StandsAfter};
-ghost use Rattle.cc_host.specs.Hosted.{roots};
+ghost use Rattle.cc_laws_told.specs.Lasting.{KeepsEnded};
+ghost use Rattle.cc_host.specs.Hosted.{roots, spare};
+ghost use Rattle.cc_host.specs.Lasting.{KeepsUsable};
 ghost use Rattle.cc_host.specs.Missing.{KeepsDoomedBut};
 ghost use Rattle.cc_host.specs.Holding.{IsHeld, IsLetGo};
 ghost use Rattle.cc_host.specs.Changes.{IsReady, IsChange, IsTried, OneCame, StaysThere};
 ghost use Rattle.cc_host.specs.Places.{KeepsPlaces};
+ghost use Rattle.cc_host.specs.Spots.{IsWritten, Spot, WritesOnly, reads};
 ghost use Rattle.cc_host.specs.Marked.{IsPastIfAny, KeepsMarking};
 ghost use Rattle.cc_markslice.specs.Going.{IsMarkingWell};
 
@@ -31,7 +34,7 @@ mod making;
 mod placing;
 mod scripts;
 
-use crate::host::ROOTS;
+use crate::runtime::NUMBERED_ROOTS;
 use cc_counted::Held;
 use cc_heaps::Heaps;
 use cc_model::Notices;
@@ -54,6 +57,8 @@ pub(crate) fn root_native<N: Notices>(
     requires there { IsNativeThere heaps.old content }
     ensures change { IsChange (IsReached heaps.old.heap (native_name heaps.old content))
         (λ g. graph.set_register g (n_register r) (native_name heaps.old content)) heaps.old heaps.new }
+    ensures writes { WritesOnly (Spot.register (n_register r) ∷ []) heaps.old.heap heaps.new.heap }
+    ensures written { IsWritten (Spot.register (n_register r)) (native_name heaps.old content) heaps.new.heap }
     ensures marking { KeepsMarking heaps.old heaps.new }
     ensures places { KeepsPlaces heaps.old.heap heaps.new.heap }
     ensures stands { MayBeHeld heaps.old.heap (native_name heaps.old content) →
@@ -62,6 +67,8 @@ pub(crate) fn root_native<N: Notices>(
     ensures held { register heaps.new.heap (n_register r) ≡ native_name heaps.old content }
     ensures none_came { NoneCame heaps.old.heap heaps.new.heap }
     ensures tells { TellsWhatIsFreed heaps.old.heap heaps.new.heap (N.telling out.old) (N.telling out.new) }
+    ensures ended { KeepsEnded heaps.old.heap heaps.new.heap }
+    ensures usable { KeepsUsable heaps.old.heap heaps.new.heap }
 {
     heaps.set_native_reg(r, content, out);
 }
@@ -71,6 +78,7 @@ fn expose_held(heaps: &mut Heaps, content: Option<Held>)
     requires ready { IsReady heaps.old }
     requires there { IsThere heaps.old content }
     ensures change { IsTried (IsReachedOrReflects heaps.old.heap (held_name heaps.old content)) heaps.old heaps.new }
+    ensures writes { WritesOnly [] heaps.old.heap heaps.new.heap }
     ensures marking { KeepsMarking heaps.old heaps.new }
     ensures places { KeepsPlaces heaps.old.heap heaps.new.heap }
     ensures past { IsMarkingWell heaps.old → IsPastIfAny heaps.new (held_name heaps.old content) }
@@ -82,6 +90,8 @@ fn expose_held(heaps: &mut Heaps, content: Option<Held>)
     ensures reached { (x : Option Name) → IsReached heaps.old.heap x → IsReached heaps.new.heap x }
     ensures registers { heaps.new.heap.native_registers ≡ heaps.old.heap.native_registers }
     ensures made { heaps.new.heap.natives_made ≡ heaps.old.heap.natives_made }
+    ensures ended { KeepsEnded heaps.old.heap heaps.new.heap }
+    ensures usable { KeepsUsable heaps.old.heap heaps.new.heap }
 {
     match content {
         Some(Held::Script(key)) => expose_key(heaps, key),
@@ -95,22 +105,24 @@ fn hold<N: Notices>(heaps: &mut Heaps, key: NKey, out: &mut N)
     requires ready { IsReady heaps.old }
     requires live { IsSome (number_at heaps.old key.0) }
     ensures held { IsHeld key heaps.old heaps.new }
+    ensures writes { WritesOnly (Spot.register (n_register spare) ∷ []) heaps.old.heap heaps.new.heap }
     ensures marking { KeepsMarking heaps.old heaps.new }
     ensures places { KeepsPlaces heaps.old.heap heaps.new.heap }
     ensures told { TellsEvents (N.telling out.old) (N.telling out.new) [] }
 {
-    heaps.set_native_reg(ROOTS, Some(key), out);
+    heaps.set_native_reg(NUMBERED_ROOTS, Some(key), out);
 }
 
 /// The host's own register is empty again.
 fn let_go<N: Notices>(heaps: &mut Heaps, out: &mut N)
     requires order { IsInOrder [] heaps.old }
     ensures empty { IsLetGo heaps.old heaps.new }
+    ensures writes { WritesOnly (Spot.register (n_register spare) ∷ []) heaps.old.heap heaps.new.heap }
     ensures marking { KeepsMarking heaps.old heaps.new }
     ensures places { KeepsPlaces heaps.old.heap heaps.new.heap }
     ensures tells { TellsWhatIsFreed heaps.old.heap heaps.new.heap (N.telling out.old) (N.telling out.new) }
 {
-    heaps.set_native_reg(ROOTS, None, out);
+    heaps.set_native_reg(NUMBERED_ROOTS, None, out);
 }
 
 /// Slot `i` of a native holds a native or a black script object from then on, or nothing. What comes into it is reached, or the
@@ -129,10 +141,14 @@ fn store_black<N: Notices>(
     requires black { IsBlackHeld heaps.old content }
     ensures change { IsChange (IsReached heaps.old.heap (native_name heaps.old (Some key)) × IsReachedOrReflects heaps.old.heap (held_name heaps.old content))
         (λ g. graph.set_slot g (native_name heaps.old (Some key)) i (held_name heaps.old content)) heaps.old heaps.new }
+    ensures writes { (x : Name) → native_name heaps.old (Some key) ≡ Some x → WritesOnly (Spot.slot x i ∷ []) heaps.old.heap heaps.new.heap }
+    ensures written { (x : Name) → native_name heaps.old (Some key) ≡ Some x → IsWritten (Spot.slot x i) (held_name heaps.old content) heaps.new.heap }
     ensures marking { (IsMarkingWell heaps.old → IsPastIfAny heaps.old (held_name heaps.old content)) → KeepsMarking heaps.old heaps.new }
     ensures places { KeepsPlaces heaps.old.heap heaps.new.heap }
     ensures none_came { NoneCame heaps.old.heap heaps.new.heap }
     ensures tells { TellsWhatIsFreed heaps.old.heap heaps.new.heap (N.telling out.old) (N.telling out.new) }
+    ensures ended { KeepsEnded heaps.old.heap heaps.new.heap }
+    ensures usable { KeepsUsable heaps.old.heap heaps.new.heap }
 {
     hold(heaps, key, out);
     heaps.store_native(key, i, content, out);
@@ -154,10 +170,14 @@ pub(crate) fn store_native<N: Notices>(
     ensures change { IsChange (IsReachedOrReflects heaps.old.heap (native_name heaps.old (Some key))
         × IsReachedOrReflects heaps.old.heap (held_name heaps.old content))
         (λ g. graph.set_slot g (native_name heaps.old (Some key)) i (held_name heaps.old content)) heaps.old heaps.new }
+    ensures writes { (x : Name) → native_name heaps.old (Some key) ≡ Some x → WritesOnly (Spot.slot x i ∷ []) heaps.old.heap heaps.new.heap }
+    ensures written { (x : Name) → native_name heaps.old (Some key) ≡ Some x → IsWritten (Spot.slot x i) (held_name heaps.old content) heaps.new.heap }
     ensures marking { KeepsMarking heaps.old heaps.new }
     ensures places { KeepsPlaces heaps.old.heap heaps.new.heap }
     ensures none_came { NoneCame heaps.old.heap heaps.new.heap }
     ensures tells { TellsWhatIsFreed heaps.old.heap heaps.new.heap (N.telling out.old) (N.telling out.new) }
+    ensures ended { KeepsEnded heaps.old.heap heaps.new.heap }
+    ensures usable { KeepsUsable heaps.old.heap heaps.new.heap }
 {
     expose_held(heaps, content);
     store_black(heaps, key, i, content, out);
@@ -180,10 +200,18 @@ pub(crate) fn move_native<N: Notices>(
     ensures change { IsChange (IsReached heaps.old.heap (native_name heaps.old (Some to)) × IsReached heaps.old.heap (native_name heaps.old (Some from)))
         (λ g. graph.move_slot g (native_name heaps.old (Some to)) i (native_name heaps.old (Some from)) j
         (slot_held heaps.old.heap (the_number heaps.old from.0) j)) heaps.old heaps.new }
+    ensures writes { (x y : Name) → native_name heaps.old (Some to) ≡ Some x → native_name heaps.old (Some from) ≡ Some y →
+        WritesOnly (Spot.slot x i ∷ Spot.slot y j ∷ []) heaps.old.heap heaps.new.heap }
+    ensures written { (x y : Name) → native_name heaps.old (Some to) ≡ Some x → native_name heaps.old (Some from) ≡ Some y →
+        IsWritten (Spot.slot x i) (reads heaps.old.heap (Spot.slot y j)) heaps.new.heap }
+    ensures emptied { (x y : Name) → native_name heaps.old (Some to) ≡ Some x → native_name heaps.old (Some from) ≡ Some y →
+        Spot.slot x i ≢ Spot.slot y j → IsWritten (Spot.slot y j) None heaps.new.heap }
     ensures marking { KeepsMarking heaps.old heaps.new }
     ensures places { KeepsPlaces heaps.old.heap heaps.new.heap }
     ensures none_came { NoneCame heaps.old.heap heaps.new.heap }
     ensures tells { TellsWhatIsFreed heaps.old.heap heaps.new.heap (N.telling out.old) (N.telling out.new) }
+    ensures ended { KeepsEnded heaps.old.heap heaps.new.heap }
+    ensures usable { KeepsUsable heaps.old.heap heaps.new.heap }
 {
     hold(heaps, to, out);
     heaps.move_slot(to, i, from, j, out);
@@ -202,6 +230,7 @@ pub(crate) fn wrap_native<N: Notices>(
     requires live { IsSome (number_at heaps.old key.0) }
     ensures change { OnOk result (IsChange (IsReached heaps.old.heap (native_name heaps.old (Some key)))
         (λ g. graph.wrapped g (native_name heaps.old (Some key))) heaps.old heaps.new) }
+    ensures writes { WritesOnly [] heaps.old.heap heaps.new.heap }
     ensures marking { KeepsMarking heaps.old heaps.new }
     ensures places { KeepsPlaces heaps.old.heap heaps.new.heap }
     ensures tried { OnErr result (IsTried (IsReached heaps.old.heap (native_name heaps.old (Some key))) heaps.old heaps.new) }
@@ -210,6 +239,8 @@ pub(crate) fn wrap_native<N: Notices>(
     ensures came { IfOk result (λ made. OneCame (script_name heaps.new (Some made)) heaps.old.heap heaps.new.heap) }
     ensures none_came { OnErr result (NoneCame heaps.old.heap heaps.new.heap) }
     ensures tells { TellsWhatIsFreed heaps.old.heap heaps.new.heap (N.telling out.old) (N.telling out.new) }
+    ensures ended { KeepsEnded heaps.old.heap heaps.new.heap }
+    ensures usable { KeepsUsable heaps.old.heap heaps.new.heap }
 {
     hold(heaps, key, out);
     let made = wrap(heaps, key);

@@ -7,10 +7,12 @@ use cc_names::NoMemory;
 use thiserror::Error;
 
 /// Why a host did not do what was asked. Nothing changed; but at want of memory in `wrap`, `set_entry` and `new_proxy`, and at
-/// `Full` in the last, an object may have been exposed, or have become a suspect. The graph is as it was then too.
+/// `Full` in the last, an object may have been exposed, or have become a suspect. The graph is as it was then too. The calls that make
+/// an object may have taken room for what can be told of it.
 ///
 /// The objects of a call are tried in the order in which they are handed in, each for the first three; then the indexes,
-/// then the limit, then memory. What is no object (its name has the number 0) is of the wrong kind before it is of another host.
+/// then the limit, then memory; but where an object is made memory may be wanted before the limit is tried. What is no object (its
+/// name has the number 0) is of the wrong kind before it is of another host.
 #[derive(Clone, Copy, Debug, PartialEq, Eq, Drop, Error)]
 pub enum Stop {
     /// An object is of another host.
@@ -22,10 +24,11 @@ pub enum Stop {
     /// An object is of the wrong kind; or no object is handed in: its name has the number 0, which no object ever has.
     #[error("an object is of the wrong kind")]
     Kind,
-    /// An index is not below the number of roots, or of an object's slots; or a number of slots is above 256.
+    /// An index is not below the number of roots, or of an object's slots; or a number of slots is above 256, or a limit of a new host above
+    /// 1 000 000.
     #[error("there is no such root or slot")]
     Index,
-    /// As many objects as the limit were ever made.
+    /// As many objects as the limit were ever made; or no place or no serial number is left for a root, or no mark for a new host.
     #[error("no more may be made")]
     Full,
     /// Want of memory.

@@ -1,8 +1,5 @@
-//! A document of elements, listeners and private data over a session. No call of it has a condition, as none of a session has.
-use cc_collector::Ended;
-use cc_host::{Object, Stop, Weak};
-use cc_names::{Limits, Name, NativeNo, RegNo, SlotNo};
-use cc_session::{Hindrance, Session};
+//! A document of elements, listeners and private data over a host. No call of it has a condition, as none of a host has.
+use cc_host::{Ended, Hindrance, Host, Marks, Name, NativeNo, Object, RegNo, SlotNo, Stop, Weak};
 use slab::Slab;
 use std::alloc::Global;
 
@@ -29,11 +26,11 @@ struct Entry {
     element: Weak,
 }
 
-/// A session, a row for each element that was not told as freed, and an index of these elements by title, which keeps none of them
+/// A host, a row for each element that was not told as freed, and an index of these elements by title, which keeps none of them
 /// alive.
 #[derive(Drop)]
 pub struct Document {
-    pub session: Session,
+    pub host: Host,
     titles: Slab<&'static str>,
     index: Vec<Entry>,
     // whether a script marking ended that no collection has followed yet
@@ -41,13 +38,14 @@ pub struct Document {
 }
 
 impl Document {
-    /// No elements. The first row is that of each native to which the program gave no number.
-    pub fn new(alloc: Global) -> Result<Document, Stop> {
+    /// No elements; the host's mark is from the program's source. The first row is that of each native to which the program gave no
+    /// number.
+    pub fn new(alloc: Global, marks: &mut Marks) -> Result<Document, Stop> {
         let mut titles = Slab::new(alloc);
         titles.insert("untitled").map_err(|_| Stop::NoMemory)?;
-        let session = Session::new(alloc, Limits::new(1000, 1000, 0), 1)?;
+        let host = Host::new(alloc, 1000, 1000, marks)?;
         Ok(Document {
-            session,
+            host,
             titles,
             index: Vec::new(alloc),
             is_marked: false,
@@ -56,7 +54,7 @@ impl Document {
 
     // The index has an element from then on.
     fn enter(&mut self, title: &'static str, element: Object) -> Result<(), Stop> {
-        let element = self.session.weak(element)?;
+        let element = self.host.weak(element)?;
         self.index
             .push(Entry { title, element })
             .map_err(|_| Stop::NoMemory)
@@ -71,16 +69,16 @@ impl Document {
             .find(|entry| entry.title == title)
             .copied()
         {
-            Some(entry) => self.session.upgrade_into(MADE, entry.element),
+            Some(entry) => self.host.upgrade_into(MADE, entry.element),
             None => Ok(None),
         }
     }
 
     /// Makes an element, which a root holds until the next one is made. Its row is its number of the program's.
     pub fn make(&mut self, title: &'static str) -> Result<Object, Stop> {
-        let element = self.session.new_native(MADE, LISTENER + 1)?;
+        let element = self.host.new_native(MADE, LISTENER + 1)?;
         let row = self.titles.insert(title).map_err(|_| Stop::NoMemory)?;
-        self.session.set_data(element, row as u64)?;
+        self.host.set_data(element, row as u64)?;
         self.enter(title, element)?;
         Ok(element)
     }
@@ -88,7 +86,7 @@ impl Document {
     // The first place of an element's children that holds this.
     fn place_of(&self, parent: Object, held: Option<Object>) -> Result<SlotNo, Stop> {
         (0..PARENT)
-            .find(|i| self.session.slot(parent, *i) == Ok(held))
+            .find(|i| self.host.slot(parent, *i) == Ok(held))
             .ok_or(Stop::Index)
     }
 
@@ -96,58 +94,58 @@ impl Document {
     pub fn append(&mut self, parent: Object, title: &'static str) -> Result<Object, Stop> {
         let place = self.place_of(parent, None)?;
         let child = self.make(title)?;
-        self.session.store(parent, place, Some(child))?;
-        self.session.store(child, PARENT, Some(parent))?;
+        self.host.store(parent, place, Some(child))?;
+        self.host.store(child, PARENT, Some(parent))?;
         Ok(child)
     }
 
     /// An element is a child no more. What is below it stays with it.
     pub fn remove(&mut self, parent: Object, child: Object) -> Result<(), Stop> {
         let place = self.place_of(parent, Some(child))?;
-        self.session.store(child, PARENT, None)?;
-        self.session.store(parent, place, None)
+        self.host.store(child, PARENT, None)?;
+        self.host.store(parent, place, None)
     }
 
     // What script has of an element, in a root until the next one.
     fn reflect(&mut self, element: Object) -> Result<Object, Stop> {
-        let reflector = self.session.wrap(element)?;
-        self.session.set_script_root(REFLECTOR, Some(reflector))?;
+        let reflector = self.host.wrap(element)?;
+        self.host.set_script_root(REFLECTOR, Some(reflector))?;
         Ok(reflector)
     }
 
     // A closure over an element: a script object that holds its reflector, in a root until the next one.
     fn close_over(&mut self, element: Object) -> Result<Object, Stop> {
         let reflector = self.reflect(element)?;
-        let closure = self.session.new_plain(MADE, 1)?;
-        self.session.store(closure, 0, Some(reflector))?;
+        let closure = self.host.new_plain(MADE, 1)?;
+        self.host.store(closure, 0, Some(reflector))?;
         Ok(closure)
     }
 
     /// An element listens for another: it holds a closure over that one.
     pub fn listen(&mut self, element: Object, other: Object) -> Result<(), Stop> {
         let closure = self.close_over(other)?;
-        self.session.store(element, LISTENER, Some(closure))
+        self.host.store(element, LISTENER, Some(closure))
     }
 
     /// An element gets private data: its reflector has a closure over another one in the weak map.
     pub fn remember(&mut self, element: Object, other: Object) -> Result<(), Stop> {
         let closure = self.close_over(other)?;
         let reflector = self.reflect(element)?;
-        let data = self.session.script_root(DATA).ok_or(Stop::Gone)?;
-        self.session.set_entry(data, reflector, closure)
+        let data = self.host.script_root(DATA).ok_or(Stop::Gone)?;
+        self.host.set_entry(data, reflector, closure)
     }
 
     /// Another world of script gets a proxy of an element, in a root of its own.
     pub fn share(&mut self, element: Object) -> Result<Object, Stop> {
         let reflector = self.reflect(element)?;
-        self.session.new_proxy(PROXY, reflector)
+        self.host.new_proxy(PROXY, reflector)
     }
 
     /// The roots of what was being made hold nothing.
     pub fn let_go(&mut self) -> Result<(), Stop> {
-        self.session.set_native_root(MADE, None)?;
-        self.session.set_script_root(MADE, None)?;
-        self.session.set_script_root(REFLECTOR, None)
+        self.host.set_native_root(MADE, None)?;
+        self.host.set_script_root(MADE, None)?;
+        self.host.set_script_root(REFLECTOR, None)
     }
 
     /// A few units, in a frame: of a script marking until it ends, and then of a collection, which does not begin at what is alive.
@@ -155,7 +153,7 @@ impl Document {
         let ended = if self.is_marked {
             self.collect(units)?
         } else {
-            self.session.mark(units)?
+            self.host.mark(units)?
         };
         if let Ended::Yes = ended {
             self.is_marked = !self.is_marked;
@@ -165,15 +163,15 @@ impl Document {
 
     // Units of a collection, of the one that runs, or of one that begins here.
     fn collect(&mut self, units: u32) -> Result<Ended, Hindrance> {
-        if !self.session.running() && self.session.has_suspects() {
-            self.session.forget();
+        if !self.host.running() && self.host.has_suspects() {
+            self.host.forget();
         }
-        self.session.slice(units)
+        self.host.slice(units)
     }
 
     /// What the program calls a native, there or gone.
     pub fn title(&self, number: NativeNo) -> &'static str {
-        let row = self.session.data_of(number.0) as usize;
+        let row = self.host.data_of(Name::Native(number)) as usize;
         self.titles.get(row).copied().unwrap_or("gone")
     }
 
@@ -191,7 +189,7 @@ impl Document {
     /// The row of a native that was told as freed goes.
     pub fn remove_row(&mut self, name: Name) {
         if let Name::Native(number) = name {
-            let row = self.session.data_of(number.0) as usize;
+            let row = self.host.data_of(name) as usize;
             self.titles.try_remove(row);
             self.leave(number);
         }

@@ -1,13 +1,10 @@
-//! `ccdom` builds a page over a session, removes a menu that holds itself through both heaps, and writes what comes of it.
+//! `ccdom` builds a page over a host, removes a menu that holds itself through both heaps, and writes what comes of it.
 #![tactic(auto)]
 
 mod document;
 
 use anyhow::Result;
-use cc_host::{Object, Stop};
-use cc_model::{Event, Item, Reason};
-use cc_names::Name;
-use cc_session::Root;
+use cc_host::{Event, Item, Marks, Name, Object, Reason, Root};
 use document::{DATA, Document, PROXY};
 
 /// Writes an object. A native has a title of the program's.
@@ -24,7 +21,7 @@ fn show(rt: &impl Print, document: &Document, word: &str, name: Name) -> Result<
 fn report(rt: &impl Print, document: &mut Document, what: &str) -> Result<()> {
     println!(rt; "{what}")?;
     for _ in 0..u64::MAX {
-        match document.session.next_told() {
+        match document.host.next_told() {
             Some(Item::Event(Event::Unlinked(name))) => show(rt, document, "  unlinked ", name)?,
             Some(Item::Event(Event::Freed(name))) => {
                 show(rt, document, "  freed ", name)?;
@@ -34,17 +31,17 @@ fn report(rt: &impl Print, document: &mut Document, what: &str) -> Result<()> {
             None => break,
         }
     }
-    let (natives, scripts) = (document.session.natives(), document.session.scripts());
+    let (natives, scripts) = (document.host.natives(), document.host.scripts());
     println!(rt; "  natives: {natives}, script objects: {scripts}")?;
     Ok(())
 }
 
 /// Writes the steps by which the roots lead to the menu.
 fn explain(rt: &impl Print, document: &mut Document, menu: Object) -> Result<()> {
-    let led = document.session.why(menu)?;
+    let led = document.host.why(menu)?;
     println!(rt; "does anything lead to the menu? {led}")?;
     for _ in 0..u64::MAX {
-        let Some(Item::Step(name, reason)) = document.session.next_step() else {
+        let Some(Item::Step(name, reason)) = document.host.next_step() else {
             break;
         };
         show(rt, document, "  ", name)?;
@@ -70,9 +67,9 @@ fn look_up(rt: &impl Print, document: &mut Document, title: &str) -> Result<()> 
 /// A page with a text and a menu of two entries. The menu listens for its second entry, which has private data on the menu, and
 /// of which another world has a proxy. The page's root, the page and the menu.
 fn build(document: &mut Document) -> Result<(Root, Object, Object)> {
-    document.session.new_map(DATA)?;
+    document.host.new_map(DATA)?;
     let page = document.make("page")?;
-    let root = document.session.root(page)?;
+    let root = document.host.root(page)?;
     let menu = document.append(page, "menu")?;
     document.append(menu, "first entry")?;
     let second = document.append(menu, "second entry")?;
@@ -89,7 +86,7 @@ fn build(document: &mut Document) -> Result<(Root, Object, Object)> {
 fn go_on(rt: &impl Print, document: &mut Document, page: Object) -> Result<()> {
     for _ in 0..6 {
         document.append(page, "note")?;
-        document.frame(6).map_err(|_| Stop::NoMemory)?;
+        document.frame(6)?;
         report(rt, document, "a note is added, and a frame done")?;
     }
     Ok(())
@@ -100,7 +97,7 @@ fn remove_menu(rt: &impl Print, document: &mut Document, page: Object, menu: Obj
     document.remove(page, menu)?;
     report(rt, document, "the menu is removed")?;
     explain(rt, document, menu)?;
-    document.session.set_script_root(PROXY, None)?;
+    document.host.set_script_root(PROXY, None)?;
     report(rt, document, "the other world let its proxy go")?;
     explain(rt, document, menu)?;
     go_on(rt, document, page)?;
@@ -113,13 +110,14 @@ fn run(rt: &impl Print, document: &mut Document) -> Result<()> {
     report(rt, document, "the page is built")?;
     remove_menu(rt, document, page, menu)?;
     document.let_go()?;
-    document.session.release(root)?;
+    document.host.release(root)?;
     report(rt, document, "the page is released")?;
-    document.session.settle().map_err(|_| Stop::NoMemory)?;
+    document.host.settle()?;
     report(rt, document, "the document is settled")
 }
 
 fn main(rt: HostRuntime) -> Result<()> {
-    let mut document = Document::new(rt.alloc())?;
+    let mut marks = Marks::new();
+    let mut document = Document::new(rt.alloc(), &mut marks)?;
     run(&rt, &mut document)
 }

@@ -1,5 +1,5 @@
 //! Registers behind the numbered roots, which hold what roots without number hold.
-ghost use Rattle.std.specs.Prelude.{◌≡◌, ◌≢◌, ◌<◌, ℕ, Some, None, IsSome, IsTrue, OnOk, OnErr};
+ghost use Rattle.std.specs.Prelude.{◌≡◌, ◌≢◌, ◌<◌, ℕ, [], ◌∷◌, Some, None, IsSome, IsTrue, OnOk, OnErr};
 ghost use Rattle.cc_names.specs.Sizes.{most_roots};
 ghost use Rattle.cc_names.specs.declared.register.Reg.TheVariants.{N as n_register, S as s_register};
 ghost use Rattle.cc_model.specs.Graph as graph;
@@ -9,10 +9,13 @@ ghost use Rattle.cc_heaps.specs.Keyed.{number_at};
 ghost use Rattle.cc_heaps.specs.Changes.{native_name, script_name};
 ghost use Rattle.cc_heaps.specs.Leaving.{NoneCame, NothingLeft, TellsWhatIsFreed};
 ghost use Rattle.cc_heaps.specs.Standing.{IsReached, IsReachedOrReflects, MayBeHeld, StandsAfter};
+ghost use Rattle.cc_laws_told.specs.Lasting.{KeepsEnded};
 ghost use Rattle.cc_host.specs.Hosted.{spare};
+ghost use Rattle.cc_host.specs.Lasting.{KeepsUsable};
 ghost use Rattle.cc_host.specs.Missing.{KeepsDoomedBut};
 ghost use Rattle.cc_host.specs.Changes.{IsReady, IsChange};
 ghost use Rattle.cc_host.specs.Marked.{KeepsMarking};
+ghost use Rattle.cc_host.specs.Spots.{Spot, WritesOnly};
 ghost use Rattle.cc_host.specs.Writing.{WritesNative, WritesScript};
 
 use cc_heaps::{Heaps, Rooted};
@@ -32,6 +35,7 @@ pub(crate) fn place_native<N: Notices>(
     requires live { IsSome (number_at heaps.old key.0) }
     ensures change { OnOk result (IsChange (IsReached heaps.old.heap (native_name heaps.old (Some key)))
         (λ g. graph.root_at g (n_register r) (native_name heaps.old (Some key))) heaps.old heaps.new) }
+    ensures only { WritesOnly (Spot.register (n_register r) ∷ []) heaps.old.heap heaps.new.heap }
     ensures stands { OnOk result (MayBeHeld heaps.old.heap (native_name heaps.old (Some key)) →
         StandsAfter heaps.old.heap heaps.new.heap (λ g. graph.root_at g (n_register r) (native_name heaps.old (Some key)))) }
     ensures doomed { OnOk result (KeepsDoomedBut (native_name heaps.old (Some key)) heaps.old.heap heaps.new.heap) }
@@ -42,6 +46,8 @@ pub(crate) fn place_native<N: Notices>(
     ensures tells { TellsWhatIsFreed heaps.old.heap heaps.new.heap (N.telling out.old) (N.telling out.new) }
     ensures silent { OnErr result (N.telling out.new ≡ N.telling out.old) }
     ensures none_came { NoneCame heaps.old.heap heaps.new.heap }
+    ensures ended { KeepsEnded heaps.old.heap heaps.new.heap }
+    ensures usable { KeepsUsable heaps.old.heap heaps.new.heap }
 {
     if heaps.native_reg_count() <= r {
         heaps.root_at(r, Rooted::Native(None), out)?;
@@ -64,6 +70,7 @@ pub(crate) fn place_script<N: Notices>(
     requires live { IsTrue (is_there heaps.old.scripts key.0) }
     ensures change { OnOk result (IsChange (IsReachedOrReflects heaps.old.heap (script_name heaps.old (Some key)))
         (λ g. graph.root_at g (s_register r) (script_name heaps.old (Some key))) heaps.old heaps.new) }
+    ensures only { WritesOnly (Spot.register (s_register r) ∷ []) heaps.old.heap heaps.new.heap }
     ensures marking { KeepsMarking heaps.old heaps.new }
     ensures held { OnOk result (register heaps.new.heap (s_register r) ≡ script_name heaps.old (Some key)) }
     ensures writes { WritesScript r heaps.old.heap heaps.new.heap }
@@ -71,6 +78,8 @@ pub(crate) fn place_script<N: Notices>(
     ensures tells { TellsWhatIsFreed heaps.old.heap heaps.new.heap (N.telling out.old) (N.telling out.new) }
     ensures silent { OnErr result (N.telling out.new ≡ N.telling out.old) }
     ensures none_came { NoneCame heaps.old.heap heaps.new.heap }
+    ensures ended { KeepsEnded heaps.old.heap heaps.new.heap }
+    ensures usable { KeepsUsable heaps.old.heap heaps.new.heap }
 {
     heaps.root_at(r, Rooted::Script(Some(key)), out)
 }
@@ -80,11 +89,14 @@ pub(crate) fn unplace_native<N: Notices>(heaps: &mut Heaps, r: RegNo, out: &mut 
     requires ready { IsReady heaps.old }
     requires behind { spare < r }
     ensures change { IsChange (Unit {0}) (λ g. graph.set_register g (n_register r) None) heaps.old heaps.new }
+    ensures only { WritesOnly (Spot.register (n_register r) ∷ []) heaps.old.heap heaps.new.heap }
     ensures marking { KeepsMarking heaps.old heaps.new }
     ensures empty { register heaps.new.heap (n_register r) ≡ None }
     ensures writes { WritesNative r heaps.old.heap heaps.new.heap }
     ensures tells { TellsWhatIsFreed heaps.old.heap heaps.new.heap (N.telling out.old) (N.telling out.new) }
     ensures none_came { NoneCame heaps.old.heap heaps.new.heap }
+    ensures ended { KeepsEnded heaps.old.heap heaps.new.heap }
+    ensures usable { KeepsUsable heaps.old.heap heaps.new.heap }
 {
     if r < heaps.native_reg_count() {
         heaps.set_native_reg(r, None, out);
@@ -96,11 +108,14 @@ pub(crate) fn unplace_script(heaps: &mut Heaps, r: RegNo)
     requires ready { IsReady heaps.old }
     requires behind { spare < r }
     ensures change { IsChange (Unit {0}) (λ g. graph.set_register g (s_register r) None) heaps.old heaps.new }
+    ensures only { WritesOnly (Spot.register (s_register r) ∷ []) heaps.old.heap heaps.new.heap }
     ensures marking { KeepsMarking heaps.old heaps.new }
     ensures empty { register heaps.new.heap (s_register r) ≡ None }
     ensures writes { WritesScript r heaps.old.heap heaps.new.heap }
     ensures none_left { NothingLeft heaps.old.heap heaps.new.heap }
     ensures none_came { NoneCame heaps.old.heap heaps.new.heap }
+    ensures ended { KeepsEnded heaps.old.heap heaps.new.heap }
+    ensures usable { KeepsUsable heaps.old.heap heaps.new.heap }
 {
     if r < heaps.script_reg_count() {
         heaps.set_script_reg(r, None);

@@ -1,10 +1,12 @@
 //! Steps at script objects and at entries. None of them frees anything.
-ghost use Rattle.std.specs.Prelude.{◌≡◌, ◌<◌, length, Option, Some, None, IsTrue, IfSome, OnOk, OnErr};
+ghost use Rattle.std.specs.Prelude.{◌≡◌, ◌<◌, [], ◌∷◌, length, Option, Some, None, IsTrue, IfSome, OnOk, OnErr};
 ghost use Rattle.cc_names.specs.declared.kind.Colour.TheVariants.{Black};
 ghost use Rattle.cc_names.specs.declared.kind.Kind.TheVariants.{Map};
 ghost use Rattle.cc_names.specs.declared.name.Name.{Name};
 ghost use Rattle.cc_names.specs.declared.register.Reg.TheVariants.{S as s_register};
+ghost use Rattle.cc_laws_told.specs.Lasting.{KeepsEnded};
 ghost use Rattle.cc_host.specs.Hosted.{roots};
+ghost use Rattle.cc_host.specs.Lasting.{KeepsUsable};
 ghost use Rattle.cc_model.specs.Checks.{value_at};
 ghost use Rattle.cc_model.specs.Graph as graph;
 ghost use Rattle.cc_model.specs.Heap.{objects_of};
@@ -15,6 +17,7 @@ ghost use Rattle.cc_heaps.specs.Standing.{IsReached, IsReachedOrReflects, MayHol
 ghost use Rattle.cc_host.specs.Exposing.{AreSame, Exposes};
 ghost use Rattle.cc_host.specs.Changes.{IsReady, IsChange, IsTried};
 ghost use Rattle.cc_host.specs.Places.{KeepsPlaces};
+ghost use Rattle.cc_host.specs.Spots.{IsWritten, Spot, WritesOnly, if_reflector, reads};
 ghost use Rattle.cc_host.specs.Marked.{IsPastIfAny, KeepsMarking};
 ghost use Rattle.cc_markslice.specs.Going.{IsMarkingWell};
 
@@ -27,6 +30,7 @@ pub(crate) fn expose_key(heaps: &mut Heaps, key: SKey)
     requires ready { IsReady heaps.old }
     requires live { IsTrue (is_there heaps.old.scripts key.0) }
     ensures exposes { Exposes (IsReachedOrReflects heaps.old.heap (script_name heaps.old (Some key))) heaps.old heaps.new }
+    ensures spots { (s : Spot) → reads heaps.new.heap s ≡ reads heaps.old.heap s }
     ensures marking { KeepsMarking heaps.old heaps.new }
     ensures places { KeepsPlaces heaps.old.heap heaps.new.heap }
     ensures past { IsMarkingWell heaps.old → IsPastIfAny heaps.new (script_name heaps.old (Some key)) }
@@ -41,6 +45,7 @@ fn expose_content(heaps: &mut Heaps, content: Option<SKey>)
     requires ready { IsReady heaps.old }
     requires there { IsScriptThere heaps.old content }
     ensures exposes { Exposes (IsReachedOrReflects heaps.old.heap (script_name heaps.old content)) heaps.old heaps.new }
+    ensures spots { (s : Spot) → reads heaps.new.heap s ≡ reads heaps.old.heap s }
     ensures marking { KeepsMarking heaps.old heaps.new }
     ensures places { KeepsPlaces heaps.old.heap heaps.new.heap }
     ensures past { IsMarkingWell heaps.old → IsPastIfAny heaps.new (script_name heaps.old content) }
@@ -59,10 +64,14 @@ pub(crate) fn root_script(heaps: &mut Heaps, r: RegNo, content: Option<SKey>)
     requires there { IsScriptThere heaps.old content }
     ensures change { IsChange (IsReachedOrReflects heaps.old.heap (script_name heaps.old content))
         (λ g. graph.set_register g (s_register r) (script_name heaps.old content)) heaps.old heaps.new }
+    ensures writes { WritesOnly (Spot.register (s_register r) ∷ []) heaps.old.heap heaps.new.heap }
+    ensures written { IsWritten (Spot.register (s_register r)) (script_name heaps.old content) heaps.new.heap }
     ensures marking { KeepsMarking heaps.old heaps.new }
     ensures places { KeepsPlaces heaps.old.heap heaps.new.heap }
     ensures none_left { NothingLeft heaps.old.heap heaps.new.heap }
     ensures none_came { NoneCame heaps.old.heap heaps.new.heap }
+    ensures ended { KeepsEnded heaps.old.heap heaps.new.heap }
+    ensures usable { KeepsUsable heaps.old.heap heaps.new.heap }
 {
     heaps.set_script_reg(r, content);
 }
@@ -77,10 +86,16 @@ pub(crate) fn store_script(heaps: &mut Heaps, key: SKey, i: SlotNo, content: Opt
         × IsReachedOrReflects heaps.old.heap (script_name heaps.old content))
         (λ g. graph.set_slot (graph.preserve g (script_name heaps.old (Some key))) (script_name heaps.old (Some key)) i
         (script_name heaps.old content)) heaps.old heaps.new }
+    ensures writes { (x : Name) → script_name heaps.old (Some key) ≡ Some x →
+        WritesOnly (Spot.slot x i ∷ Spot.preserved x ∷ []) heaps.old.heap heaps.new.heap }
+    ensures written { (x : Name) → script_name heaps.old (Some key) ≡ Some x → IsWritten (Spot.slot x i) (script_name heaps.old content) heaps.new.heap }
+    ensures preserves { (x : Name) → script_name heaps.old (Some key) ≡ Some x → IsWritten (Spot.preserved x) (if_reflector x) heaps.new.heap }
     ensures marking { KeepsMarking heaps.old heaps.new }
     ensures places { KeepsPlaces heaps.old.heap heaps.new.heap }
     ensures none_left { NothingLeft heaps.old.heap heaps.new.heap }
     ensures none_came { NoneCame heaps.old.heap heaps.new.heap }
+    ensures ended { KeepsEnded heaps.old.heap heaps.new.heap }
+    ensures usable { KeepsUsable heaps.old.heap heaps.new.heap }
 {
     expose_content(heaps, content);
     preserve_reflector(heaps, key);
@@ -93,6 +108,8 @@ pub(crate) fn preserve_reflector(heaps: &mut Heaps, key: SKey)
     requires live { IsTrue (is_there heaps.old.scripts key.0) }
     ensures change { IsChange (IsReachedOrReflects heaps.old.heap (script_name heaps.old (Some key)))
         (λ g. graph.preserve g (script_name heaps.old (Some key))) heaps.old heaps.new }
+    ensures writes { (x : Name) → script_name heaps.old (Some key) ≡ Some x → WritesOnly (Spot.preserved x ∷ []) heaps.old.heap heaps.new.heap }
+    ensures preserves { (x : Name) → script_name heaps.old (Some key) ≡ Some x → IsWritten (Spot.preserved x) (if_reflector x) heaps.new.heap }
     ensures marking { KeepsMarking heaps.old heaps.new }
     ensures places { KeepsPlaces heaps.old.heap heaps.new.heap }
     ensures keys { heaps.new.keys ≡ heaps.old.keys }
@@ -102,6 +119,8 @@ pub(crate) fn preserve_reflector(heaps: &mut Heaps, key: SKey)
     ensures may_hold { MayHold heaps.new.heap (script_name heaps.old (Some key)) }
     ensures none_left { NothingLeft heaps.old.heap heaps.new.heap }
     ensures none_came { NoneCame heaps.old.heap heaps.new.heap }
+    ensures ended { KeepsEnded heaps.old.heap heaps.new.heap }
+    ensures usable { KeepsUsable heaps.old.heap heaps.new.heap }
 {
     expose_key(heaps, key);
     preserve(heaps, key);
@@ -125,13 +144,21 @@ pub(crate) fn set_entry(
         × IsReachedOrReflects heaps.old.heap (script_name heaps.old (Some value)))
         (λ g. graph.set_entry g (script_name heaps.old (Some the_map)) (script_name heaps.old (Some key))
         (script_name heaps.old (Some value))) heaps.old heaps.new) }
+    ensures writes { OnOk result ((m k : Name) → script_name heaps.old (Some the_map) ≡ Some m → script_name heaps.old (Some key) ≡ Some k →
+        WritesOnly (Spot.entry m k ∷ Spot.preserved k ∷ []) heaps.old.heap heaps.new.heap) }
+    ensures written { OnOk result ((m k : Name) → script_name heaps.old (Some the_map) ≡ Some m → script_name heaps.old (Some key) ≡ Some k →
+        IsWritten (Spot.entry m k) (script_name heaps.old (Some value)) heaps.new.heap) }
+    ensures preserves { OnOk result ((k : Name) → script_name heaps.old (Some key) ≡ Some k → IsWritten (Spot.preserved k) (if_reflector k) heaps.new.heap) }
     ensures tried { OnErr result (IsTried (IsReachedOrReflects heaps.old.heap (script_name heaps.old (Some key))
         × IsReachedOrReflects heaps.old.heap (script_name heaps.old (Some value))) heaps.old heaps.new) }
+    ensures unwritten { OnErr result (WritesOnly [] heaps.old.heap heaps.new.heap) }
     ensures wanted { OnErr result (value_at (objects_of heaps.old.heap) (script_name heaps.old (Some the_map)) (script_name heaps.old (Some key)) ≡ None) }
     ensures marking { KeepsMarking heaps.old heaps.new }
     ensures places { KeepsPlaces heaps.old.heap heaps.new.heap }
     ensures none_left { NothingLeft heaps.old.heap heaps.new.heap }
     ensures none_came { NoneCame heaps.old.heap heaps.new.heap }
+    ensures ended { KeepsEnded heaps.old.heap heaps.new.heap }
+    ensures usable { KeepsUsable heaps.old.heap heaps.new.heap }
 {
     expose_key(heaps, key);
     expose_key(heaps, value);
@@ -146,10 +173,16 @@ pub(crate) fn unset_entry(heaps: &mut Heaps, the_map: SKey, key: SKey)
     ensures change { IsChange (IsReached heaps.old.heap (script_name heaps.old (Some the_map))
         × IsReachedOrReflects heaps.old.heap (script_name heaps.old (Some key)))
         (λ g. graph.set_entry g (script_name heaps.old (Some the_map)) (script_name heaps.old (Some key)) None) heaps.old heaps.new }
+    ensures writes { (m k : Name) → script_name heaps.old (Some the_map) ≡ Some m → script_name heaps.old (Some key) ≡ Some k →
+        WritesOnly (Spot.entry m k ∷ []) heaps.old.heap heaps.new.heap }
+    ensures written { (m k : Name) → script_name heaps.old (Some the_map) ≡ Some m → script_name heaps.old (Some key) ≡ Some k →
+        IsWritten (Spot.entry m k) None heaps.new.heap }
     ensures marking { KeepsMarking heaps.old heaps.new }
     ensures places { KeepsPlaces heaps.old.heap heaps.new.heap }
     ensures none_left { NothingLeft heaps.old.heap heaps.new.heap }
     ensures none_came { NoneCame heaps.old.heap heaps.new.heap }
+    ensures ended { KeepsEnded heaps.old.heap heaps.new.heap }
+    ensures usable { KeepsUsable heaps.old.heap heaps.new.heap }
 {
     heaps.unset_entry(the_map, key);
 }

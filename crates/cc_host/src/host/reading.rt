@@ -1,196 +1,158 @@
 //! What roots, slots and entries hold, and why an object is there.
-ghost use Rattle.std.specs.Prelude.{◌≡◌, ◌≢◌, ◌↔◌, ◌<◌, ◌≤◌, [], length, map, Some, None, true, false, is_some, IfOk, OnErr, OnOk, IsTrue, IsSome, slice_index_or, option_map};
+ghost use Rattle.std.specs.Prelude.{◌≡◌, ◌≢◌, ◌↔◌, ◌<◌, ◌≤◌, List, [], length, map, Some, None, Ok, true, false, is_some, IfOk, OnErr, OnOk, IsTrue, IsSome, slice_index_or};
 ghost use Rattle.cc_names.specs.declared.kind.Kind.TheVariants.{Proxy};
 ghost use Rattle.cc_names.specs.declared.register.Reg.TheVariants.{N as n_register, S as s_register};
-ghost use Rattle.cc_model.specs.Answers.{item_of_step};
+ghost use Rattle.cc_model.specs.Answers.{Step, item_of_step};
 ghost use Rattle.cc_model.specs.Checks.{native_of, value_at};
 ghost use Rattle.cc_model.specs.Derivations.{is_led_to, leads_in, path_to};
 ghost use Rattle.cc_model.specs.Heap.{delegate_at, objects_of, register};
-ghost use Rattle.cc_model.specs.Telling.{Tells};
 ghost use Rattle.cc_script.specs.Objects.{kind_at};
-ghost use Rattle.cc_host.specs.Hosted.{IsThereIfAny, named, roots, slots_of};
+ghost use Rattle.cc_host.specs.Hosted.{IsRooted, IsThereIfAny, named, roots, slots_of};
 ghost use Rattle.cc_host.specs.Reading.{preserved_in, reflector_in};
 ghost use Rattle.cc_host.specs.Stops.{IsStoppedBy, IsStoppedOrRefused, stop_at, stop_entry, stop_native, stop_reading, stop_reflector, stop_script};
+ghost use Rattle.cc_host.specs.Ways.{IsWay};
 
-use crate::host::{Host, ROOTS};
+use crate::host::Host;
 use crate::object::Object;
+use crate::queue::Queue;
 use crate::stop::Stop;
-use cc_model::Notices;
-use cc_names::{Kind, Name, RegNo, SlotNo};
-use cc_paths::why;
-use cc_wrappers::unwrap_of;
-use std::alloc::Global;
+use cc_names::{Kind, RegNo, SlotNo};
 
 impl Host {
-    /// What a native root holds, by its number, 0 to 1022; none where it holds nothing, and where there is no such root.
+    /// What a numbered native root holds; none where it holds nothing, and where there is no such root.
     pub fn native_root(&self, r: RegNo) -> Option<Object>
-        ensures name { r < roots → named result ≡ register self.now.heaps.heap (n_register r) }
+        ensures name { r < roots → named result ≡ register self.now.host.heaps.heap (n_register r) }
         ensures none { roots ≤ r → result ≡ None }
-        ensures there { IsThereIfAny self.now result }
+        ensures there { IsThereIfAny self.now.host result }
     {
-        if r >= ROOTS {
-            return None;
-        }
-        self.of_native(self.heaps.native_reg(r))
+        self.runtime.native_root(r)
     }
 
-    /// What a script root holds, by its number, 0 to 1022; none where it holds nothing, and where there is no such root.
+    /// What a numbered script root holds; none where it holds nothing, and where there is no such root.
     pub fn script_root(&self, r: RegNo) -> Option<Object>
-        ensures name { r < roots → named result ≡ register self.now.heaps.heap (s_register r) }
+        ensures name { r < roots → named result ≡ register self.now.host.heaps.heap (s_register r) }
         ensures none { roots ≤ r → result ≡ None }
-        ensures there { IsThereIfAny self.now result }
+        ensures there { IsThereIfAny self.now.host result }
     {
-        if r >= ROOTS {
-            return None;
-        }
-        self.of_script(self.heaps.script_reg(r))
+        self.runtime.script_root(r)
     }
 
     /// What kind of script object an object is.
     pub fn kind(&self, x: Object) -> Result<Kind, Stop>
-        ensures stops { IsStoppedBy (stop_script self.now x) result }
-        ensures kind { IfOk result (λ kind. kind_at self.now.heaps.scripts x.key ≡ Some kind) }
+        ensures stops { IsStoppedBy (stop_script self.now.host x) result }
+        ensures kind { IfOk result (λ kind. kind_at self.now.host.heaps.scripts x.key ≡ Some kind) }
     {
-        let key = self.script(x)?;
-        Ok(self.heaps.scripts().kind(key))
-    }
-
-    // How many slots an object has, that is there.
-    fn count_slots(&self, x: Object) -> SlotNo
-        requires { stop_at self.now x ≡ None }
-        ensures { result ≡ length (slots_of self.now x) }
-    {
-        match x.name {
-            Name::Native(_) => match self.native(x) {
-                Ok(key) => self.heaps.counted().slots(key),
-                Err(_) => unreachable!(),
-            },
-            Name::Script(_) | Name::Reflector(_) => match self.script(x) {
-                Ok(key) => self.heaps.scripts().slots(key),
-                Err(_) => unreachable!(),
-            },
-        }
+        self.runtime.kind(x)
     }
 
     /// How many slots an object has: 0 to 256. A weak map and a proxy have none.
     pub fn slots(&self, x: Object) -> Result<SlotNo, Stop>
-        ensures stops { IsStoppedBy (stop_at self.now x) result }
-        ensures count { IfOk result (λ count. count ≡ length (slots_of self.now x)) }
+        ensures stops { IsStoppedBy (stop_at self.now.host x) result }
+        ensures count { IfOk result (λ count. count ≡ length (slots_of self.now.host x)) }
     {
-        self.look(x)?;
-        Ok(self.count_slots(x))
+        self.runtime.slots(x)
     }
 
     /// What slot `i` of an object holds, counted from 0.
     pub fn slot(&self, x: Object, i: SlotNo) -> Result<Option<Object>, Stop>
-        ensures stops { IsStoppedBy (stop_reading self.now x i) result }
-        ensures name { IfOk result (λ held. named held ≡ slice_index_or (slots_of self.now x) i None) }
-        ensures there { IfOk result (λ held. IsThereIfAny self.now held) }
+        ensures stops { IsStoppedBy (stop_reading self.now.host x i) result }
+        ensures name { IfOk result (λ held. named held ≡ slice_index_or (slots_of self.now.host x) i None) }
+        ensures there { IfOk result (λ held. IsThereIfAny self.now.host held) }
     {
-        self.look(x)?;
-        if i >= self.count_slots(x) {
-            return Err(Stop::Index);
-        }
-        match x.name {
-            Name::Native(_) => {
-                let key = self.native(x)?;
-                Ok(self.of_held(self.heaps.counted().slot(key, i)))
-            }
-            Name::Script(_) | Name::Reflector(_) => {
-                let key = self.script(x)?;
-                Ok(self.of_script(self.heaps.scripts().slot(key, i)))
-            }
-        }
+        self.runtime.slot(x, i)
     }
 
     /// The native that a reflector stands for; none of any other script object.
     pub fn unwrap(&self, x: Object) -> Result<Option<Object>, Stop>
-        ensures stops { IsStoppedBy (stop_script self.now x) result }
+        ensures stops { IsStoppedBy (stop_script self.now.host x) result }
         ensures name { IfOk result (λ native. named native ≡ native_of (Some x.name)) }
-        ensures there { IfOk result (λ native. IsThereIfAny self.now native) }
+        ensures there { IfOk result (λ native. IsThereIfAny self.now.host native) }
     {
-        let key = self.script(x)?;
-        Ok(self.of_native(unwrap_of(&self.heaps, key)))
+        self.runtime.unwrap(x)
     }
 
     /// The reflector of a native, where there is one; none else. Nothing is made, and nothing exposed: it may be freed as long as
     /// nothing holds it. To keep it, take it by `wrap`.
     pub fn reflector_of(&self, x: Object) -> Result<Option<Object>, Stop>
-        ensures stops { IsStoppedBy (stop_native self.now x) result }
-        ensures name { IfOk result (λ reflector. named reflector ≡ reflector_in self.now.heaps.heap x.name) }
-        ensures there { IfOk result (λ reflector. IsThereIfAny self.now reflector) }
+        ensures stops { IsStoppedBy (stop_native self.now.host x) result }
+        ensures name { IfOk result (λ reflector. named reflector ≡ reflector_in self.now.host.heaps.heap x.name) }
+        ensures there { IfOk result (λ reflector. IsThereIfAny self.now.host reflector) }
     {
-        let key = self.native(x)?;
-        Ok(self.of_script(self.heaps.counted().reflector(key)))
+        self.runtime.reflector_of(x)
     }
 
     /// Whether a reflector is preserved: whether its native holds it.
     pub fn is_preserved(&self, x: Object) -> Result<bool, Stop>
-        ensures stops { IsStoppedBy (stop_reflector self.now x) result }
-        ensures preserved { IfOk result (λ preserved. preserved_in self.now.heaps.heap x.name ≡ Some preserved) }
+        ensures stops { IsStoppedBy (stop_reflector self.now.host x) result }
+        ensures preserved { IfOk result (λ preserved. preserved_in self.now.host.heaps.heap x.name ≡ Some preserved) }
     {
-        let key = self.reflector(x)?;
-        match unwrap_of(&self.heaps, key) {
-            Some(native) => Ok(self.heaps.counted().preserved(native)),
-            None => unreachable!(),
-        }
+        self.runtime.is_preserved(x)
     }
 
     /// The delegate of a proxy; none of any other script object.
     pub fn delegate(&self, x: Object) -> Result<Option<Object>, Stop>
-        ensures stops { IsStoppedBy (stop_script self.now x) result }
-        ensures name { IfOk result (λ delegate. named delegate ≡ delegate_at self.now.heaps.heap x.name) }
-        ensures exactly { IfOk result (λ delegate. IsSome delegate ↔ (kind_at self.now.heaps.scripts x.key ≡ Some Proxy)) }
-        ensures there { IfOk result (λ delegate. IsThereIfAny self.now delegate) }
+        ensures stops { IsStoppedBy (stop_script self.now.host x) result }
+        ensures name { IfOk result (λ delegate. named delegate ≡ delegate_at self.now.host.heaps.heap x.name) }
+        ensures exactly { IfOk result (λ delegate. IsSome delegate ↔ (kind_at self.now.host.heaps.scripts x.key ≡ Some Proxy)) }
+        ensures there { IfOk result (λ delegate. IsThereIfAny self.now.host delegate) }
     {
-        let key = self.script(x)?;
-        Ok(self.of_script(self.heaps.scripts().delegate(key)))
+        self.runtime.delegate(x)
     }
 
     /// The value that a key has in a weak map; none where it has none.
     pub fn entry(&self, the_map: Object, key: Object) -> Result<Option<Object>, Stop>
-        ensures stops { IsStoppedBy (stop_entry self.now the_map key) result }
-        ensures value { IfOk result (λ value. named value ≡ value_at (objects_of self.now.heaps.heap) (Some the_map.name) (Some key.name)) }
-        ensures there { IfOk result (λ value. IsThereIfAny self.now value) }
+        ensures stops { IsStoppedBy (stop_entry self.now.host the_map key) result }
+        ensures value { IfOk result (λ value. named value ≡ value_at (objects_of self.now.host.heaps.heap) (Some the_map.name) (Some key.name)) }
+        ensures there { IfOk result (λ value. IsThereIfAny self.now.host value) }
     {
-        let the_map = self.map(the_map)?;
-        let key = self.script(key)?;
-        Ok(self.of_script(self.heaps.weak().get(the_map, key)))
+        self.runtime.entry(the_map, key)
     }
 
-    /// How many natives there are. It takes the same time however many.
+    /// How many natives there are, those too that were unlinked and are not freed yet. It takes the same time however many.
     pub fn natives(&self) -> usize
-        ensures { result ≡ length self.now.heaps.heap.natives }
+        ensures { result ≡ length self.now.host.heaps.heap.natives }
     {
-        self.heaps.counted().len()
+        self.runtime.natives()
     }
 
     /// How many script objects there are. It takes the same time however many.
     pub fn scripts(&self) -> usize
-        ensures { result ≡ length self.now.heaps.heap.scripts }
+        ensures { result ≡ length self.now.host.heaps.heap.scripts }
     {
-        self.heaps.scripts().len()
+        self.runtime.scripts()
     }
 
     /// Whether any native is a suspect, or was touched: whether a collection has natives to look at.
     pub fn has_suspects(&self) -> bool
-        ensures some { IsTrue result → self.now.heaps.heap.buffer ≢ [] }
-        ensures none { result ≡ false → self.now.heaps.heap.buffer ≡ [] }
+        ensures some { IsTrue result → self.now.host.heaps.heap.buffer ≢ [] }
+        ensures none { result ≡ false → self.now.host.heaps.heap.buffer ≡ [] }
     {
-        self.heaps.counted().first_in_buffer().is_some()
+        self.runtime.has_suspects()
     }
 
-    /// Why an object is there: tells the steps by which the roots lead to it, each once and itself last. `false`, and nothing
-    /// told, exactly where nothing leads to it: then a collection is still to take it.
+    /// Why an object is there: `true` exactly where a root reaches it. Then the steps by which roots lead to it are fetched by
+    /// `next_step` from then on: each is an object that a root holds, or one that objects of steps before it lead to; each object
+    /// has one step, and the last is its own (`IsWay`). Where nothing leads to it there is no step.
     ///
-    /// It changes nothing, and may be called between any two slices. `NoMemory` comes before the first step is told.
-    pub fn why<N: Notices>(&self, alloc: Global, x: Object, out: &mut N) -> Result<bool, Stop>
-        ensures stops { IsStoppedOrRefused (stop_at self.now x) result }
-        ensures led { IfOk result (λ b. b ≡ is_led_to (leads_in self.now.heaps.heap) x.name) }
-        ensures told { OnOk result (Tells (N.telling out.old) (N.telling out.new) (map item_of_step (path_to (leads_in self.now.heaps.heap) x.name))) }
-        ensures err { OnErr result (N.telling out.new ≡ N.telling out.old) }
+    /// Nothing else changes. Steps of an earlier answer that were not fetched are gone, also where this call is refused; then
+    /// there are none. `NoMemory` also where there is none for a step.
+    pub fn why(&mut self, x: Object) -> Result<bool, Stop>
+        ensures stops { IsStoppedOrRefused (stop_at self.old.host x) result }
+        ensures reached { IfOk result (λ b. IsTrue b ↔ IsRooted self.old.host x) }
+        ensures way { result ≡ Ok true → (steps : List Step) × (self.new.steps ≡ map item_of_step steps) × IsWay self.old.host.heaps.heap x.name steps }
+        ensures no_steps { result ≡ Ok false → self.new.steps ≡ [] }
+        // which way it is, where there are several
+        ensures led { IfOk result (λ b. b ≡ is_led_to (leads_in self.old.host.heaps.heap) x.name) }
+        ensures steps { OnOk result (self.new.steps ≡ map item_of_step (path_to (leads_in self.old.host.heaps.heap) x.name)) }
+        ensures none { OnErr result (self.new.steps ≡ []) }
+        ensures rest { self.new ≡ record self.old { steps = self.new.steps } }
     {
-        self.look(x)?;
-        Ok(why(alloc, &self.heaps, &x.name, out)?)
+        self.steps = Queue::new(self.alloc);
+        let led = self.runtime.why(self.alloc, x, &mut self.steps)?;
+        if self.steps.is_broken() {
+            self.steps = Queue::new(self.alloc);
+            return Err(Stop::NoMemory);
+        }
+        Ok(led)
     }
 }

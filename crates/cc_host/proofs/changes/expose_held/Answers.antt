@@ -1,4 +1,4 @@
-use Rattle.std.proofs.Common.{rules, ◌≡◌, Some, None, sym, ◌∙◌, ap, subst, refl}
+use Rattle.std.proofs.Common.{rules, ◌≡◌, Some, None, sym, ◌∙◌, ap, subst, refl, []}
 use Rattle.cc_counted.specs.declared.held.Held.TheVariants.{Native, Script}
 use Rattle.cc_model.specs.Heap.{Heap}
 use Rattle.cc_heaps.specs.Changes.{IsBlackHeld, held_name}
@@ -9,7 +9,10 @@ use Rattle.cc_host.proofs.Exposing.{exposed-slots, exposed-stays, same-change}
 use Rattle.cc_host.proofs.Marked.{marking-same}
 use Rattle.cc_host.specs.Marked.{IsPastIfAny}
 use Rattle.cc_host.proofs.MarkedCalls.{native-past}
+use Rattle.cc_host.proofs.LastingSteps.{exposes-stays, stays-ended}
+use Rattle.cc_host.proofs.Usable.{stays-usable}
 use Rattle.cc_host.proofs.changes.expose_held.Goals as goal
+use Rattle.cc_host.proofs.SpotsThen.{writes-after, writes-same}
 
 pub returns-in-Some-Script-clause-change : goal.returns-in-Some-Script-clause-change
 returns-in-Some-Script-clause-change c =
@@ -70,3 +73,24 @@ returns-in-Some-Native-clause-past c =
     let v = c.args.heaps.now in
     let is : c.args.content ≡ Some (Native c.in-Some-Native._key) = search rules in
     λ well. subst (λ x. IsPastIfAny v (held_name v x)) (sym is) (native-past v (Some c.in-Some-Native._key) c.requires.ready.order.sound.well_formed well)
+
+pub returns-in-None-clause-writes : goal.returns-in-None-clause-writes
+returns-in-None-clause-writes c = writes-same c.args.heaps.now.heap
+
+pub returns-in-Some-Native-clause-writes : goal.returns-in-Some-Native-clause-writes
+returns-in-Some-Native-clause-writes c = writes-same c.args.heaps.now.heap
+
+pub returns-in-Some-Script-clause-writes : goal.returns-in-Some-Script-clause-writes
+returns-in-Some-Script-clause-writes c = writes-after [] c.args.heaps.now.heap c.expose_key.new.heaps.heap c.expose_key.new.heaps.heap c.expose_key.ensures.spots (writes-same c.expose_key.new.heaps.heap)
+
+pub returns-in-Some-Script-clause-ended : goal.returns-in-Some-Script-clause-ended
+returns-in-Some-Script-clause-ended c =
+    let v = c.args.heaps.now in
+    let w = c.expose_key.new.heaps in
+    stays-ended v w c.requires.ready.order (exposes-stays v w c.expose_key.ensures.exposes)
+
+pub returns-in-Some-Script-clause-usable : goal.returns-in-Some-Script-clause-usable
+returns-in-Some-Script-clause-usable c =
+    let v = c.args.heaps.now in
+    let w = c.expose_key.new.heaps in
+    stays-usable v w c.requires.ready.order (exposes-stays v w c.expose_key.ensures.exposes)

@@ -1,4 +1,4 @@
-use Rattle.std.proofs.Common.{Some, subst, arith}
+use Rattle.std.proofs.Common.{[], Some, subst, arith}
 use Rattle.cc_model.specs.Heap.{Outcome}
 use Rattle.cc_model.specs.Telling.{TellsEvents}
 use Rattle.cc_heaps.proofs.FewCounts.{none-owned}
@@ -8,6 +8,7 @@ use Rattle.cc_host.proofs.Spare.{held-from, held-silently}
 use Rattle.cc_host.proofs.MarkedCalls.{held-marking}
 use Rattle.cc_host.specs.Hosted.{spare}
 use Rattle.cc_host.proofs.PlacesKept.{held-places}
+use Rattle.cc_host.proofs.SpotsKeyed.{held-only}
 use Rattle.cc_host.proofs.changes.hold.Goals as goal
 
 pub set_native_reg-requires-clause-within : goal.set_native_reg-requires-clause-within
@@ -35,3 +36,9 @@ pub returns-clause-places : goal.returns-clause-places
 returns-clause-places g c =
     let v = c.args.heaps.now in
     held-places v c.set_native_reg.new.self spare (native_name v (Some c.args.key)) (omega (arith)) c.set_native_reg.ensures.heap
+
+pub returns-clause-writes : goal.returns-clause-writes
+returns-clause-writes g c =
+    let v = c.args.heaps.now in
+    let e = c.set_native_reg.ensures in
+    held-only v c.set_native_reg.new.self spare (native_name v (Some c.args.key)) e.heap (e.kept.order [] c.requires.ready.order).sound.well_formed

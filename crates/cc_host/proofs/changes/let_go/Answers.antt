@@ -1,9 +1,10 @@
-use Rattle.std.proofs.Common.{arith, None}
+use Rattle.std.proofs.Common.{[], arith, None}
 use Rattle.cc_heaps.proofs.FewCounts.{none-owned}
 use Rattle.cc_host.proofs.Around.{let_go-from}
 use Rattle.cc_host.proofs.MarkedCalls.{held-marking}
 use Rattle.cc_host.specs.Hosted.{spare}
 use Rattle.cc_host.proofs.PlacesKept.{held-places}
+use Rattle.cc_host.proofs.SpotsKeyed.{held-only}
 use Rattle.cc_host.proofs.changes.let_go.Goals as goal
 
 pub set_native_reg-requires-clause-within : goal.set_native_reg-requires-clause-within
@@ -26,3 +27,9 @@ pub returns-clause-places : goal.returns-clause-places
 returns-clause-places g c =
     let v = c.args.heaps.now in
     held-places v c.set_native_reg.new.self spare None (omega (arith)) c.set_native_reg.ensures.heap
+
+pub returns-clause-writes : goal.returns-clause-writes
+returns-clause-writes g c =
+    let v = c.args.heaps.now in
+    let e = c.set_native_reg.ensures in
+    held-only v c.set_native_reg.new.self spare None e.heap (e.kept.order [] c.requires.order).sound.well_formed

@@ -1,4 +1,4 @@
-use Rattle.std.proofs.Common.{sym, ap, subst, arith}
+use Rattle.std.proofs.Common.{sym, ap, subst, arith, []}
 use Rattle.cc_heaps.specs.Keyed.{Keyed}
 use Rattle.cc_heaps.proofs.FewCounts.{none-owned}
 use Rattle.cc_host.specs.Missing.{KeepsDoomed, KeepsDoomedBut}
@@ -11,7 +11,10 @@ use Rattle.cc_host.proofs.Coming.{hold_native-none_came}
 use Rattle.cc_host.proofs.Referring.{reached-held}
 use Rattle.cc_host.proofs.MarkedCalls.{held-marking}
 use Rattle.cc_host.proofs.PlacesKept.{held-places}
+use Rattle.cc_host.proofs.LastingSteps.{held-stays, stays-ended}
+use Rattle.cc_host.proofs.Usable.{stays-usable}
 use Rattle.cc_host.proofs.changes.root_native.Goals as goal
+use Rattle.cc_host.proofs.SpotsKeyed.{held-only}
 
 pub set_native_reg-requires-clause-within : goal.set_native_reg-requires-clause-within
 set_native_reg-requires-clause-within g c = omega (arith, c.requires.within, c.requires.ready.order.sound.well_formed.registers.0.enough)
@@ -55,3 +58,24 @@ pub returns-clause-places : goal.returns-clause-places
 returns-clause-places g c =
     let v = c.args.heaps.now in
     held-places v c.set_native_reg.new.self c.args.r (native_name v c.args.content) (omega (arith, c.requires.within)) c.set_native_reg.ensures.heap
+
+pub returns-clause-writes : goal.returns-clause-writes
+returns-clause-writes g c =
+    let v = c.args.heaps.now in
+    let e = c.set_native_reg.ensures in
+    held-only v c.set_native_reg.new.self c.args.r (native_name v c.args.content) e.heap (e.kept.order [] c.requires.ready.order).sound.well_formed
+
+pub returns-clause-written : goal.returns-clause-written
+returns-clause-written g c = record { holds = λ has. returns-clause-held g c }
+
+pub returns-clause-ended : goal.returns-clause-ended
+returns-clause-ended g c =
+    let v = c.args.heaps.now in
+    let w = c.set_native_reg.new.self in
+    stays-ended v w c.requires.ready.order (held-stays v w c.args.r (native_name v c.args.content) c.set_native_reg.ensures.heap)
+
+pub returns-clause-usable : goal.returns-clause-usable
+returns-clause-usable g c =
+    let v = c.args.heaps.now in
+    let w = c.set_native_reg.new.self in
+    stays-usable v w c.requires.ready.order (held-stays v w c.args.r (native_name v c.args.content) c.set_native_reg.ensures.heap)

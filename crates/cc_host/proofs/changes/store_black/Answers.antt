@@ -1,4 +1,4 @@
-use Rattle.std.proofs.Common.{[], Some, sym, subst}
+use Rattle.std.proofs.Common.{[], Some, sym, subst, ◌∷◌, ◌≡◌, ◌<◌, ◌∙◌, ⊎_elim}
 use Rattle.cc_model.specs.Graph as graph
 use Rattle.cc_heaps.specs.Keyed.{the_number}
 use Rattle.cc_heaps.specs.Changes.{held_name, native_name}
@@ -9,13 +9,22 @@ use Rattle.cc_heaps.proofs.FewCounts.{none-owned}
 use Rattle.cc_host.proofs.Around.{around-none_came, around-change, around-tells}
 use Rattle.cc_host.proofs.Exposing.{stays-same}
 use Rattle.cc_host.proofs.Spare.{slot-leaves}
-use Rattle.cc_host.proofs.Storing.{stored-kept, stored-leaves, stored-none_came, stored-stands, within-same}
+use Rattle.cc_host.proofs.Storing.{stored-kept, stored-leaves, stored-none_came, stored-stands, within-same, native_name-is, slots-counted}
+use Rattle.cc_host.proofs.LastingSteps.{around-ended, stored-stays}
 use Rattle.cc_host.proofs.changes.store_black.Given as given
 use Rattle.cc_host.proofs.MarkedCalls.{stored-marking}
 use Rattle.cc_host.proofs.Marked.{marking-after, marking-then}
 use Rattle.cc_host.specs.Marked.{IsPastIfAny}
 use Rattle.cc_host.proofs.PlacesKept.{places-round, stored-places}
+use Rattle.cc_host.proofs.Usable.{around-usable}
 use Rattle.cc_host.proofs.changes.store_black.Goals as goal
+use Rattle.cc_names.specs.declared.name.Name.{Name}
+use Rattle.cc_names.specs.declared.register.Reg.TheVariants.{N}
+use Rattle.cc_names.specs.Names.{native}
+use Rattle.cc_host.specs.Hosted.{spare}
+use Rattle.cc_host.specs.Spots.{IsWritten, Spot, WritesOnly}
+use Rattle.cc_host.proofs.SpotsKeyed.{stored-only, stored-written, writes-round}
+use Rattle.cc_host.proofs.SpotsThen.{written-then}
 
 pub store_native-requires-clause-order : goal.store_native-requires-clause-order
 store_native-requires-clause-order g c = none-owned c.hold.new.heaps (c.hold.ensures.held.kept.order [] c.requires.ready.order)
@@ -86,3 +95,51 @@ returns-clause-places g c =
     places-round c.args.heaps.now.heap w.heap u.heap c.let_go.new.heaps.heap c.hold.ensures.places
     (stored-places w u (the_number w c.args.key.0) c.args.i (held_name w c.args.content) c.store_native.ensures.heap)
     c.let_go.ensures.places
+
+-- the name of the native that is written
+named : (g : given.Over) (c : goal.After-let_go g) (x : Name) → native_name c.args.heaps.now (Some c.args.key) ≡ Some x → native (the_number c.hold.new.heaps c.args.key.0) ≡ x
+named g c x e =
+    let both = sym (native_name-is c.args.heaps.now c.hold.new.heaps c.hold.ensures.held.keys c.args.key c.requires.live) ∙ e in
+    cc
+
+pub returns-clause-writes : goal.returns-clause-writes
+returns-clause-writes g c x e =
+    let w = c.hold.new.heaps in
+    let u = c.store_native.new.self in
+    let k = the_number w c.args.key.0 in
+    let early = c.hold.ensures.held.kept.order [] c.requires.ready.order in
+    let one : WritesOnly (Spot.slot (native k) c.args.i ∷ []) w.heap u.heap =
+    stored-only w u k c.args.i (held_name w c.args.content) c.store_native.ensures.heap ((kept g c).order [] early).sound.well_formed in
+    writes-round spare (Spot.slot x c.args.i ∷ []) c.args.heaps.now.heap w.heap u.heap c.let_go.new.heaps.heap (came g c) c.let_go.ensures.empty.none_came
+    c.requires.ready.spared c.let_go.ensures.empty.change.spared c.hold.ensures.writes
+    (subst (λ y. WritesOnly (Spot.slot y c.args.i ∷ []) w.heap u.heap) (named g c x e) one) c.let_go.ensures.writes
+
+pub returns-clause-written : goal.returns-clause-written
+returns-clause-written g c x e =
+    let v = c.args.heaps.now in
+    let w = c.hold.new.heaps in
+    let u = c.store_native.new.self in
+    let h = c.hold.ensures.held in
+    let k = the_number w c.args.key.0 in
+    let early = h.kept.order [] c.requires.ready.order in
+    let within = subst (λ n. c.args.i < n) (slots-counted w c.args.key.0) (within-same v w h.keys h.slots c.args.key.0 c.args.i c.requires.within) in
+    let one = stored-written w u k c.args.i (held_name w c.args.content) c.store_native.ensures.heap ((kept g c).order [] early).sound.well_formed within in
+    written-then (Spot.register (N spare) ∷ []) u.heap c.let_go.new.heaps.heap c.let_go.ensures.empty.none_came (Spot.slot x c.args.i) (held_name v c.args.content)
+    (λ i. ⊎_elim (λ d. absurd (cc)) (λ n. n) i)
+    (subst (λ y. IsWritten (Spot.slot x c.args.i) y u.heap) ((stays-same v w h.keys h.scripts).same c.args.content c.requires.there)
+    (subst (λ y. IsWritten (Spot.slot y c.args.i) (held_name w c.args.content) u.heap) (named g c x e) one))
+    c.let_go.ensures.writes
+
+pub returns-clause-ended : goal.returns-clause-ended
+returns-clause-ended g c =
+    let v = c.hold.new.heaps in
+    let w = c.store_native.new.self in
+    around-ended c.args.heaps.now v w c.let_go.new.heaps c.requires.ready.order c.hold.ensures.held
+    (stored-stays v w (the_number v c.args.key.0) c.args.i (held_name v c.args.content) c.store_native.ensures.heap) c.let_go.ensures.empty
+
+pub returns-clause-usable : goal.returns-clause-usable
+returns-clause-usable g c =
+    let v = c.hold.new.heaps in
+    let w = c.store_native.new.self in
+    around-usable c.args.heaps.now v w c.let_go.new.heaps c.requires.ready.order c.hold.ensures.held
+    (stored-stays v w (the_number v c.args.key.0) c.args.i (held_name v c.args.content) c.store_native.ensures.heap) c.let_go.ensures.empty

@@ -1,4 +1,4 @@
-use Rattle.std.proofs.Common.{[], Some, sym, subst}
+use Rattle.std.proofs.Common.{[], Some, sym, subst, ◌∷◌, ◌∙◌}
 use Rattle.cc_lists.specs.Members.{Among}
 use Rattle.cc_names.specs.Names.{native}
 use Rattle.cc_model.specs.Graph as graph
@@ -12,7 +12,11 @@ use Rattle.cc_host.proofs.Storing.{live-same, native_name-same, within-same}
 use Rattle.cc_host.proofs.Marked.{marking-after}
 use Rattle.cc_host.proofs.Reflects.{native-or, reflects-kept}
 use Rattle.cc_host.specs.Marked.{IsPastIfAny}
+use Rattle.cc_laws_told.proofs.Face.{ended-then}
+use Rattle.cc_host.proofs.Usable.{usable-then}
 use Rattle.cc_host.proofs.changes.store_native.Goals as goal
+use Rattle.cc_host.specs.Spots.{IsWritten, Spot}
+use Rattle.cc_host.proofs.SpotsThen.{writes-more, writes-then}
 
 pub store_black-requires : goal.store_black-requires
 store_black-requires g c =
@@ -59,3 +63,30 @@ returns-clause-marking g c =
     let e = c.expose_held.ensures in
     marking-after c.args.heaps.now w c.store_black.new.heaps e.marking
     (λ k. c.store_black.ensures.marking (λ its. subst (IsPastIfAny w) (sym (e.stays.same c.args.content c.requires.there)) (e.past k)))
+
+pub returns-clause-writes : goal.returns-clause-writes
+returns-clause-writes g c x e =
+    let v = c.args.heaps.now in
+    let w = c.expose_held.new.heaps in
+    let only = Spot.slot x c.args.i ∷ [] in
+    writes-then only v.heap w.heap c.store_black.new.heaps.heap c.store_black.ensures.none_came
+    (writes-more [] only v.heap w.heap (λ s i. absurd i) c.expose_held.ensures.writes)
+    (c.store_black.ensures.writes x (native_name-same v w c.expose_held.ensures.keys c.args.key ∙ e))
+
+pub returns-clause-written : goal.returns-clause-written
+returns-clause-written g c x e =
+    let v = c.args.heaps.now in
+    let w = c.expose_held.new.heaps in
+    subst (λ y. IsWritten (Spot.slot x c.args.i) y c.store_black.new.heaps.heap) (c.expose_held.ensures.stays.same c.args.content c.requires.there)
+    (c.store_black.ensures.written x (native_name-same v w c.expose_held.ensures.keys c.args.key ∙ e))
+
+pub returns-clause-ended : goal.returns-clause-ended
+returns-clause-ended g c = ended-then c.args.heaps.now.heap c.expose_held.new.heaps.heap c.store_black.new.heaps.heap c.expose_held.ensures.ended c.store_black.ensures.ended
+
+pub returns-clause-usable : goal.returns-clause-usable
+returns-clause-usable g c =
+    let mid = c.expose_held.new.heaps.heap in
+    let e = c.expose_held.ensures in
+    let f = c.store_black.ensures in
+    let order = e.change.kept.order [] c.requires.ready.order in
+    usable-then c.args.heaps.now.heap mid c.store_black.new.heaps.heap order.sound.well_formed f.none_came e.usable f.usable

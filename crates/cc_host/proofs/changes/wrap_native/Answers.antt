@@ -1,4 +1,4 @@
-use Rattle.std.proofs.Common.{[], Some, sym, subst, ap, ◌∙◌, inl, inr, ⊎_elim}
+use Rattle.std.proofs.Common.{[], Some, sym, subst, ap, ◌∙◌, inl, inr, ⊎_elim, ◌∷◌}
 use Rattle.std.proofs.lemmas.Result.{on_err_weaker}
 use Rattle.cc_lists.specs.Members.{Among}
 use Rattle.cc_names.specs.Names.{native, reflector}
@@ -20,11 +20,18 @@ use Rattle.cc_host.proofs.Storing.{held-reached, native_name-is}
 use Rattle.cc_host.proofs.Wrapping.{held-lacks, wrapped-natives, wrapped-none_left}
 use Rattle.cc_model.specs.WellFormed.{names_there}
 use Rattle.cc_host.proofs.Coming.{OneCame-named, if_ok-with, wrapped-came}
+use Rattle.cc_host.proofs.LastingSteps.{around-ended, same-stays, wrap-stays}
 use Rattle.cc_host.proofs.changes.wrap_native.Given as given
 use Rattle.cc_host.proofs.MarkedCalls.{wrapped-marking}
 use Rattle.cc_host.proofs.Marked.{marking-then}
 use Rattle.cc_host.proofs.PlacesKept.{places-as, places-round, places-same, wrapped-places}
+use Rattle.cc_host.proofs.Usable.{around-usable}
 use Rattle.cc_host.proofs.changes.wrap_native.Goals as goal
+use Rattle.cc_names.specs.declared.register.Reg.TheVariants.{N}
+use Rattle.cc_host.specs.Hosted.{spare}
+use Rattle.cc_host.specs.Spots.{Spot, WritesOnly}
+use Rattle.cc_host.proofs.SpotsKeyed.{wrapped-only}
+use Rattle.cc_host.proofs.SpotsThen.{writes-but, writes-then}
 
 pub wrap-made-requires-clause-order : goal.wrap-made-requires-clause-order
 wrap-made-requires-clause-order g c = none-owned c.hold.new.heaps (c.hold.ensures.held.kept.order [] c.requires.ready.order)
@@ -120,3 +127,35 @@ returns-clause-wanted g c =
     on_err_weaker c.wrap-made.result
     (λ lacks. held-lacks v w c.hold.ensures.held.keys c.args.key c.hold.ensures.held.heap lacks)
     c.wrap-made.ensures.lacks
+
+pub returns-clause-writes : goal.returns-clause-writes
+returns-clause-writes g c =
+    let v = c.args.heaps.now in
+    let w = c.hold.new.heaps in
+    let u = c.wrap-made.new.heaps in
+    let h = c.hold.ensures.held in
+    let only = Spot.register (N spare) ∷ [] in
+    writes-but spare [] v.heap c.let_go.new.heaps.heap c.requires.ready.spared c.let_go.ensures.empty.change.spared
+    (writes-then only v.heap u.heap c.let_go.new.heaps.heap c.let_go.ensures.empty.none_came
+    (either-way c.wrap-made.result c.wrap-made.ensures.heap c.wrap-made.ensures.same
+    (λ heap. wrapped-only v.heap w.heap u.heap spare (native_name v (Some c.args.key)) (the_number w c.args.key.0) h.heap heap ((kept g c).order [] (h.kept.order [] c.requires.ready.order)).sound.well_formed)
+    (λ same. subst (λ (k : Keyed). WritesOnly only v.heap k.heap) (sym same) c.hold.ensures.writes))
+    c.let_go.ensures.writes)
+
+pub returns-clause-ended : goal.returns-clause-ended
+returns-clause-ended g c =
+    let w = c.hold.new.heaps in
+    let u = c.wrap-made.new.heaps in
+    let e = c.wrap-made.ensures in
+    around-ended c.args.heaps.now w u c.let_go.new.heaps c.requires.ready.order c.hold.ensures.held
+    (either-way c.wrap-made.result e.heap e.same (λ heap. wrap-stays w u (the_number w c.args.key.0) heap) (λ same. same-stays w u same))
+    c.let_go.ensures.empty
+
+pub returns-clause-usable : goal.returns-clause-usable
+returns-clause-usable g c =
+    let w = c.hold.new.heaps in
+    let u = c.wrap-made.new.heaps in
+    let e = c.wrap-made.ensures in
+    around-usable c.args.heaps.now w u c.let_go.new.heaps c.requires.ready.order c.hold.ensures.held
+    (either-way c.wrap-made.result e.heap e.same (λ heap. wrap-stays w u (the_number w c.args.key.0) heap) (λ same. same-stays w u same))
+    c.let_go.ensures.empty

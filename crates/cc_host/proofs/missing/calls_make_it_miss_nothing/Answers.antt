@@ -8,7 +8,7 @@ unfolding KeepsDoomed
 returns-clause-does c = λ change old new ds does k. record {
   graph = let s = does.stands tt k.graph.0 k.graph.1 k.graph.2 in (change k.graph.0, s.0, s.1);
   reflectors = k.reflectors;
-  doomed = (k.doomed.0, ap running_snapshot does.running ∙ k.doomed.1, does.doomed tt k.doomed.0 ds k.reflectors k.doomed.2);
+  doomed = (k.doomed.0, ap running_snapshot does.running ∙ k.doomed.1, (does.doomed tt).0 k.doomed.0 ds k.reflectors k.doomed.2);
 }
 
 pub returns-clause-brings : goal.returns-clause-brings
@@ -16,7 +16,7 @@ unfolding KeepsDoomedBut
 returns-clause-brings c = λ x change old new ds does none k. record {
   graph = let s = does.stands k.graph.0 k.graph.1 k.graph.2 in (change k.graph.0, s.0, s.1);
   reflectors = k.reflectors;
-  doomed = (k.doomed.0, ap running_snapshot does.running ∙ k.doomed.1, does.doomed k.doomed.0 ds k.reflectors none k.doomed.2);
+  doomed = (k.doomed.0, ap running_snapshot does.running ∙ k.doomed.1, does.doomed.0 k.doomed.0 ds k.reflectors none k.doomed.2);
 }
 
 pub returns-clause-tries : goal.returns-clause-tries
@@ -24,5 +24,5 @@ unfolding KeepsDoomed
 returns-clause-tries c = λ old new ds tries k. record {
   graph = (k.graph.0, k.graph.1, tries.stands k.graph.0 k.graph.1 k.graph.2);
   reflectors = k.reflectors;
-  doomed = (k.doomed.0, ap running_snapshot tries.running ∙ k.doomed.1, tries.doomed tt k.doomed.0 ds k.reflectors k.doomed.2);
+  doomed = (k.doomed.0, ap running_snapshot tries.running ∙ k.doomed.1, (tries.doomed tt).0 k.doomed.0 ds k.reflectors k.doomed.2);
 }

@@ -9,7 +9,12 @@ use Rattle.cc_host.proofs.MadeTaken.{made-whole}
 use Rattle.cc_host.proofs.Coming.{OneCame-named}
 use Rattle.cc_host.proofs.MarkedCalls.{made_native-marking}
 use Rattle.cc_host.proofs.PlacesKept.{make_native-places, places-as}
+use Rattle.cc_laws_heap.proofs.Face.{IsWellFormed-distinct}
+use Rattle.cc_laws_told.proofs.Face.{ended-as, ended-make}
+use Rattle.cc_host.proofs.Usable.{make-usable, usable-as}
 use Rattle.cc_host.proofs.changes.making.make_native.Goals as goal
+use Rattle.cc_host.proofs.SpotsKeyed.{made_native-only}
+use Rattle.cc_host.proofs.MadeKinds.{keyed-many}
 
 pub new_native-requires-clause-within : goal.new_native-requires-clause-within
 new_native-requires-clause-within g c = omega (arith, c.requires.within, c.requires.ready.order.sound.well_formed.registers.0.enough)
@@ -72,3 +77,24 @@ pub returns-clause-places : goal.returns-clause-places
 returns-clause-places g c =
     let h = c.args.heaps.now.heap in
     places-as h _ c.new_native.new.self.heap c.in_ok-new_native.ensures.heap (make_native-places h c.args.r c.args.slots (omega (arith, c.requires.within)))
+
+pub returns-clause-writes : goal.returns-clause-writes
+returns-clause-writes g c =
+    let e = c.in_ok-new_native.ensures in
+    made_native-only c.args.heaps.now.heap c.new_native.new.self.heap c.args.r c.args.slots e.heap (e.kept.order [] c.requires.ready.order).sound.well_formed
+
+pub returns-clause-ended : goal.returns-clause-ended
+returns-clause-ended g c =
+    let h = c.args.heaps.now.heap in
+    ended-as h _ c.new_native.new.self.heap c.in_ok-new_native.ensures.heap (ended-make h c.args.r c.args.slots (IsWellFormed-distinct h c.requires.ready.order.sound.well_formed))
+
+pub returns-clause-slots_made : goal.returns-clause-slots_made
+returns-clause-slots_made g c =
+    let e = c.in_ok-new_native.ensures in
+    keyed-many c.new_native.new.self (e.kept.order [] c.requires.ready.order) c.args.heaps.now.heap c.args.r c.args.slots c.requires.ready.order.sound.well_formed e.heap
+    c.in-Some.key.0 (returns-clause-name g c)
+
+pub returns-clause-usable : goal.returns-clause-usable
+returns-clause-usable g c =
+    let h = c.args.heaps.now.heap in
+    usable-as h _ c.new_native.new.self.heap c.in_ok-new_native.ensures.heap (make-usable h c.args.r c.args.slots (IsWellFormed-distinct h c.requires.ready.order.sound.well_formed))

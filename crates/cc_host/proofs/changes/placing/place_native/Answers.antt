@@ -1,10 +1,14 @@
-use Rattle.std.proofs.Common.{sym, ap, subst, arith}
+use Rattle.std.proofs.Common.{Some, sym, ap, subst, arith, []}
 use Rattle.cc_heaps.proofs.FewCounts.{none-owned}
 use Rattle.cc_heaps.specs.Keyed.{Keyed}
 use Rattle.cc_host.proofs.Placed.{HasPlace, place-live, place-made, place-order, place-room, place-there, placed-change, placed-doomed_but, placed-held, placed-marking, placed-none_came, placed-stands, placed-tells, placed-writes}
+use Rattle.cc_heaps.specs.Changes.{native_name}
+use Rattle.cc_host.proofs.LastingSteps.{place-ended}
 use Rattle.cc_host.proofs.changes.placing.place_native.Given as given
+use Rattle.cc_host.proofs.Usable.{place-usable}
 use Rattle.cc_host.proofs.changes.placing.place_native.Goals as goal
 use Rattle.cc_host.proofs.changes.placing.place_native.Goals.{Joined-native_reg_count-r, then-native_reg_count-r+in_ok-root_at, else-native_reg_count-r}
+use Rattle.cc_host.proofs.SpotsKeyed.{placed-only}
 
 has : (g : given.Over) (c : Joined-native_reg_count-r g) →
     HasPlace c.args.r c.args.heaps.now c.if-native_reg_count-r.heaps (g.N.Notices.telling c.args.out.now) (g.N.Notices.telling c.if-native_reg_count-r.out)
@@ -73,3 +77,24 @@ returns-clause-tells g c =
 pub returns-clause-none_came : goal.returns-clause-none_came
 returns-clause-none_came g c =
     placed-none_came c.args.heaps.now c.if-native_reg_count-r.heaps c.args.r c.args.key (has g c.before.before.before) c.requires.ready c.requires.live c.set_native_reg.new.self c.set_native_reg.ensures.heap
+
+pub returns-clause-only : goal.returns-clause-only
+returns-clause-only g c =
+    let v = c.args.heaps.now in
+    let mid = c.if-native_reg_count-r.heaps in
+    let has = has g c.before.before.before in
+    let e = c.set_native_reg.ensures in
+    placed-only v mid c.set_native_reg.new.self c.args.r (native_name mid (Some c.args.key)) has.heap e.heap
+    (e.kept.order [] (place-order v mid c.args.r c.args.key has c.requires.ready c.requires.live)).sound.well_formed
+
+pub returns-clause-ended : goal.returns-clause-ended
+returns-clause-ended g c =
+    let mid = c.if-native_reg_count-r.heaps in
+    place-ended c.args.heaps.now mid c.set_native_reg.new.self c.args.r (native_name mid (Some c.args.key)) c.requires.ready.order (has g c.before.before.before).heap
+    c.set_native_reg.ensures.heap
+
+pub returns-clause-usable : goal.returns-clause-usable
+returns-clause-usable g c =
+    let mid = c.if-native_reg_count-r.heaps in
+    place-usable c.args.heaps.now mid c.set_native_reg.new.self c.args.r (native_name mid (Some c.args.key)) c.requires.ready.order (has g c.before.before.before).heap
+    c.set_native_reg.ensures.heap

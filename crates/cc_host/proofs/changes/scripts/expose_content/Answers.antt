@@ -20,3 +20,9 @@ pub returns-in-Some-clause-past : goal.returns-in-Some-clause-past
 returns-in-Some-clause-past c =
     let v = c.args.heaps.now in
     λ well. subst (λ x. IsPastIfAny c.expose_key.new.heaps (script_name v x)) (sym c.in-Some.is) (c.expose_key.ensures.past well)
+
+pub returns-in_default-clause-spots : goal.returns-in_default-clause-spots
+returns-in_default-clause-spots c s = refl
+
+pub returns-in-Some-clause-spots : goal.returns-in-Some-clause-spots
+returns-in-Some-clause-spots c = c.expose_key.ensures.spots

@@ -1,10 +1,12 @@
-use Rattle.std.proofs.Common.{[]}
+use Rattle.std.proofs.Common.{[], ◌∙◌, ap}
 use Rattle.cc_script.specs.Objects.{name_at}
 use Rattle.cc_heaps.specs.Standing.{IsReachedOrReflects}
 use Rattle.cc_host.specs.Exposing.{Exposes}
 use Rattle.cc_host.proofs.Exposed.{exposed-colour, exposed-ready, exposes}
 use Rattle.cc_host.proofs.MarkedCalls.{exposed-is_past, exposed-marking}
 use Rattle.cc_host.proofs.PlacesKept.{exposed-places, places-as}
+use Rattle.cc_host.specs.Spots.{reads}
+use Rattle.cc_host.proofs.SpotsWritten.{reads-exposed}
 use Rattle.cc_host.proofs.changes.scripts.expose_key.Goals as goal
 
 pub expose-requires-clause-order : goal.expose-requires-clause-order
@@ -42,3 +44,8 @@ pub returns-clause-places : goal.returns-clause-places
 returns-clause-places c =
     let v = c.args.heaps.now in
     places-as v.heap _ c.expose.new.self.heap c.expose.ensures.heap (exposed-places v.heap (name_at v.scripts c.args.key.0))
+
+pub returns-clause-spots : goal.returns-clause-spots
+returns-clause-spots c s =
+    let v = c.args.heaps.now in
+    ap (λ h. reads h s) c.expose.ensures.heap ∙ reads-exposed v.heap (name_at v.scripts c.args.key.0) s

@@ -1,4 +1,4 @@
-use Rattle.std.proofs.Common.{◌≡◌, [], sym, ◌∙◌, ap, subst}
+use Rattle.std.proofs.Common.{◌≡◌, [], sym, ◌∙◌, ap, subst, ◌∷◌}
 use Rattle.cc_model.specs.Graph as graph
 use Rattle.cc_script.specs.Objects.{name_at}
 use Rattle.cc_heaps.specs.Keyed.{Keyed}
@@ -14,7 +14,14 @@ use Rattle.cc_host.proofs.Marked.{marking-after}
 use Rattle.cc_host.specs.Marked.{IsPastIfAny}
 use Rattle.cc_heaps.proofs.Following.{name_at-there}
 use Rattle.cc_host.proofs.Reflects.{preserved-held, preserved-reflects, reflects-kept}
+use Rattle.cc_laws_told.proofs.Face.{Stays-preserve, Stays-then}
+use Rattle.cc_host.proofs.LastingSteps.{exposes-stays, stays-as, stays-ended}
+use Rattle.cc_host.proofs.Usable.{stays-usable}
 use Rattle.cc_host.proofs.changes.scripts.preserve_reflector.Goals as goal
+use Rattle.cc_host.proofs.SpotsKeyed.{preserved-holds, preserved-only}
+use Rattle.cc_host.proofs.SpotsThen.{writes-after}
+use Rattle.cc_model.specs.WellFormed.{IsWellFormed}
+use Rattle.cc_host.specs.Spots.{Spot}
 
 pub preserve-requires-clause-order : goal.preserve-requires-clause-order
 preserve-requires-clause-order c = ([], c.expose_key.ensures.ready.order)
@@ -93,3 +100,34 @@ returns-clause-held c d =
     (preserved-held v.heap own e.ready.order.sound (name_at-there [] v e.ready.order c.args.key.0)
     (subst (IsReachedOrReflects v.heap) (sym (name c)) (reflects-kept u.heap v.heap e.exposes.reached _ d))
     (λ y i. subst (λ h. IsReached h y) heap (c.preserve.ensures.reached y i))))
+
+well : (c : goal.After-preserve) → IsWellFormed c.preserve.new.heaps.heap
+well c = ((KeepsAll-black c.preserve.ensures.kept c.expose_key.ensures.black).order [] c.expose_key.ensures.ready.order).sound.well_formed
+
+pub returns-clause-writes : goal.returns-clause-writes
+returns-clause-writes c x e =
+    let v = c.expose_key.new.heaps in
+    let w = c.preserve.new.heaps in
+    writes-after (Spot.preserved x ∷ []) c.args.heaps.now.heap v.heap w.heap c.expose_key.ensures.spots
+    (preserved-only v.heap w.heap (name_at v.scripts c.args.key.0) x (name c ∙ e) (ap (λ (u : Keyed). u.heap) c.preserve.ensures.heap) (well c))
+
+pub returns-clause-preserves : goal.returns-clause-preserves
+returns-clause-preserves c x e =
+    let v = c.expose_key.new.heaps in
+    preserved-holds v.heap c.preserve.new.heaps.heap (name_at v.scripts c.args.key.0) x (name c ∙ e) (ap (λ (u : Keyed). u.heap) c.preserve.ensures.heap) (well c)
+
+pub returns-clause-ended : goal.returns-clause-ended
+returns-clause-ended c =
+    let u = c.args.heaps.now in
+    let v = c.expose_key.new.heaps in
+    let w = c.preserve.new.heaps in
+    stays-ended u w c.requires.ready.order (Stays-then u.heap v.heap w.heap (exposes-stays u v c.expose_key.ensures.exposes)
+    (stays-as v.heap _ w.heap (ap (λ (k : Keyed). k.heap) c.preserve.ensures.heap) (Stays-preserve v.heap (name_at v.scripts c.args.key.0))))
+
+pub returns-clause-usable : goal.returns-clause-usable
+returns-clause-usable c =
+    let u = c.args.heaps.now in
+    let v = c.expose_key.new.heaps in
+    let w = c.preserve.new.heaps in
+    stays-usable u w c.requires.ready.order (Stays-then u.heap v.heap w.heap (exposes-stays u v c.expose_key.ensures.exposes)
+    (stays-as v.heap _ w.heap (ap (λ (k : Keyed). k.heap) c.preserve.ensures.heap) (Stays-preserve v.heap (name_at v.scripts c.args.key.0))))

@@ -5,7 +5,10 @@ use Rattle.cc_host.proofs.KeptDoomed.{hold_script-doomed}
 use Rattle.cc_host.proofs.ScriptSteps.{StaysBeside, beside-none_came, beside-none_left, beside-spared, hold_script-beside}
 use Rattle.cc_host.proofs.MarkedCalls.{held_script-marking}
 use Rattle.cc_host.proofs.PlacesKept.{hold_script-places, places-as}
+use Rattle.cc_host.proofs.LastingSteps.{hold_script-stays, stays-as, stays-ended}
+use Rattle.cc_host.proofs.Usable.{stays-usable}
 use Rattle.cc_host.proofs.changes.scripts.root_script.Goals as goal
+use Rattle.cc_host.proofs.SpotsKeyed.{script_held-only, script_held-written}
 
 pub set_script_reg-requires-clause-within : goal.set_script_reg-requires-clause-within
 set_script_reg-requires-clause-within c = omega (arith, c.requires.within, c.requires.ready.order.sound.well_formed.registers.1.enough)
@@ -40,3 +43,27 @@ pub returns-clause-places : goal.returns-clause-places
 returns-clause-places c =
     let v = c.args.heaps.now in
     places-as v.heap _ c.set_script_reg.new.self.heap c.set_script_reg.ensures.heap (hold_script-places v.heap c.args.r (script_name v c.args.content) (omega (arith, c.requires.within)))
+
+pub returns-clause-writes : goal.returns-clause-writes
+returns-clause-writes c =
+    let v = c.args.heaps.now in
+    let e = c.set_script_reg.ensures in
+    script_held-only v.heap c.set_script_reg.new.self.heap c.args.r (script_name v c.args.content) e.heap (e.kept.order [] c.requires.ready.order).sound.well_formed
+
+pub returns-clause-written : goal.returns-clause-written
+returns-clause-written c =
+    let v = c.args.heaps.now in
+    script_held-written v.heap c.set_script_reg.new.self.heap c.args.r (script_name v c.args.content)
+    (omega (arith, c.requires.within, c.requires.ready.order.sound.well_formed.registers.1.enough)) c.set_script_reg.ensures.heap
+
+pub returns-clause-ended : goal.returns-clause-ended
+returns-clause-ended c =
+    let v = c.args.heaps.now in
+    let w = c.set_script_reg.new.self in
+    stays-ended v w c.requires.ready.order (stays-as v.heap _ w.heap c.set_script_reg.ensures.heap (hold_script-stays v.heap c.args.r (script_name v c.args.content)))
+
+pub returns-clause-usable : goal.returns-clause-usable
+returns-clause-usable c =
+    let v = c.args.heaps.now in
+    let w = c.set_script_reg.new.self in
+    stays-usable v w c.requires.ready.order (stays-as v.heap _ w.heap c.set_script_reg.ensures.heap (hold_script-stays v.heap c.args.r (script_name v c.args.content)))

@@ -1,4 +1,4 @@
-use Rattle.std.proofs.Common.{◌≡◌, [], Option, Some, None, OnErr, sym, ◌∙◌, ap, subst}
+use Rattle.std.proofs.Common.{◌≡◌, [], Option, Some, None, OnErr, sym, ◌∙◌, ap, subst, ◌∷◌}
 use Rattle.std.proofs.lemmas.Result.{on_err_weaker}
 use Rattle.cc_names.specs.declared.name.Name.{Name}
 use Rattle.cc_model.specs.Checks.{value_at}
@@ -19,14 +19,21 @@ use Rattle.cc_host.proofs.KeptDoomed.{doomed-then, set_entry-doomed}
 use Rattle.cc_host.proofs.Exposed.{AreSame-then, Exposes-then, KeepsAll-after, StandsAfter-still, exposed-none_came, exposed-none_left, exposed-change}
 use Rattle.cc_host.proofs.ScriptSteps.{StaysBeside, beside-none_came, beside-none_left, beside-spared, either-way, entry-beside, ok-both}
 use Rattle.cc_lists.specs.Members.{Among}
-use Rattle.cc_model.specs.WellFormed.{names_there}
+use Rattle.cc_model.specs.WellFormed.{names_there, IsWellFormed}
 use Rattle.cc_host.proofs.MarkedCalls.{entry-marking}
 use Rattle.cc_host.proofs.Marked.{marking-after, marking-same}
 use Rattle.cc_host.specs.Marked.{IsPastIfAny}
 use Rattle.cc_host.proofs.Reflects.{reflects-kept}
 use Rattle.cc_host.proofs.ReflectsEntries.{entry_at-reflects}
 use Rattle.cc_host.proofs.Stopping.{refused-none}
+use Rattle.cc_laws_told.proofs.Face.{Stays-then}
+use Rattle.cc_host.proofs.LastingSteps.{entry-stays, exposes-stays, same-stays, stays-as, stays-ended}
+use Rattle.cc_host.proofs.Usable.{stays-usable}
 use Rattle.cc_host.proofs.changes.scripts.set_entry.Goals as goal
+use Rattle.cc_heaps.proofs.ObjectsKept.{there-named}
+use Rattle.cc_host.specs.Spots.{IsWritten, Spot, reads}
+use Rattle.cc_host.proofs.SpotsKeyed.{entry-only, entry-preserved, entry-written, unwritten-same}
+use Rattle.cc_host.proofs.SpotsThen.{writes-after}
 
 pub expose_key-requires-2-clause-ready : goal.expose_key-requires-2-clause-ready
 expose_key-requires-2-clause-ready c = c.expose_key.ensures.ready
@@ -158,3 +165,74 @@ returns-clause-wanted c =
     ∙ (ap (λ x. value_at (objects_of u.heap) x k) (b.same c.args.the_map.0 (map-there u.scripts c.args.the_map.0 c.requires.the_map)).name
     ∙ ap (λ x. value_at (objects_of u.heap) (script_name u (Some c.args.the_map)) x) (b.same c.args.key.0 c.requires.key).name) in
     subst (λ o. OnErr c.set_entry.result (o ≡ None)) at (refused-none c.set_entry.result (value_at (objects_of v.heap) m k) c.set_entry.ensures.in_place)
+
+-- each spot reads as before once both are exposed
+spots : (c : goal.After-set_entry) (s : Spot) → reads c.expose_key-2.new.heaps.heap s ≡ reads c.args.heaps.now.heap s
+spots c s = c.expose_key-2.ensures.spots s ∙ c.expose_key.ensures.spots s
+
+well : (c : goal.After-set_entry) → IsWellFormed c.set_entry.new.self.heap
+well c =
+    let black = c.expose_key-2.ensures.exposes.same c.args.key.0 (c.expose_key.ensures.exposes.same c.args.key.0 c.requires.key).there in
+    ((KeepsAll-black c.set_entry.ensures.kept (black.black c.expose_key.ensures.black, c.expose_key-2.ensures.black)).order [] c.expose_key-2.ensures.ready.order).sound.well_formed
+
+pub returns-clause-writes : goal.returns-clause-writes
+returns-clause-writes c =
+    let u = c.args.heaps.now in
+    let v = c.expose_key-2.new.heaps in
+    let w = c.set_entry.new.self in
+    let b = both c in
+    let value = there-named v.scripts c.args.value.0 (b.same c.args.value.0 c.requires.value).there in
+    ok-both c.set_entry.result c.set_entry.ensures.heap c.set_entry.ensures.heap (λ heap again m k em ek.
+    writes-after (Spot.entry m k ∷ Spot.preserved k ∷ []) u.heap v.heap w.heap (spots c)
+    (entry-only v.heap w.heap (name_at v.scripts c.args.the_map.0) (name_at v.scripts c.args.key.0) (name_at v.scripts c.args.value.0) m k value.0
+    ((b.same c.args.the_map.0 (map-there u.scripts c.args.the_map.0 c.requires.the_map)).name ∙ em) ((b.same c.args.key.0 c.requires.key).name ∙ ek) value.1 heap (well c)))
+
+pub returns-clause-written : goal.returns-clause-written
+returns-clause-written c =
+    let u = c.args.heaps.now in
+    let v = c.expose_key-2.new.heaps in
+    let w = c.set_entry.new.self in
+    let b = both c in
+    let value = there-named v.scripts c.args.value.0 (b.same c.args.value.0 c.requires.value).there in
+    ok-both c.set_entry.result c.set_entry.ensures.heap c.set_entry.ensures.heap (λ heap again m k em ek.
+    subst (λ y. IsWritten (Spot.entry m k) y w.heap) (sym value.1 ∙ (b.same c.args.value.0 c.requires.value).name)
+    (entry-written v.heap w.heap (name_at v.scripts c.args.the_map.0) (name_at v.scripts c.args.key.0) (name_at v.scripts c.args.value.0) m k value.0
+    ((b.same c.args.the_map.0 (map-there u.scripts c.args.the_map.0 c.requires.the_map)).name ∙ em) ((b.same c.args.key.0 c.requires.key).name ∙ ek) value.1 heap (well c)))
+
+pub returns-clause-preserves : goal.returns-clause-preserves
+returns-clause-preserves c =
+    let u = c.args.heaps.now in
+    let v = c.expose_key-2.new.heaps in
+    let w = c.set_entry.new.self in
+    let b = both c in
+    let the_map = there-named v.scripts c.args.the_map.0 (b.same c.args.the_map.0 (map-there u.scripts c.args.the_map.0 c.requires.the_map)).there in
+    let value = there-named v.scripts c.args.value.0 (b.same c.args.value.0 c.requires.value).there in
+    ok-both c.set_entry.result c.set_entry.ensures.heap c.set_entry.ensures.heap (λ heap again k ek.
+    entry-preserved v.heap w.heap (name_at v.scripts c.args.the_map.0) (name_at v.scripts c.args.key.0) (name_at v.scripts c.args.value.0) the_map.0 k value.0
+    the_map.1 ((b.same c.args.key.0 c.requires.key).name ∙ ek) value.1 heap (well c))
+
+pub returns-clause-unwritten : goal.returns-clause-unwritten
+returns-clause-unwritten c =
+    let v = c.expose_key-2.new.heaps in
+    let w = c.set_entry.new.self in
+    on_err_weaker c.set_entry.result (λ same. writes-after [] c.args.heaps.now.heap v.heap w.heap (spots c) (unwritten-same [] v w same)) c.set_entry.ensures.same
+
+pub returns-clause-ended : goal.returns-clause-ended
+returns-clause-ended c =
+    let u = c.args.heaps.now in
+    let v = c.expose_key-2.new.heaps in
+    let w = c.set_entry.new.self in
+    stays-ended u w c.requires.ready.order (Stays-then u.heap v.heap w.heap (exposes-stays u v (both c))
+    (either-way c.set_entry.result c.set_entry.ensures.heap c.set_entry.ensures.same
+    (λ heap. stays-as v.heap _ w.heap heap (entry-stays v.heap _ _ _))
+    (λ same. same-stays v w same)))
+
+pub returns-clause-usable : goal.returns-clause-usable
+returns-clause-usable c =
+    let u = c.args.heaps.now in
+    let v = c.expose_key-2.new.heaps in
+    let w = c.set_entry.new.self in
+    stays-usable u w c.requires.ready.order (Stays-then u.heap v.heap w.heap (exposes-stays u v (both c))
+    (either-way c.set_entry.result c.set_entry.ensures.heap c.set_entry.ensures.same
+    (λ heap. stays-as v.heap _ w.heap heap (entry-stays v.heap _ _ _))
+    (λ same. same-stays v w same)))

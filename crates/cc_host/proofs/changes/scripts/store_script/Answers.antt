@@ -1,4 +1,4 @@
-use Rattle.std.proofs.Common.{◌<◌, [], Some, sym, subst}
+use Rattle.std.proofs.Common.{◌<◌, [], Some, sym, subst, ◌∷◌, ◌∙◌, inl, inr, ⊎_elim}
 use Rattle.cc_model.specs.Graph as graph
 use Rattle.cc_script.specs.Objects.{name_at}
 use Rattle.cc_heaps.specs.Changes.{script_name}
@@ -13,7 +13,13 @@ use Rattle.cc_host.proofs.MarkedCalls.{slot-marking}
 use Rattle.cc_host.proofs.Marked.{marking-after}
 use Rattle.cc_host.specs.Marked.{IsPastIfAny}
 use Rattle.cc_host.proofs.Reflects.{reflects-kept, script_slot-reflects}
+use Rattle.cc_laws_told.proofs.Face.{Stays-slot, ended-then}
+use Rattle.cc_host.proofs.LastingSteps.{exposes-stays, stays-as, stays-ended}
+use Rattle.cc_host.proofs.Usable.{stays-usable, usable-still, usable-then}
 use Rattle.cc_host.proofs.changes.scripts.store_script.Goals as goal
+use Rattle.cc_host.specs.Spots.{IsWritten, Spot}
+use Rattle.cc_host.proofs.SpotsKeyed.{script_many, slot-only, slot-written}
+use Rattle.cc_host.proofs.SpotsThen.{writes-after, writes-more, writes-then, written-then}
 
 pub preserve_reflector-requires-clause-ready : goal.preserve_reflector-requires-clause-ready
 preserve_reflector-requires-clause-ready c = c.expose_content.ensures.ready
@@ -108,3 +114,68 @@ returns-clause-marking c =
     marking-after t u w e.marking (λ k. marking-after u v w p.marking (λ l. slot-marking v w (name_at v.scripts c.args.key.0) c.args.i (script_name v c.args.content)
     c.store_script.ensures.heap c.store_script.ensures.marks
     (λ its. subst (IsPastIfAny v) (sym (content-name t v (same c) c.args.content c.requires.there)) (λ y i. p.marking.past l y (e.past k y i)))))
+
+pub returns-clause-writes : goal.returns-clause-writes
+returns-clause-writes c x e =
+    let u = c.expose_content.new.heaps in
+    let v = c.preserve_reflector.new.heaps in
+    let w = c.store_script.new.self in
+    let own = Spot.slot x c.args.i in
+    let kept = Spot.preserved x in
+    let p = c.preserve_reflector.ensures in
+    let now = p.change.kept.order [] c.expose_content.ensures.ready.order in
+    let before = (c.expose_content.ensures.exposes.same c.args.key.0 c.requires.live).name ∙ e in
+    let name = (same c c.args.key.0 c.requires.live).name ∙ e in
+    writes-after (own ∷ kept ∷ []) c.args.heaps.now.heap u.heap w.heap c.expose_content.ensures.spots
+    (writes-then (own ∷ kept ∷ []) u.heap v.heap w.heap (beside-none_came v w (beside c))
+    (writes-more (kept ∷ []) (own ∷ kept ∷ []) u.heap v.heap (λ s i. inr i) (p.writes x before))
+    (writes-more (own ∷ []) (own ∷ kept ∷ []) v.heap w.heap (λ s i. ⊎_elim (λ l. inl l) (λ n. absurd n) i)
+    (slot-only v.heap w.heap (name_at v.scripts c.args.key.0) x c.args.i (script_name v c.args.content) name c.store_script.ensures.heap
+    (c.store_script.ensures.kept.order [] now).sound.well_formed)))
+
+pub returns-clause-written : goal.returns-clause-written
+returns-clause-written c x e =
+    let v = c.preserve_reflector.new.heaps in
+    let w = c.store_script.new.self in
+    let now = c.preserve_reflector.ensures.change.kept.order [] c.expose_content.ensures.ready.order in
+    let name = (same c c.args.key.0 c.requires.live).name ∙ e in
+    let within = subst (λ n. c.args.i < n) (sym (same c c.args.key.0 c.requires.live).slots ∙ script_many v now c.args.key.0 x name) c.requires.within in
+    subst (λ y. IsWritten (Spot.slot x c.args.i) y w.heap) (content-name c.args.heaps.now v (same c) c.args.content c.requires.there)
+    (slot-written v.heap w.heap (name_at v.scripts c.args.key.0) x c.args.i (script_name v c.args.content) name c.store_script.ensures.heap within)
+
+pub returns-clause-preserves : goal.returns-clause-preserves
+returns-clause-preserves c x e =
+    let v = c.preserve_reflector.new.heaps in
+    let w = c.store_script.new.self in
+    let own = Spot.slot x c.args.i in
+    let now = c.preserve_reflector.ensures.change.kept.order [] c.expose_content.ensures.ready.order in
+    let before = (c.expose_content.ensures.exposes.same c.args.key.0 c.requires.live).name ∙ e in
+    let name = (same c c.args.key.0 c.requires.live).name ∙ e in
+    written-then (own ∷ []) v.heap w.heap (beside-none_came v w (beside c)) (Spot.preserved x) _ (λ i. ⊎_elim (λ d. absurd (cc)) (λ n. n) i)
+    (c.preserve_reflector.ensures.preserves x before)
+    (slot-only v.heap w.heap (name_at v.scripts c.args.key.0) x c.args.i (script_name v c.args.content) name c.store_script.ensures.heap
+    (c.store_script.ensures.kept.order [] now).sound.well_formed)
+
+pub returns-clause-ended : goal.returns-clause-ended
+returns-clause-ended c =
+    let t = c.args.heaps.now in
+    let u = c.expose_content.new.heaps in
+    let v = c.preserve_reflector.new.heaps in
+    let w = c.store_script.new.self in
+    ended-then t.heap v.heap w.heap
+    (ended-then t.heap u.heap v.heap (stays-ended t u c.requires.ready.order (exposes-stays t u c.expose_content.ensures.exposes)) c.preserve_reflector.ensures.ended)
+    (stays-ended v w (c.preserve_reflector.ensures.change.kept.order [] c.expose_content.ensures.ready.order)
+    (stays-as v.heap _ w.heap c.store_script.ensures.heap (Stays-slot v.heap (name_at v.scripts c.args.key.0) c.args.i (script_name v c.args.content))))
+
+pub returns-clause-usable : goal.returns-clause-usable
+returns-clause-usable c =
+    let t = c.args.heaps.now in
+    let u = c.expose_content.new.heaps in
+    let v = c.preserve_reflector.new.heaps in
+    let w = c.store_script.new.self in
+    let e = c.preserve_reflector.ensures in
+    let order = c.expose_content.ensures.ready.order in
+    usable-still t.heap v w (e.change.kept.order [] order)
+    (stays-as v.heap _ w.heap c.store_script.ensures.heap (Stays-slot v.heap (name_at v.scripts c.args.key.0) c.args.i (script_name v c.args.content)))
+    (usable-then t.heap u.heap v.heap order.sound.well_formed e.none_came
+    (stays-usable t u c.requires.ready.order (exposes-stays t u c.expose_content.ensures.exposes)) e.usable)

@@ -1,62 +1,139 @@
-use Rattle.std.specs.Prelude.{OnOk}
-use Rattle.std.proofs.Common.{List, subst, ◌+◌, length}
-use Rattle.std.proofs.lemmas.Result.{on_ok_weaker, on_err_weaker}
-use Rattle.cc_names.specs.declared.name.Name.{Name}
+use Rattle.std.proofs.Common.{arith, ap, subst, sym, List}
+use Rattle.cc_host.specs.Calls.{Collects}
+use Rattle.cc_host.specs.Queues.{telling_of, told_all}
+use Rattle.cc_host.specs.Hosts.{State, most_told}
+use Rattle.cc_host.proofs.Answering.{IsKeptWhole, kept-whole, on_ok, wanted, went-well}
 use Rattle.cc_model.specs.End.{at_end, refused}
-use Rattle.cc_laws_run.specs.Missing.{lost}
-use Rattle.cc_collector.specs.Kept.{machine_of}
-use Rattle.cc_host.specs.Hosted.{Hosted, machine}
-use Rattle.cc_host.specs.Missing.{CannotMiss, IsOfAGraph, Takes, TakesGarbage, TellsUnlinked}
-use Rattle.cc_host.proofs.Keeping.{hosted}
-use Rattle.cc_host.proofs.Collecting.{collected-keeps}
-use Rattle.cc_host.proofs.Taking.{on_both, collect-takes, collect-unlinks, collect-takes_lost, marking-now}
-use Rattle.cc_host.specs.Calls.{TellsFew}
-use Rattle.cc_host.proofs.Telling.{collected-few, few-told}
+use Rattle.cc_names.specs.declared.name.Name.{Name}
+use Rattle.cc_collector.specs.Collected.{IsCollected}
+use Rattle.cc_host.specs.Hosted.{machine}
+use Rattle.cc_host.specs.Missing.{CannotMiss, IsOfAGraph, Takes, TakesGarbage, TellsUnlinked, lost_in, WillTake}
+use Rattle.cc_host.proofs.WholeTellings.{collected-whole, collects-whole, takes-whole, unlinked-whole}
+use Rattle.cc_host.proofs.Booked.{booked-kept}
+use Rattle.cc_host.specs.Lasting.{TellsFreedOnce}
+use Rattle.cc_host.proofs.LastingTellings.{once-whole}
 use Rattle.cc_host.proofs.host.Host.collect.Goals as goal
 
-pub invariant_of-self : goal.invariant_of-self
-invariant_of-self g c =
-    let e = c.whole.ensures in
-    collected-keeps c.self.inside.heaps c.whole.new.heaps c.self.inside.collector c.whole.new.self c.self.inside.mark e.keeps e.suspected e.runs c.self.invariant
+pub invariant_of-self-2 : goal.invariant_of-self-2
+invariant_of-self-2 c =
+    let h = c.self.inside.runtime in
+    let o = c.self.inside.told in
+    let q = c.reserve.new.self in
+    let d = c.collect-done in
+    let r = c.reserve.ensures in
+    let most = ap (λ (s : State). most_told s.host) c.self.view_is in
+    let w : IsKeptWhole d.new.self o q d.new.out = kept-whole h d.new.self o q d.new.out c.self.invariant.0 r.items r.broken
+    (omega (arith, c.in-Ok.ensures.ok c.self.invariant.0.whole, c.most_told-most.ensures, most)) c.keeps-2.ensures c.keeps.ensures _ (omega arith) d.ensures.few in
+    (w.room, c.self.invariant.1, booked-kept c.self.inside.runtime d.new.self c.self.inside.book d.ensures.places c.self.invariant.2)
+
+pub returns-clause-collects : goal.returns-clause-collects
+returns-clause-collects c _ =
+    let h = c.self.inside.runtime in
+    let o = c.self.inside.told in
+    let q = c.reserve.new.self in
+    let d = c.collect-done in
+    let r = c.reserve.ensures in
+    let most = ap (λ (s : State). most_told s.host) c.self.view_is in
+    let w : IsKeptWhole d.new.self o q d.new.out = kept-whole h d.new.self o q d.new.out c.self.invariant.0 r.items r.broken
+    (omega (arith, c.in-Ok.ensures.ok c.self.invariant.0.whole, c.most_told-most.ensures, most)) c.keeps-2.ensures c.keeps.ensures _ (omega arith) d.ensures.few in
+    subst (λ (s : State). Collects s.host d.new.self (told_all s.told) (told_all d.new.out.items)) c.self.view_is
+    (collects-whole o q d.new.out w.waited w.before w.room.whole h d.new.self d.ensures.collects)
+
+pub returns-clause-done : goal.returns-clause-done
+returns-clause-done c =
+    let h = c.self.inside.runtime in
+    let o = c.self.inside.told in
+    let q = c.reserve.new.self in
+    let d = c.collect-done in
+    let r = c.reserve.ensures in
+    let most = ap (λ (s : State). most_told s.host) c.self.view_is in
+    let w : IsKeptWhole d.new.self o q d.new.out = kept-whole h d.new.self o q d.new.out c.self.invariant.0 r.items r.broken
+    (omega (arith, c.in-Ok.ensures.ok c.self.invariant.0.whole, c.most_told-most.ensures, most)) c.keeps-2.ensures c.keeps.ensures _ (omega arith) d.ensures.few in
+    let done = λ (e : IsCollected (machine h) (machine d.new.self) at_end (telling_of q) (telling_of d.new.out)). subst (λ (s : State). IsCollected (machine s.host) (machine d.new.self) at_end (told_all s.told) (told_all d.new.out.items)) c.self.view_is
+    (collected-whole o q d.new.out w.waited w.before w.room.whole (machine h) (machine d.new.self) at_end e) in
+    went-well _ d.result c.of_whole.result c.of_whole.ensures (on_ok d.result done d.ensures.done)
+
+pub returns-clause-refused : goal.returns-clause-refused
+returns-clause-refused c wants =
+    let h = c.self.inside.runtime in
+    let o = c.self.inside.told in
+    let q = c.reserve.new.self in
+    let d = c.collect-done in
+    let r = c.reserve.ensures in
+    let most = ap (λ (s : State). most_told s.host) c.self.view_is in
+    let w : IsKeptWhole d.new.self o q d.new.out = kept-whole h d.new.self o q d.new.out c.self.invariant.0 r.items r.broken
+    (omega (arith, c.in-Ok.ensures.ok c.self.invariant.0.whole, c.most_told-most.ensures, most)) c.keeps-2.ensures c.keeps.ensures _ (omega arith) d.ensures.few in
+    subst (λ (s : State). IsCollected (machine s.host) (machine d.new.self) refused (told_all s.told) (told_all d.new.out.items)) c.self.view_is
+    (collected-whole o q d.new.out w.waited w.before w.room.whole (machine h) (machine d.new.self) refused (wanted _ d.result c.of_whole.result c.of_whole.ensures d.ensures.refused wants))
 
 pub returns-clause-takes : goal.returns-clause-takes
-returns-clause-takes g c =
-    let e = c.whole.ensures in
-    let r = c.whole.result in
-    let telling = g.N.Notices.telling in
-    let old : Hosted = hosted c.self.inside.heaps c.self.inside.collector c.self.inside.mark in
-    let takes = collect-takes old c.self.invariant.runs (machine_of c.whole.new.heaps c.whole.new.self) in
-    subst (λ (h : Hosted). (ds : List Name) → CannotMiss h ds → Takes ds (telling c.args.out.now) (telling c.whole.new.out)) c.self.view_is
-    (on_both r
-    (on_ok_weaker r (takes at_end (telling c.args.out.now) (telling c.whole.new.out)) e.done)
-    (on_err_weaker r (takes refused (telling c.args.out.now) (telling c.whole.new.out)) e.refused))
+returns-clause-takes c _ ds cannot =
+    let h = c.self.inside.runtime in
+    let o = c.self.inside.told in
+    let q = c.reserve.new.self in
+    let d = c.collect-done in
+    let r = c.reserve.ensures in
+    let most = ap (λ (s : State). most_told s.host) c.self.view_is in
+    let w : IsKeptWhole d.new.self o q d.new.out = kept-whole h d.new.self o q d.new.out c.self.invariant.0 r.items r.broken
+    (omega (arith, c.in-Ok.ensures.ok c.self.invariant.0.whole, c.most_told-most.ensures, most)) c.keeps-2.ensures c.keeps.ensures _ (omega arith) d.ensures.few in
+    subst (λ (s : State). Takes ds (told_all s.told) (told_all d.new.out.items)) c.self.view_is
+    (takes-whole o q d.new.out w.waited w.before w.room.whole ds (d.ensures.takes ds (subst (λ (s : State). CannotMiss s.host ds) (sym c.self.view_is) cannot)))
 
 pub returns-clause-takes_if_done : goal.returns-clause-takes_if_done
-returns-clause-takes_if_done g c =
-    let r = c.whole.result in
-    let telling = g.N.Notices.telling in
-    let old : Hosted = hosted c.self.inside.heaps c.self.inside.collector c.self.inside.mark in
-    subst (λ (h : Hosted). OnOk r ((ds : List Name) → CannotMiss h ds → TellsUnlinked ds (telling c.args.out.now) (telling c.whole.new.out))) c.self.view_is
-    (on_ok_weaker r (collect-unlinks old c.self.invariant.runs (machine_of c.whole.new.heaps c.whole.new.self) (telling c.args.out.now) (telling c.whole.new.out)) c.whole.ensures.done)
+returns-clause-takes_if_done c =
+    let h = c.self.inside.runtime in
+    let o = c.self.inside.told in
+    let q = c.reserve.new.self in
+    let d = c.collect-done in
+    let r = c.reserve.ensures in
+    let most = ap (λ (s : State). most_told s.host) c.self.view_is in
+    let w : IsKeptWhole d.new.self o q d.new.out = kept-whole h d.new.self o q d.new.out c.self.invariant.0 r.items r.broken
+    (omega (arith, c.in-Ok.ensures.ok c.self.invariant.0.whole, c.most_told-most.ensures, most)) c.keeps-2.ensures c.keeps.ensures _ (omega arith) d.ensures.few in
+    let done = λ (e : (ds : List Name) → CannotMiss h ds → TellsUnlinked ds (telling_of q) (telling_of d.new.out)) (ds : List Name) (cannot : CannotMiss c.args.self.now.host ds).
+    subst (λ (s : State). TellsUnlinked ds (told_all s.told) (told_all d.new.out.items)) c.self.view_is
+    (unlinked-whole o q d.new.out w.waited w.before w.room.whole ds (e ds (subst (λ (s : State). CannotMiss s.host ds) (sym c.self.view_is) cannot))) in
+    went-well _ d.result c.of_whole.result c.of_whole.ensures (on_ok d.result done d.ensures.takes_if_done)
 
 pub returns-clause-begins : goal.returns-clause-begins
-returns-clause-begins g c =
-    let r = c.whole.result in
-    let telling = g.N.Notices.telling in
-    let old : Hosted = hosted c.self.inside.heaps c.self.inside.collector c.self.inside.mark in
-    subst (λ (h : Hosted). OnOk r (IsOfAGraph h → TakesGarbage h → TellsUnlinked (lost h.heaps.heap) (telling c.args.out.now) (telling c.whole.new.out))) c.self.view_is
-    (on_ok_weaker r (collect-takes_lost old c.self.invariant.runs (machine_of c.whole.new.heaps c.whole.new.self) (telling c.args.out.now) (telling c.whole.new.out)) c.whole.ensures.done)
+returns-clause-begins c =
+    let h = c.self.inside.runtime in
+    let o = c.self.inside.told in
+    let q = c.reserve.new.self in
+    let d = c.collect-done in
+    let r = c.reserve.ensures in
+    let most = ap (λ (s : State). most_told s.host) c.self.view_is in
+    let w : IsKeptWhole d.new.self o q d.new.out = kept-whole h d.new.self o q d.new.out c.self.invariant.0 r.items r.broken
+    (omega (arith, c.in-Ok.ensures.ok c.self.invariant.0.whole, c.most_told-most.ensures, most)) c.keeps-2.ensures c.keeps.ensures _ (omega arith) d.ensures.few in
+    let done = λ (e : IsOfAGraph h → TakesGarbage h → TellsUnlinked (lost_in h) (telling_of q) (telling_of d.new.out)) (graph : IsOfAGraph c.args.self.now.host) (garbage : TakesGarbage c.args.self.now.host).
+    subst (λ (s : State). TellsUnlinked (lost_in s.host) (told_all s.told) (told_all d.new.out.items)) c.self.view_is
+    (unlinked-whole o q d.new.out w.waited w.before w.room.whole (lost_in h)
+    (e (subst (λ (s : State). IsOfAGraph s.host) (sym c.self.view_is) graph) (subst (λ (s : State). TakesGarbage s.host) (sym c.self.view_is) garbage))) in
+    went-well _ d.result c.of_whole.result c.of_whole.ensures (on_ok d.result done d.ensures.begins)
 
-pub returns-clause-few : goal.returns-clause-few
-returns-clause-few g c =
-    let e = c.whole.ensures in
-    let telling = g.N.Notices.telling in
-    let old : Hosted = hosted c.self.inside.heaps c.self.inside.collector c.self.inside.mark in
-    let new : Hosted = hosted c.whole.new.heaps c.whole.new.self c.self.inside.mark in
-    let sound = c.self.invariant.runs.order.sound in
-    let before = telling c.args.out.now in
-    let after = telling c.whole.new.out in
-    let few = collected-few (machine old) (machine new) before after sound (marking-now old c.self.invariant.runs) in
-    subst (λ (h : Hosted). TellsFew (length h.heaps.heap.natives + (length h.heaps.heap.natives + 1)) h new before after) c.self.view_is
-    (few-told (length old.heaps.heap.natives + (length old.heaps.heap.natives + 1)) old new before after
-    (on_both c.whole.result (on_ok_weaker c.whole.result (few at_end) e.done) (on_err_weaker c.whole.result (few refused) e.refused)))
+pub returns-clause-later : goal.returns-clause-later
+returns-clause-later c =
+    let h = c.self.inside.runtime in
+    let o = c.self.inside.told in
+    let q = c.reserve.new.self in
+    let d = c.collect-done in
+    let r = c.reserve.ensures in
+    let most = ap (λ (s : State). most_told s.host) c.self.view_is in
+    let w : IsKeptWhole d.new.self o q d.new.out = kept-whole h d.new.self o q d.new.out c.self.invariant.0 r.items r.broken
+    (omega (arith, c.in-Ok.ensures.ok c.self.invariant.0.whole, c.most_told-most.ensures, most)) c.keeps-2.ensures c.keeps.ensures _ (omega arith) d.ensures.few in
+    let done = λ (e : (ds : List Name) → WillTake h ds → TellsUnlinked ds (telling_of q) (telling_of d.new.out)) (ds : List Name) (will : WillTake c.args.self.now.host ds).
+    subst (λ (s : State). TellsUnlinked ds (told_all s.told) (told_all d.new.out.items)) c.self.view_is
+    (unlinked-whole o q d.new.out w.waited w.before w.room.whole ds (e ds (subst (λ (s : State). WillTake s.host ds) (sym c.self.view_is) will))) in
+    went-well _ d.result c.of_whole.result c.of_whole.ensures (on_ok d.result done d.ensures.later)
+
+pub returns-clause-freed_once : goal.returns-clause-freed_once
+returns-clause-freed_once c _ =
+    let h = c.self.inside.runtime in
+    let o = c.self.inside.told in
+    let q = c.reserve.new.self in
+    let d = c.collect-done in
+    let r = c.reserve.ensures in
+    let most = ap (λ (s : State). most_told s.host) c.self.view_is in
+    let w : IsKeptWhole d.new.self o q d.new.out = kept-whole h d.new.self o q d.new.out c.self.invariant.0 r.items r.broken
+    (omega (arith, c.in-Ok.ensures.ok c.self.invariant.0.whole, c.most_told-most.ensures, most)) c.keeps-2.ensures c.keeps.ensures _ (omega arith) d.ensures.few in
+    subst (λ (s : State). TellsFreedOnce s.host d.new.self (told_all s.told) (told_all d.new.out.items)) c.self.view_is
+    (once-whole o q d.new.out w.waited w.before w.room.whole h d.new.self d.ensures.freed_once)

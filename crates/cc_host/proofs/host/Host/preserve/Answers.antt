@@ -1,15 +1,8 @@
-use Rattle.std.proofs.Common.{subst}
-use Rattle.cc_host.proofs.Keeping.{change-keeps}
-use Rattle.cc_heaps.specs.Leaving.{NoneCame, NothingLeft}
-use Rattle.cc_host.specs.Hosted.{Hosted}
+use Rattle.cc_host.proofs.Quietly.{none-comes, quietly}
 use Rattle.cc_host.proofs.host.Host.preserve.Goals as goal
 
-pub invariant_of-self : goal.invariant_of-self
-invariant_of-self c =
-    change-keeps c.self.inside.heaps c.preserve_reflector.new.heaps c.self.inside.collector c.self.inside.mark c.preserve_reflector.ensures.change c.preserve_reflector.ensures.marking.well c.self.invariant
+pub returns-clause-quiet : goal.returns-clause-quiet
+returns-clause-quiet c = quietly _ _ c.preserve-done.new.self c.self.view_is c.preserve-done.ensures.none_left c.preserve-done.ensures.places
 
 pub returns-clause-none_came : goal.returns-clause-none_came
-returns-clause-none_came c = subst (λ (k : Hosted). NoneCame k.heaps.heap c.preserve_reflector.new.heaps.heap) c.self.view_is c.preserve_reflector.ensures.none_came
-
-pub returns-clause-none_left : goal.returns-clause-none_left
-returns-clause-none_left c = subst (λ (k : Hosted). NothingLeft k.heaps.heap c.preserve_reflector.new.heaps.heap) c.self.view_is c.preserve_reflector.ensures.none_left
+returns-clause-none_came c = none-comes _ _ c.preserve-done.new.self c.self.view_is c.preserve-done.ensures.none_came

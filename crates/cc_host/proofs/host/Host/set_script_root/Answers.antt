@@ -1,15 +1,8 @@
-use Rattle.std.proofs.Common.{subst}
-use Rattle.cc_host.proofs.Keeping.{change-keeps}
-use Rattle.cc_heaps.specs.Leaving.{NoneCame, NothingLeft}
-use Rattle.cc_host.specs.Hosted.{Hosted}
+use Rattle.cc_host.proofs.Quietly.{none-comes, quietly}
 use Rattle.cc_host.proofs.host.Host.set_script_root.Goals as goal
 
-pub invariant_of-self : goal.invariant_of-self
-invariant_of-self c =
-    change-keeps c.self.inside.heaps c.root_script.new.heaps c.self.inside.collector c.self.inside.mark c.root_script.ensures.change c.root_script.ensures.marking.well c.self.invariant
+pub returns-clause-quiet : goal.returns-clause-quiet
+returns-clause-quiet c = quietly _ _ c.set_script_root-done.new.self c.self.view_is c.set_script_root-done.ensures.none_left c.set_script_root-done.ensures.places
 
 pub returns-clause-none_came : goal.returns-clause-none_came
-returns-clause-none_came c = subst (λ (k : Hosted). NoneCame k.heaps.heap c.root_script.new.heaps.heap) c.self.view_is c.root_script.ensures.none_came
-
-pub returns-clause-none_left : goal.returns-clause-none_left
-returns-clause-none_left c = subst (λ (k : Hosted). NothingLeft k.heaps.heap c.root_script.new.heaps.heap) c.self.view_is c.root_script.ensures.none_left
+returns-clause-none_came c = none-comes _ _ c.set_script_root-done.new.self c.self.view_is c.set_script_root-done.ensures.none_came

@@ -1,45 +1,92 @@
-use Rattle.std.proofs.Common.{List, subst, ◌+◌, length}
-use Rattle.std.proofs.lemmas.Result.{on_ok_weaker, on_err_weaker}
-use Rattle.cc_names.specs.declared.name.Name.{Name}
-use Rattle.cc_collector.specs.Kept.{machine_of}
-use Rattle.cc_host.specs.Hosted.{Hosted, machine}
+use Rattle.std.proofs.Common.{arith, ap, subst, sym}
+use Rattle.cc_host.specs.Calls.{Collects}
+use Rattle.cc_host.specs.Queues.{telling_of, told_all}
+use Rattle.cc_collector.specs.Settled.{IsSettled, IsUnsettled}
+use Rattle.cc_host.specs.Hosted.{machine}
+use Rattle.cc_host.proofs.SettledTellings.{settled-whole, unsettled-whole}
+use Rattle.cc_host.specs.Hosts.{State, most_told}
+use Rattle.cc_host.proofs.Answering.{IsKeptWhole, kept-whole, on_ok, wanted, went-well}
 use Rattle.cc_host.specs.Missing.{CannotMiss, Takes}
-use Rattle.cc_host.proofs.Keeping.{hosted}
-use Rattle.cc_host.proofs.Collecting.{collected-keeps}
-use Rattle.cc_host.proofs.Taking.{on_both, settle-takes, unsettled-takes}
-use Rattle.cc_model.specs.End.{refused}
-use Rattle.cc_host.specs.Calls.{TellsFew}
-use Rattle.cc_host.proofs.Telling.{few-told, settled-few, unsettled-few}
+use Rattle.cc_host.proofs.WholeTellings.{collects-whole, takes-whole}
+use Rattle.cc_host.proofs.Booked.{booked-kept}
+use Rattle.cc_host.specs.Lasting.{TellsFreedOnce}
+use Rattle.cc_host.proofs.LastingTellings.{once-whole}
 use Rattle.cc_host.proofs.host.Host.settle.Goals as goal
 
-pub invariant_of-self : goal.invariant_of-self
-invariant_of-self g c =
-    let e = c.settle.ensures in
-    collected-keeps c.self.inside.heaps c.settle.new.heaps c.self.inside.collector c.settle.new.self c.self.inside.mark e.keeps e.suspected e.runs c.self.invariant
+pub invariant_of-self-2 : goal.invariant_of-self-2
+invariant_of-self-2 c =
+    let h = c.self.inside.runtime in
+    let o = c.self.inside.told in
+    let q = c.reserve.new.self in
+    let d = c.settle-done in
+    let r = c.reserve.ensures in
+    let most = ap (λ (s : State). most_told s.host) c.self.view_is in
+    let w : IsKeptWhole d.new.self o q d.new.out = kept-whole h d.new.self o q d.new.out c.self.invariant.0 r.items r.broken
+    (omega (arith, c.in-Ok.ensures.ok c.self.invariant.0.whole, c.most_told-most.ensures, most)) c.keeps-2.ensures c.keeps.ensures _ (omega arith) d.ensures.few in
+    (w.room, c.self.invariant.1, booked-kept c.self.inside.runtime d.new.self c.self.inside.book d.ensures.places c.self.invariant.2)
+
+pub returns-clause-collects : goal.returns-clause-collects
+returns-clause-collects c _ =
+    let h = c.self.inside.runtime in
+    let o = c.self.inside.told in
+    let q = c.reserve.new.self in
+    let d = c.settle-done in
+    let r = c.reserve.ensures in
+    let most = ap (λ (s : State). most_told s.host) c.self.view_is in
+    let w : IsKeptWhole d.new.self o q d.new.out = kept-whole h d.new.self o q d.new.out c.self.invariant.0 r.items r.broken
+    (omega (arith, c.in-Ok.ensures.ok c.self.invariant.0.whole, c.most_told-most.ensures, most)) c.keeps-2.ensures c.keeps.ensures _ (omega arith) d.ensures.few in
+    subst (λ (s : State). Collects s.host d.new.self (told_all s.told) (told_all d.new.out.items)) c.self.view_is
+    (collects-whole o q d.new.out w.waited w.before w.room.whole h d.new.self d.ensures.collects)
+
+pub returns-clause-done : goal.returns-clause-done
+returns-clause-done c =
+    let h = c.self.inside.runtime in
+    let o = c.self.inside.told in
+    let q = c.reserve.new.self in
+    let d = c.settle-done in
+    let r = c.reserve.ensures in
+    let most = ap (λ (s : State). most_told s.host) c.self.view_is in
+    let w : IsKeptWhole d.new.self o q d.new.out = kept-whole h d.new.self o q d.new.out c.self.invariant.0 r.items r.broken
+    (omega (arith, c.in-Ok.ensures.ok c.self.invariant.0.whole, c.most_told-most.ensures, most)) c.keeps-2.ensures c.keeps.ensures _ (omega arith) d.ensures.few in
+    let done = λ (e : IsSettled (machine h) (machine d.new.self) (telling_of q) (telling_of d.new.out)). subst (λ (s : State). IsSettled (machine s.host) (machine d.new.self) (told_all s.told) (told_all d.new.out.items)) c.self.view_is
+    (settled-whole o q d.new.out w.waited w.before w.room.whole (machine h) (machine d.new.self) e) in
+    went-well _ d.result c.of_whole.result c.of_whole.ensures (on_ok d.result done d.ensures.done)
+
+pub returns-clause-refused : goal.returns-clause-refused
+returns-clause-refused c wants =
+    let h = c.self.inside.runtime in
+    let o = c.self.inside.told in
+    let q = c.reserve.new.self in
+    let d = c.settle-done in
+    let r = c.reserve.ensures in
+    let most = ap (λ (s : State). most_told s.host) c.self.view_is in
+    let w : IsKeptWhole d.new.self o q d.new.out = kept-whole h d.new.self o q d.new.out c.self.invariant.0 r.items r.broken
+    (omega (arith, c.in-Ok.ensures.ok c.self.invariant.0.whole, c.most_told-most.ensures, most)) c.keeps-2.ensures c.keeps.ensures _ (omega arith) d.ensures.few in
+    subst (λ (s : State). IsUnsettled (machine s.host) (machine d.new.self) (told_all s.told) (told_all d.new.out.items)) c.self.view_is
+    (unsettled-whole o q d.new.out w.waited w.before w.room.whole (machine h) (machine d.new.self) (wanted _ d.result c.of_whole.result c.of_whole.ensures d.ensures.refused wants))
 
 pub returns-clause-takes : goal.returns-clause-takes
-returns-clause-takes g c =
-    let e = c.settle.ensures in
-    let r = c.settle.result in
-    let telling = g.N.Notices.telling in
-    let old : Hosted = hosted c.self.inside.heaps c.self.inside.collector c.self.inside.mark in
-    let last = machine_of c.settle.new.heaps c.settle.new.self in
-    subst (λ (h : Hosted). (ds : List Name) → CannotMiss h ds → Takes ds (telling c.args.out.now) (telling c.settle.new.out)) c.self.view_is
-    (on_both r
-    (on_ok_weaker r (settle-takes old c.self.invariant.runs last (telling c.args.out.now) (telling c.settle.new.out)) e.done)
-    (on_err_weaker r (unsettled-takes old c.self.invariant.runs last (telling c.args.out.now) (telling c.settle.new.out)) e.refused))
+returns-clause-takes c _ ds cannot =
+    let h = c.self.inside.runtime in
+    let o = c.self.inside.told in
+    let q = c.reserve.new.self in
+    let d = c.settle-done in
+    let r = c.reserve.ensures in
+    let most = ap (λ (s : State). most_told s.host) c.self.view_is in
+    let w : IsKeptWhole d.new.self o q d.new.out = kept-whole h d.new.self o q d.new.out c.self.invariant.0 r.items r.broken
+    (omega (arith, c.in-Ok.ensures.ok c.self.invariant.0.whole, c.most_told-most.ensures, most)) c.keeps-2.ensures c.keeps.ensures _ (omega arith) d.ensures.few in
+    subst (λ (s : State). Takes ds (told_all s.told) (told_all d.new.out.items)) c.self.view_is
+    (takes-whole o q d.new.out w.waited w.before w.room.whole ds (d.ensures.takes ds (subst (λ (s : State). CannotMiss s.host ds) (sym c.self.view_is) cannot)))
 
-pub returns-clause-few : goal.returns-clause-few
-returns-clause-few g c =
-    let e = c.settle.ensures in
-    let telling = g.N.Notices.telling in
-    let old : Hosted = hosted c.self.inside.heaps c.self.inside.collector c.self.inside.mark in
-    let new : Hosted = hosted c.settle.new.heaps c.settle.new.self c.self.inside.mark in
-    let sound = c.self.invariant.runs.order.sound in
-    let before = telling c.args.out.now in
-    let after = telling c.settle.new.out in
-    subst (λ (h : Hosted). TellsFew ((length h.heaps.heap.natives + 1) + (length h.heaps.heap.natives + 1)) h new before after) c.self.view_is
-    (few-told ((length old.heaps.heap.natives + 1) + (length old.heaps.heap.natives + 1)) old new before after
-    (on_both c.settle.result
-    (on_ok_weaker c.settle.result (settled-few (machine old) before sound (machine new) after) e.done)
-    (on_err_weaker c.settle.result (unsettled-few (machine old) before sound (machine new) after refused) e.refused)))
+pub returns-clause-freed_once : goal.returns-clause-freed_once
+returns-clause-freed_once c _ =
+    let h = c.self.inside.runtime in
+    let o = c.self.inside.told in
+    let q = c.reserve.new.self in
+    let d = c.settle-done in
+    let r = c.reserve.ensures in
+    let most = ap (λ (s : State). most_told s.host) c.self.view_is in
+    let w : IsKeptWhole d.new.self o q d.new.out = kept-whole h d.new.self o q d.new.out c.self.invariant.0 r.items r.broken
+    (omega (arith, c.in-Ok.ensures.ok c.self.invariant.0.whole, c.most_told-most.ensures, most)) c.keeps-2.ensures c.keeps.ensures _ (omega arith) d.ensures.few in
+    subst (λ (s : State). TellsFreedOnce s.host d.new.self (told_all s.told) (told_all d.new.out.items)) c.self.view_is
+    (once-whole o q d.new.out w.waited w.before w.room.whole h d.new.self d.ensures.freed_once)

@@ -1,49 +1,113 @@
-use Rattle.std.proofs.Common.{List, ◌<◌, subst, ◌+◌, length}
-use Rattle.cc_names.specs.declared.name.Name.{Name}
-use Rattle.cc_laws_run.specs.Missing.{lost}
-use Rattle.cc_collector.specs.Collected.{progress_of}
-use Rattle.cc_host.specs.Hosted.{Hosted, machine}
-use Rattle.cc_host.specs.Missing.{CannotMiss, IsOfAGraph, TakesBySlice, TakesGarbage}
-use Rattle.cc_host.proofs.Keeping.{hosted}
-use Rattle.cc_host.proofs.Collecting.{collected-keeps}
-use Rattle.cc_host.proofs.Taking.{slice-takes, slice-takes_lost, marking-now}
-use Rattle.cc_host.specs.Calls.{TellsFew}
-use Rattle.cc_host.proofs.Telling.{few-told, sliced-few}
+use Rattle.std.proofs.Common.{arith, ap, subst, sym}
+use Rattle.cc_host.specs.Calls.{Collects}
+use Rattle.cc_host.specs.Queues.{told_all}
+use Rattle.cc_host.specs.Hosts.{State, most_told, progress_of as progress_now}
+use Rattle.cc_host.proofs.Answering.{IsKeptWhole, kept-whole, progress-same}
+use Rattle.cc_collector.specs.Collected.{IsSliced, progress_of}
+use Rattle.cc_host.specs.Hosted.{machine}
+use Rattle.cc_host.specs.Missing.{CannotMiss, IsOfAGraph, TakesBySlice, TakesGarbage, lost_in, WillTake}
+use Rattle.cc_host.proofs.WholeTellings.{collects-whole, slice_takes-whole, sliced-whole}
+use Rattle.cc_host.proofs.Booked.{booked-kept}
+use Rattle.cc_host.specs.Lasting.{TellsFreedOnce}
+use Rattle.cc_host.proofs.LastingTellings.{once-whole}
 use Rattle.cc_host.proofs.host.Host.slice.Goals as goal
 
-pub invariant_of-self : goal.invariant_of-self
-invariant_of-self g c =
-    let e = c.slice.ensures in
-    collected-keeps c.self.inside.heaps c.slice.new.heaps c.self.inside.collector c.slice.new.collector c.self.inside.mark e.keeps e.suspected e.runs c.self.invariant
+pub invariant_of-self-2 : goal.invariant_of-self-2
+invariant_of-self-2 c =
+    let h = c.self.inside.runtime in
+    let o = c.self.inside.told in
+    let q = c.reserve.new.self in
+    let d = c.slice-ended in
+    let r = c.reserve.ensures in
+    let most = ap (λ (s : State). most_told s.host) c.self.view_is in
+    let w : IsKeptWhole d.new.self o q d.new.out = kept-whole h d.new.self o q d.new.out c.self.invariant.0 r.items r.broken
+    (omega (arith, c.in-Ok.ensures.ok c.self.invariant.0.whole, c.most_told-most.ensures, most)) c.keeps-2.ensures c.keeps.ensures _ (omega arith) d.ensures.few in
+    (w.room, c.self.invariant.1, booked-kept c.self.inside.runtime d.new.self c.self.inside.book d.ensures.places c.self.invariant.2)
+
+pub returns-clause-collects : goal.returns-clause-collects
+returns-clause-collects c _ =
+    let h = c.self.inside.runtime in
+    let o = c.self.inside.told in
+    let q = c.reserve.new.self in
+    let d = c.slice-ended in
+    let r = c.reserve.ensures in
+    let most = ap (λ (s : State). most_told s.host) c.self.view_is in
+    let w : IsKeptWhole d.new.self o q d.new.out = kept-whole h d.new.self o q d.new.out c.self.invariant.0 r.items r.broken
+    (omega (arith, c.in-Ok.ensures.ok c.self.invariant.0.whole, c.most_told-most.ensures, most)) c.keeps-2.ensures c.keeps.ensures _ (omega arith) d.ensures.few in
+    subst (λ (s : State). Collects s.host d.new.self (told_all s.told) (told_all d.new.out.items)) c.self.view_is
+    (collects-whole o q d.new.out w.waited w.before w.room.whole h d.new.self d.ensures.collects)
+
+pub returns-clause-sliced : goal.returns-clause-sliced
+returns-clause-sliced c _ =
+    let h = c.self.inside.runtime in
+    let o = c.self.inside.told in
+    let q = c.reserve.new.self in
+    let d = c.slice-ended in
+    let r = c.reserve.ensures in
+    let most = ap (λ (s : State). most_told s.host) c.self.view_is in
+    let w : IsKeptWhole d.new.self o q d.new.out = kept-whole h d.new.self o q d.new.out c.self.invariant.0 r.items r.broken
+    (omega (arith, c.in-Ok.ensures.ok c.self.invariant.0.whole, c.most_told-most.ensures, most)) c.keeps-2.ensures c.keeps.ensures _ (omega arith) d.ensures.few in
+    let steps = d.ensures.sliced.0 in (
+      steps,
+      subst (λ (s : State). IsSliced c.args.units (machine s.host) (machine d.new.self) (progress_now c.of_slice.result) 0 steps (told_all s.told) (told_all d.new.out.items)) c.self.view_is
+          (subst (λ p. IsSliced c.args.units (machine h) (machine d.new.self) p 0 steps (told_all o.items) (told_all d.new.out.items)) (sym (progress-same d.result c.of_slice.result c.of_slice.ensures))
+          (sliced-whole o q d.new.out w.waited w.before w.room.whole c.args.units (machine h) (machine d.new.self) (progress_of d.result) 0 steps d.ensures.sliced.1)),
+    )
 
 pub returns-clause-takes : goal.returns-clause-takes
-returns-clause-takes g c =
-    let e = c.slice.ensures in
-    let telling = g.N.Notices.telling in
-    let old : Hosted = hosted c.self.inside.heaps c.self.inside.collector c.self.inside.mark in
-    let new : Hosted = hosted c.slice.new.heaps c.slice.new.collector c.self.inside.mark in
-    subst (λ (h : Hosted). (ds : List Name) → CannotMiss h ds → TakesBySlice ds new (progress_of c.slice.result) (telling c.args.out.now) (telling c.slice.new.out)) c.self.view_is
-    (slice-takes old c.self.invariant.runs c.args.units 0 e.sliced.0 new (progress_of c.slice.result) (telling c.args.out.now) (telling c.slice.new.out) e.sliced.1 e.stands)
+returns-clause-takes c _ ds cannot =
+    let h = c.self.inside.runtime in
+    let o = c.self.inside.told in
+    let q = c.reserve.new.self in
+    let d = c.slice-ended in
+    let r = c.reserve.ensures in
+    let most = ap (λ (s : State). most_told s.host) c.self.view_is in
+    let w : IsKeptWhole d.new.self o q d.new.out = kept-whole h d.new.self o q d.new.out c.self.invariant.0 r.items r.broken
+    (omega (arith, c.in-Ok.ensures.ok c.self.invariant.0.whole, c.most_told-most.ensures, most)) c.keeps-2.ensures c.keeps.ensures _ (omega arith) d.ensures.few in
+    subst (λ (s : State). TakesBySlice ds d.new.self (progress_now c.of_slice.result) (told_all s.told) (told_all d.new.out.items)) c.self.view_is
+    (subst (λ p. TakesBySlice ds d.new.self p (told_all o.items) (told_all d.new.out.items)) (sym (progress-same d.result c.of_slice.result c.of_slice.ensures))
+    (slice_takes-whole o q d.new.out w.waited w.before w.room.whole ds d.new.self (progress_of d.result)
+    (d.ensures.takes ds (subst (λ (s : State). CannotMiss s.host ds) (sym c.self.view_is) cannot))))
 
 pub returns-clause-begins : goal.returns-clause-begins
-returns-clause-begins g c =
-    let e = c.slice.ensures in
-    let telling = g.N.Notices.telling in
-    let old : Hosted = hosted c.self.inside.heaps c.self.inside.collector c.self.inside.mark in
-    let new : Hosted = hosted c.slice.new.heaps c.slice.new.collector c.self.inside.mark in
-    subst (λ (h : Hosted). 0 < c.args.units → IsOfAGraph h → TakesGarbage h →
-    TakesBySlice (lost h.heaps.heap) new (progress_of c.slice.result) (telling c.args.out.now) (telling c.slice.new.out)) c.self.view_is
-    (slice-takes_lost old c.self.invariant.runs c.args.units 0 e.sliced.0 new (progress_of c.slice.result) (telling c.args.out.now) (telling c.slice.new.out) e.sliced.1 e.stands)
+returns-clause-begins c _ some graph garbage =
+    let h = c.self.inside.runtime in
+    let o = c.self.inside.told in
+    let q = c.reserve.new.self in
+    let d = c.slice-ended in
+    let r = c.reserve.ensures in
+    let most = ap (λ (s : State). most_told s.host) c.self.view_is in
+    let w : IsKeptWhole d.new.self o q d.new.out = kept-whole h d.new.self o q d.new.out c.self.invariant.0 r.items r.broken
+    (omega (arith, c.in-Ok.ensures.ok c.self.invariant.0.whole, c.most_told-most.ensures, most)) c.keeps-2.ensures c.keeps.ensures _ (omega arith) d.ensures.few in
+    subst (λ (s : State). TakesBySlice (lost_in s.host) d.new.self (progress_now c.of_slice.result) (told_all s.told) (told_all d.new.out.items)) c.self.view_is
+    (subst (λ p. TakesBySlice (lost_in h) d.new.self p (told_all o.items) (told_all d.new.out.items)) (sym (progress-same d.result c.of_slice.result c.of_slice.ensures))
+    (slice_takes-whole o q d.new.out w.waited w.before w.room.whole (lost_in h) d.new.self (progress_of d.result)
+    (d.ensures.begins some (subst (λ (s : State). IsOfAGraph s.host) (sym c.self.view_is) graph) (subst (λ (s : State). TakesGarbage s.host) (sym c.self.view_is) garbage))))
 
-pub returns-clause-few : goal.returns-clause-few
-returns-clause-few g c =
-    let e = c.slice.ensures in
-    let telling = g.N.Notices.telling in
-    let old : Hosted = hosted c.self.inside.heaps c.self.inside.collector c.self.inside.mark in
-    let new : Hosted = hosted c.slice.new.heaps c.slice.new.collector c.self.inside.mark in
-    let sound = c.self.invariant.runs.order.sound in
-    let before = telling c.args.out.now in
-    let after = telling c.slice.new.out in
-    subst (λ (h : Hosted). TellsFew (length h.heaps.heap.natives + 1) h new before after) c.self.view_is
-    (few-told (length old.heaps.heap.natives + 1) old new before after
-    (sliced-few (machine old) (machine new) before after sound (marking-now old c.self.invariant.runs) c.args.units (progress_of c.slice.result) 0 e.sliced.0 e.sliced.1))
+pub returns-clause-later : goal.returns-clause-later
+returns-clause-later c _ some ds will =
+    let h = c.self.inside.runtime in
+    let o = c.self.inside.told in
+    let q = c.reserve.new.self in
+    let d = c.slice-ended in
+    let r = c.reserve.ensures in
+    let most = ap (λ (s : State). most_told s.host) c.self.view_is in
+    let w : IsKeptWhole d.new.self o q d.new.out = kept-whole h d.new.self o q d.new.out c.self.invariant.0 r.items r.broken
+    (omega (arith, c.in-Ok.ensures.ok c.self.invariant.0.whole, c.most_told-most.ensures, most)) c.keeps-2.ensures c.keeps.ensures _ (omega arith) d.ensures.few in
+    subst (λ (s : State). TakesBySlice ds d.new.self (progress_now c.of_slice.result) (told_all s.told) (told_all d.new.out.items)) c.self.view_is
+    (subst (λ p. TakesBySlice ds d.new.self p (told_all o.items) (told_all d.new.out.items)) (sym (progress-same d.result c.of_slice.result c.of_slice.ensures))
+    (slice_takes-whole o q d.new.out w.waited w.before w.room.whole ds d.new.self (progress_of d.result)
+    (d.ensures.later some ds (subst (λ (s : State). WillTake s.host ds) (sym c.self.view_is) will))))
+
+pub returns-clause-freed_once : goal.returns-clause-freed_once
+returns-clause-freed_once c _ =
+    let h = c.self.inside.runtime in
+    let o = c.self.inside.told in
+    let q = c.reserve.new.self in
+    let d = c.slice-ended in
+    let r = c.reserve.ensures in
+    let most = ap (λ (s : State). most_told s.host) c.self.view_is in
+    let w : IsKeptWhole d.new.self o q d.new.out = kept-whole h d.new.self o q d.new.out c.self.invariant.0 r.items r.broken
+    (omega (arith, c.in-Ok.ensures.ok c.self.invariant.0.whole, c.most_told-most.ensures, most)) c.keeps-2.ensures c.keeps.ensures _ (omega arith) d.ensures.few in
+    subst (λ (s : State). TellsFreedOnce s.host d.new.self (told_all s.told) (told_all d.new.out.items)) c.self.view_is
+    (once-whole o q d.new.out w.waited w.before w.room.whole h d.new.self d.ensures.freed_once)

@@ -1,15 +1,19 @@
-use Rattle.std.proofs.Common.{subst}
-use Rattle.cc_host.proofs.Keeping.{change-keeps}
-use Rattle.cc_heaps.specs.Leaving.{NoneCame, NothingLeft}
-use Rattle.cc_host.specs.Hosted.{Hosted}
+use Rattle.cc_host.proofs.HasRoom.{after_nothing}
+use Rattle.cc_host.proofs.Booked.{booked-kept}
+use Rattle.cc_host.proofs.Quietly.{none-comes, quietly}
 use Rattle.cc_host.proofs.host.Host.unset_entry.Goals as goal
 
 pub invariant_of-self : goal.invariant_of-self
 invariant_of-self c =
-    change-keeps c.self.inside.heaps c.unset_entry.new.heaps c.self.inside.collector c.self.inside.mark c.unset_entry.ensures.change c.unset_entry.ensures.marking.well c.self.invariant
+    let d = c.unset_entry-done in
+    let h = c.self.inside.runtime in (
+      after_nothing h d.new.self c.self.inside.told c.keeps.ensures d.ensures.none_came c.self.invariant.0,
+      c.self.invariant.1,
+      booked-kept h d.new.self c.self.inside.book d.ensures.places c.self.invariant.2,
+    )
+
+pub returns-clause-quiet : goal.returns-clause-quiet
+returns-clause-quiet c = quietly _ _ c.unset_entry-done.new.self c.self.view_is c.unset_entry-done.ensures.none_left c.unset_entry-done.ensures.places
 
 pub returns-clause-none_came : goal.returns-clause-none_came
-returns-clause-none_came c = subst (λ (k : Hosted). NoneCame k.heaps.heap c.unset_entry.new.heaps.heap) c.self.view_is c.unset_entry.ensures.none_came
-
-pub returns-clause-none_left : goal.returns-clause-none_left
-returns-clause-none_left c = subst (λ (k : Hosted). NothingLeft k.heaps.heap c.unset_entry.new.heaps.heap) c.self.view_is c.unset_entry.ensures.none_left
+returns-clause-none_came c = none-comes _ _ c.unset_entry-done.new.self c.self.view_is c.unset_entry-done.ensures.none_came

@@ -1,4 +1,0 @@
-use Rattle.cc_host.proofs.host.Host.slice.Given as goal
-
-abbrev pub ghosts-slice : goal.ghosts-slice
-ghosts-slice g a = record { name = a.blank.name; parts = a.blank.parts }
