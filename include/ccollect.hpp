@@ -24,6 +24,11 @@ using object = cc_object;
 inline object nothing() noexcept { return object{0, 0, 0, CC_NOTHING}; }
 inline const char *text(cc_status status) noexcept { return cc_status_text(status); }
 
+// An entry of a weak map.
+struct key_and_value {
+    object key, value;
+};
+
 // What was asked for, and the status of the call.
 template <typename T> class expected {
     cc_status status_;
@@ -189,6 +194,14 @@ public:
     cc_status unset_entry(const object &map, const object &key) noexcept { return cc_unset_entry(&state_, &map, &key); }
     expected<object> entry(const object &map, const object &key) noexcept { return ask<object>(cc_entry, &map, &key); }
 
+    // Walks begin at nothing(), and go on from what they came to.
+    expected<object> next_object(const object &x) noexcept { return ask<object>(cc_next_object, &x); }
+    expected<key_and_value> next_entry(const object &map, const object &key) noexcept {
+        key_and_value next = {nothing(), nothing()};
+        const cc_status status = cc_next_entry(&state_, &map, &key, &next.key, &next.value);
+        return expected<key_and_value>(status, next);
+    }
+
     // True where the collection, or the marking, came to its end.
     expected<bool> slice(uint32_t units) noexcept { return ask_whether(cc_slice, units); }
     expected<bool> mark(uint32_t units) noexcept { return ask_whether(cc_mark, units); }
@@ -204,10 +217,12 @@ public:
     expected<uint64_t> natives() noexcept { return ask<uint64_t>(cc_natives); }
     expected<uint64_t> scripts() noexcept { return ask<uint64_t>(cc_scripts); }
     expected<bool> has_suspects() noexcept { return ask_whether(cc_has_suspects); }
+    expected<uint64_t> bytes() noexcept { return ask<uint64_t>(cc_bytes); }
+    expected<bool> is_due() noexcept { return ask_whether(cc_is_due); }
     expected<bool> why(const object &x) noexcept { return ask_whether(cc_why, &x); }
     expected<cc_step> next_step() noexcept { return ask<cc_step>(cc_next_step); }
-    expected<uint64_t> data(const object &native) noexcept { return ask<uint64_t>(cc_data, &native); }
-    cc_status set_data(const object &native, uint64_t data) noexcept { return cc_set_data(&state_, &native, data); }
+    expected<uint64_t> data(const object &x) noexcept { return ask<uint64_t>(cc_data, &x); }
+    cc_status set_data(const object &x, uint64_t data) noexcept { return cc_set_data(&state_, &x, data); }
 };
 
 // gcc 12 and later takes a root that moves on, or ends and leaves, for one that is still among the roots

@@ -150,7 +150,7 @@ run_all() {
     shift 2
     # shellcheck disable=SC2086
     must "building ccollect_heap.c" "$cc" -std=c11 $warnings "$@" -c include/ccollect_heap.c -o "$work/heap.o" || return
-    for name in first cycle refused marks churn ref own; do
+    for name in first cycle stops many refused marks churn ref own; do
         if [ -e "tools/c/$name.cpp" ] && ! has_cxx; then
             echo "c: there is no $cxx, so $name.cpp was not built"
             continue

@@ -2,20 +2,26 @@
  *
  *   churn [OPERATIONS [SEED]]: 1000000 operations of seed 7 where they are left out.
  *
- * The model is arrays: natives, script objects, their slots, the roots, the entries of weak maps, and which reflectors are
- * preserved. It frees nothing and counts nothing; it only says what the roots reach. Each operation is done to both.
+ * The model is arrays: natives, script objects, their slots and numbers of the program's, the roots, the weak references, the
+ * entries of weak maps, and which reflectors are preserved. It frees nothing and counts nothing; it only says what the roots reach.
+ * Each operation is done to both.
  *
  * - What a call answers is what the model says: contents of slots, roots and entries, and the status of a call that can't be
  *   done.
- * - What is told as unlinked or freed is not reached at that time, and nothing is freed twice.
+ * - What is told as unlinked or freed is not reached at that time, and nothing is freed twice. It comes with its number.
+ * - A weak reference gives its native, reached or not, until that was told as unlinked or freed, and nothing from then on.
  * - A script object that nothing led to when a marking began was told as freed by its end, unless cc_wrap answered it meanwhile.
+ * - What nothing reached after cc_gc is told as unlinked by the end of the next collection, each native of it; but not where a call
+ *   between was handed something that nothing reaches, or a marking began. What was unlinked is freed by the next cc_gc.
  * - After each settle the library has exactly what the model reaches: as many natives and script objects, each of them there
  *   with the contents of the model, and all others gone and told as freed.
  * - The steps of cc_why are steps in the model, and there are none where nothing leads to the object.
+ * - A walk comes to each object once that was made and not told as unlinked or freed, and to no other; one over a weak map to each
+ *   entry whose key was not told as freed. The bytes held are those of these.
  *
  * Operations are done to objects that are reached, since the contracts speak of these. Some are written that nothing reaches any
- * more, which must change nothing of what is reached. A native that was told as unlinked must be refused, and so must objects
- * that are gone, of another collector and made up.
+ * more, which must change nothing of what is reached. What nothing reaches may come back by a weak reference, as it was written
+ * last. A native that was told as unlinked must be refused, and so must objects that are gone, of another collector and made up.
  *
  * The meaning is that of docs/COMMANDS.md. A native refers to what its slots hold, and to its reflector once that is preserved;
  * a reflector to what its slots hold and to its native; a proxy to its delegate. An entry gives its value where map and key are
@@ -28,6 +34,7 @@
 enum {
     NUMBERED = 12,     /* roots of each kind that are used, of 1023 */
     HELD = 400,        /* roots by cc_hold */
+    WEAKS = 200,       /* weak references */
     SEASON = 32768,    /* so many operations more is held than released, then as many less */
     MOST_THINGS = 1 << 16,
     MOST_ENTRIES = 1 << 14,
@@ -68,7 +75,8 @@ struct thing {
     uint32_t other;        /* a native's reflector, a reflector's native, a proxy's delegate; or 0 */
     uint32_t reached;      /* the number of the last walk that came here */
     uint32_t lost_in;      /* the library's marking that has to free it; or 0 */
-    uint64_t data;         /* of a native */
+    bool is_lost;          /* a native that nothing reached after cc_gc: the next collection has to unlink it */
+    uint64_t data;         /* its number of the program's */
 };
 struct entry {
     uint32_t map, key, value;
@@ -76,6 +84,11 @@ struct entry {
 struct held {
     cc_root root;
     uint32_t thing;
+    bool is_used;
+};
+struct weak {
+    cc_weak weak;
+    uint32_t thing; /* its native; 0 once that was told as unlinked or freed */
     bool is_used;
 };
 
@@ -86,11 +99,13 @@ static struct entry entries[MOST_ENTRIES];
 static uint32_t entry_count;
 static uint32_t native_roots[NUMBERED], script_roots[NUMBERED];
 static struct held helds[HELD];
+static struct weak weaks[WEAKS];
 static uint32_t native_at[NATIVE_LIMIT + 1], script_at[SCRIPT_LIMIT + 1]; /* by number */
 static uint32_t live; /* things that were not told as freed */
 static uint32_t last_native, last_script; /* the last numbers */
 static uint32_t markings; /* that began */
 static bool is_marking;   /* whether the last of them goes on */
+static bool is_certain;   /* whether what was lost after cc_gc is so still */
 
 static cc_object stale[STALE]; /* objects that are gone for good */
 static uint32_t stale_count;
@@ -98,7 +113,8 @@ static uint32_t stale_count;
 static cc_collector c = CC_COLLECTOR_CLOSED;
 static uint64_t mark;
 static unsigned long operation;
-static unsigned long told_freed, told_unlinked, settles, refused, steps_seen, collectors, most_live, markings_ended;
+static unsigned long told_freed, told_unlinked, settles, refused, steps_seen, collectors, most_live, markings_ended, brought_back,
+    walked, taken;
 
 static void fail(const char *what, uint32_t t) {
     printf("churn: operation %lu: %s", operation, what);
@@ -190,6 +206,11 @@ static uint32_t thing_named(uint32_t kind, uint32_t number) {
     return kind == CC_NATIVE ? native : 0;
 }
 
+static void end_weaks(uint32_t t) {
+    for (unsigned i = 0; i < WEAKS; i++)
+        if (weaks[i].thing == t) weaks[i].thing = 0;
+}
+
 static void fetch(void) {
     cc_told told;
     uint32_t status;
@@ -202,7 +223,8 @@ static void fetch(void) {
         is_marked = true;
         SO(!is_reached(t), "an object that is reached was told as unlinked or freed", t);
         SO(!things[t].is_freed, "an object was told after it was freed", t);
-        SO(told.kind != CC_NATIVE || told.data == things[t].data, "a native was told with another number", t);
+        SO(told.data == things[t].data, "an object was told with another number", t);
+        if (is_native(t)) end_weaks(t);
         if (told.what == CC_UNLINKED) {
             SO(is_native(t), "a script object was told as unlinked", t);
             things[t].is_unlinked = true;
@@ -307,6 +329,13 @@ static void open_collector(void) {
     memset(native_at, 0, sizeof native_at);
     memset(script_at, 0, sizeof script_at);
     last_native = last_script = 0;
+    memset(weaks, 0, sizeof weaks);
+}
+
+/* Now and then an object gets a number of the program's. */
+static void change_data_of(uint32_t t) {
+    things[t].data = draw64();
+    TRY(cc_set_data(&c, object_of(t), things[t].data));
 }
 
 static void make_native(void) {
@@ -319,16 +348,14 @@ static void make_native(void) {
     last_native = made.number;
     uint32_t t = add_thing(&made, 0, slots, 0);
     native_roots[r] = native_at[made.number] = t;
-    if (draw(4) > 0) {
-        things[t].data = draw64();
-        TRY(cc_set_data(&c, &made, things[t].data));
-    }
+    if (draw(4) > 0) change_data_of(t);
 }
 
 static void add_script(uint32_t r, const cc_object *made, uint8_t what, uint8_t slots, uint32_t other) {
     SO(made->kind == CC_SCRIPT && made->mark == mark && made->number == last_script + 1, "a wrong name", 0);
     last_script = made->number;
-    script_roots[r] = script_at[made->number] = add_thing(made, what, slots, other);
+    uint32_t t = script_roots[r] = script_at[made->number] = add_thing(made, what, slots, other);
+    if (draw(4) == 0) change_data_of(t);
 }
 
 static void make_plain(void) {
@@ -390,6 +417,7 @@ static void store_unreached(void) {
     uint32_t i = draw(things[x].slots);
     WANT(cc_store(&c, object_of(x), (uint16_t)i, object_of(y)), things[x].is_unlinked ? CC_GONE : CC_OK);
     if (!things[x].is_unlinked) things[x].slot[i] = y;
+    is_certain = false;
 }
 
 static void move_slot(void) {
@@ -402,9 +430,51 @@ static void move_slot(void) {
     things[from].slot[j] = 0;
 }
 
+static void enter(uint32_t map, uint32_t key, uint32_t value);
+
+/* What cc_wrap answered goes at once where it is kept: into a root, a slot or an entry, or it gets a proxy. */
+static void keep_reflector(uint32_t t) {
+    uint32_t r = draw(NUMBERED), x = draw_holder(), map = draw_map(), key = draw_script();
+    cc_object made;
+    cc_root root;
+    switch (draw(6)) {
+    case 0:
+        TRY(cc_set_script_root(&c, (uint16_t)r, object_of(t)));
+        script_roots[r] = t;
+        break;
+    case 1:
+        TRY(cc_preserve(&c, object_of(t)));
+        preserve(t);
+        break;
+    case 2:
+        if (x == 0) return;
+        uint32_t i = draw(things[x].slots);
+        TRY(cc_store(&c, object_of(x), (uint16_t)i, object_of(t)));
+        preserve(x);
+        things[x].slot[i] = t;
+        break;
+    case 3:
+        if (map == 0 || key == 0) return;
+        if (draw(2) == 0)
+            enter(map, t, key);
+        else
+            enter(map, key, t);
+        break;
+    case 4:
+        TRY(cc_new_proxy(&c, (uint16_t)r, object_of(t), &made));
+        preserve(t);
+        add_script(r, &made, CC_PROXY, 0, t);
+        break;
+    default:
+        TRY(cc_hold(&c, object_of(t), &root));
+        TRY(cc_release(&c, &root));
+    }
+}
+
 /* The reflector of a native, put somewhere or nowhere. */
 static void wrap(void) {
     cc_object made;
+    uint64_t data;
     uint32_t native = draw_native(), t;
     if (native == 0) return;
     TRY(cc_wrap(&c, object_of(native), &made));
@@ -417,15 +487,11 @@ static void wrap(void) {
     } else {
         t = add_thing(&made, CC_REFLECTS, 4, native);
         things[native].other = t;
+        TRY(cc_data(&c, &made, &data));
+        SO(data == 0, "a reflector that was made anew has a number", t);
     }
-    uint32_t where = draw(4), r = draw(NUMBERED);
-    if (where == 0) return;
-    TRY(cc_set_script_root(&c, (uint16_t)r, &made));
-    script_roots[r] = t;
-    if (where == 1) {
-        TRY(cc_preserve(&c, &made));
-        preserve(t);
-    }
+    if (draw(4) == 0) change_data_of(t);
+    if (draw(4) > 0) keep_reflector(t);
 }
 
 static uint32_t find_entry(uint32_t map, uint32_t key) {
@@ -434,15 +500,18 @@ static uint32_t find_entry(uint32_t map, uint32_t key) {
     return i;
 }
 
-static void set_entry(void) {
-    uint32_t map = draw_map(), key = draw_script(), value = draw_script();
-    if (map == 0 || key == 0 || value == 0) return;
+static void enter(uint32_t map, uint32_t key, uint32_t value) {
     TRY(cc_set_entry(&c, object_of(map), object_of(key), object_of(value)));
     preserve(key);
     uint32_t i = find_entry(map, key);
     if (i == entry_count) entry_count++;
     SO(entry_count < MOST_ENTRIES, "the model has no place left for an entry", 0);
     entries[i] = (struct entry){map, key, value};
+}
+
+static void set_entry(void) {
+    uint32_t map = draw_map(), key = draw_script(), value = draw_script();
+    if (map != 0 && key != 0 && value != 0) enter(map, key, value);
 }
 
 static void unset_entry(void) {
@@ -523,16 +592,17 @@ static void check_thing(uint32_t t) {
     SO(!x->is_freed, "an object that is reached was told as freed", t);
     TRY(cc_is_there(&c, &x->object));
     check_slots(t);
-    if (is_native(t)) {
-        TRY(cc_data(&c, &x->object, &data));
-        SO(data == x->data, "a native has another number", t);
-    } else {
+    TRY(cc_data(&c, &x->object, &data));
+    SO(data == x->data, "an object has another number", t);
+    if (!is_native(t)) {
         TRY(cc_kind(&c, &x->object, &kind));
         SO(kind == x->what, "a script object is of another kind", t);
     }
     if (x->what == CC_REFLECTS) {
         TRY(cc_unwrap(&c, &x->object, &found));
         SO(is_thing(&found, x->other), "a reflector stands for another native", t);
+        TRY(cc_is_preserved(&c, &x->object, &kind));
+        SO(kind == (x->is_preserved ? 1 : 0), "a reflector is preserved, or is not, against the model", t);
     }
 }
 
@@ -542,10 +612,55 @@ static void read_thing(void) {
 }
 
 static void change_data(void) {
+    uint32_t t = draw_reached();
+    if (t != 0) change_data_of(t);
+}
+
+static void refer_weakly(void) {
+    struct weak *w = &weaks[draw(WEAKS)];
     uint32_t t = draw_native();
     if (t == 0) return;
-    things[t].data = draw64();
-    TRY(cc_set_data(&c, object_of(t), things[t].data));
+    TRY(cc_weak_of(&c, object_of(t), &w->weak));
+    w->thing = t;
+    w->is_used = true;
+}
+
+/* One whose native nothing reaches, where there is one, or any other. */
+static const struct weak *draw_weak(void) {
+    mark_reached();
+    for (unsigned i = 0; i < 2 * WEAKS; i++) {
+        const struct weak *w = &weaks[draw(WEAKS)];
+        if (w->thing != 0 && !is_reached(w->thing)) return w;
+    }
+    return &weaks[draw(WEAKS)];
+}
+
+/* A weak reference gives its native into a root, whether anything reaches it or not. */
+static void follow(void) {
+    static const cc_object untouched = {5, 5, 5, 5};
+    const struct weak *w = draw(2) == 0 ? draw_weak() : &weaks[draw(WEAKS)];
+    struct held *h = &helds[draw(HELD)];
+    cc_object found = untouched;
+    cc_root root;
+    uint32_t r = draw(NUMBERED), ended, t = w->thing;
+    if (!w->is_used || h->is_used) return;
+    TRY(cc_ended(&c, &w->weak, &ended));
+    SO(ended == (t == 0 ? 1 : 0), "a weak reference has ended, or not, against the model", t);
+    if (t != 0) {
+        mark_reached();
+        if (!is_reached(t)) {
+            brought_back++;
+            is_certain = false;
+        }
+    }
+    if (draw(2) == 0) {
+        WANT(cc_upgrade_into(&c, (uint16_t)r, &w->weak, &found), t == 0 ? CC_NONE : CC_OK);
+        native_roots[r] = t;
+    } else {
+        WANT(cc_upgrade(&c, &w->weak, &root, &found), t == 0 ? CC_NONE : CC_OK);
+        *h = (struct held){root, t, t != 0};
+    }
+    SO(is_same(&found, t == 0 ? &untouched : object_of(t)), "a weak reference gave another native", t);
 }
 
 /* Each step must rest on a root, or on steps before it, as the model has it. */
@@ -604,6 +719,75 @@ static void ask_why(void) {
         things[t].reached = walk;
     }
     SO(status == CC_NONE && t == asked, "the last step is another object's", asked);
+}
+
+/* WALKS, over what the model has not as freed. */
+
+static bool is_away(uint32_t t) { return things[t].what == UNUSED || things[t].is_freed; }
+
+static void walk_objects(void) {
+    cc_object x = nothing, next;
+    cc_status status;
+    uint32_t before = 0, count = 0, wanted = 0;
+    walk++;
+    while ((status = cc_next_object(&c, &x, &next)) == CC_OK) {
+        const uint32_t t = thing_named(next.kind, next.number);
+        SO(t != 0 && is_same(&next, object_of(t)) && !is_away(t) && !things[t].is_unlinked, "a walk came to what is not there", t);
+        SO(!is_reached(t), "a walk came twice to an object", t);
+        things[t].reached = walk;
+        if (is_native(t)) {
+            SO(count == 0 || (is_native(before) && things[before].object.number < next.number), "a walk is out of order", t);
+        }
+        before = t;
+        x = next;
+        count++;
+    }
+    SO(status == CC_NONE, "a walk ended by another status", before);
+    for (uint32_t t = 1; t < thing_count; t++)
+        if (!is_away(t) && !things[t].is_unlinked) wanted++;
+    SO(count == wanted, "a walk left objects out", 0);
+    walked += count;
+}
+
+static void walk_entries(void) {
+    cc_object key = nothing, next, value;
+    cc_status status;
+    uint32_t map = draw_map(), count = 0, wanted = 0;
+    if (map == 0) return;
+    walk++;
+    while ((status = cc_next_entry(&c, object_of(map), &key, &next, &value)) == CC_OK) {
+        const uint32_t k = thing_named(next.kind, next.number), i = k == 0 ? entry_count : find_entry(map, k);
+        SO(i < entry_count && is_same(&next, object_of(k)) && is_thing(&value, entries[i].value), "a walk came to no entry", map);
+        SO(!is_reached(k), "a walk came twice to an entry", map);
+        things[k].reached = walk;
+        key = next;
+        count++;
+    }
+    SO(status == CC_NONE, "a walk over entries ended by another status", map);
+    for (uint32_t i = 0; i < entry_count; i++)
+        if (entries[i].map == map && !is_away(entries[i].key)) wanted++;
+    SO(count == wanted, "a walk left entries out", map);
+    walked += count;
+}
+
+static void count_bytes(void) {
+    uint64_t bytes, wanted = 0;
+    uint32_t due, running;
+    for (uint32_t t = 1; t < thing_count; t++)
+        if (!is_away(t)) wanted += (is_native(t) ? 272u : 254u) + 8u * things[t].slots;
+    for (uint32_t i = 0; i < entry_count; i++)
+        if (!is_away(entries[i].map) && !is_away(entries[i].key)) wanted += 44;
+    TRY(cc_bytes(&c, &bytes));
+    SO(bytes == wanted, "other bytes are held", 0);
+    TRY(cc_is_due(&c, &due));
+    TRY(cc_running(&c, &running));
+    SO(due <= 1 && due >= running, "a collection runs and is not due", 0);
+}
+
+static void walk_all(void) {
+    walk_objects();
+    walk_entries();
+    count_bytes();
 }
 
 /* CALLS THAT ARE REFUSED. They change nothing: later contents show it. */
@@ -705,6 +889,31 @@ static void check_lost(void) {
     is_marking = false;
 }
 
+/* A script collection was done, after which nothing reaches these natives. */
+static void note_garbage(void) {
+    fetch();
+    mark_reached();
+    for (uint32_t t = 1; t < thing_count; t++) {
+        struct thing *x = &things[t];
+        if (x->what == UNUSED || !is_native(t)) continue;
+        SO(!x->is_unlinked || x->is_freed, "a native that was unlinked was left by cc_gc", t);
+        x->is_lost = !x->is_freed && !is_reached(t);
+    }
+    is_certain = true;
+}
+
+/* A collection came to its end. */
+static void check_garbage(void) {
+    fetch();
+    for (uint32_t t = 1; t < thing_count && is_certain; t++) {
+        const struct thing *x = &things[t];
+        if (x->what == UNUSED || !is_native(t) || !x->is_lost) continue;
+        SO(x->is_unlinked || x->is_freed, "a collection left what nothing reached after cc_gc", t);
+        taken++;
+    }
+    is_certain = false;
+}
+
 static void check_marking(void) {
     uint32_t goes_on;
     TRY(cc_marking(&c, &goes_on));
@@ -717,16 +926,20 @@ static void slice(void) {
     TRY(cc_running(&c, &running));
     SO(over + running == 1, "a slice ended its collection and left it running, or neither", 0);
     if (is_marking) check_lost();
+    if (over == 1) check_garbage();
     check_marking();
 }
 
 static void mark_scripts(void) {
     uint32_t over, running;
+    TRY(cc_running(&c, &running));
+    if (running == 0) is_certain = false;
     if (!is_marking) note_lost();
     is_marking = true;
     TRY(cc_mark(&c, 1 + draw(60), &over));
     TRY(cc_running(&c, &running));
     SO(running == 0, "a collection runs beside a marking", 0);
+    if (is_certain) check_garbage();
     if (over == 1) {
         check_lost();
         markings_ended++;
@@ -748,12 +961,17 @@ static void collect(void) {
     TRY(cc_running(&c, &running));
     SO(running == 0, "a collection runs after cc_collect", 0);
     if (is_marking) check_lost();
+    check_garbage();
 }
 
 static void collect_scripts(void) {
+    uint32_t running;
+    TRY(cc_running(&c, &running));
     TRY(cc_gc(&c));
     is_marking = false;
     check_marking();
+    if (running == 1) check_garbage();
+    note_garbage();
 }
 
 /* Suspects that are alive are forgotten once. A collection that runs goes on. */
@@ -832,6 +1050,8 @@ static void check_all(void) {
     }
     check_roots();
     check_entries();
+    walk_all();
+    mark_reached();
     TRY(cc_natives(&c, &natives));
     TRY(cc_scripts(&c, &scripts));
     SO(natives == natives_reached, "there are more or fewer natives than are reached", 0);
@@ -846,7 +1066,7 @@ static void check_all(void) {
 static void settle(void) {
     uint32_t running;
     TRY(cc_settle(&c));
-    is_marking = false;
+    is_marking = is_certain = false;
     fetch();
     TRY(cc_running(&c, &running));
     SO(running == 0, "a collection runs", 0);
@@ -904,7 +1124,8 @@ static const struct {
     {80, make_native}, {80, make_plain},      {20, make_map},     {30, make_proxy}, {90, set_native_root},
     {210, store},      {10, store_unreached}, {30, move_slot},    {70, wrap},       {80, set_script_root},
     {50, set_entry},   {20, unset_entry},     {30, read_entry},   {25, hold},       {25, release},
-    {60, read_thing},  {10, change_data},     {30, call_wrongly}, {6, ask_why},     {4, ask_why_not},
+    {60, read_thing},  {15, change_data},     {30, call_wrongly}, {6, ask_why},     {4, ask_why_not},
+    {20, refer_weakly}, {20, follow}, {2, walk_all}, {10, walk_entries},
     {50, do_units},    {2, collect},          {6, collect_scripts}, {4, forget_suspects},
 };
 enum { KINDS = sizeof operations / sizeof operations[0] };
@@ -928,5 +1149,7 @@ int main(int count, char **words) {
     printf("%lu markings, of which %lu came to their end in units\n", (unsigned long)markings, markings_ended);
     printf("%lu objects freed, natives unlinked %lu times, at most %lu objects; %lu steps of why\n", told_freed, told_unlinked,
            most_live, steps_seen);
+    printf("%lu natives that nothing reached were brought back by weak references, and %lu were taken that nothing reached after\n"
+           "cc_gc; walks came to %lu\n", brought_back, taken, walked);
     return 0;
 }

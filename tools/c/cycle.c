@@ -1,31 +1,32 @@
 /* One cycle through both heaps, from C.
  *
- * A page has a button, and the button has a listener, which knows the button. All three are let go, and are collected in
- * slices. Script objects that nothing holds are freed in slices, too. The program has an element of its own for each native, and frees it when the native is told as freed. Then each
- * status is met once. The program prints what it does, and ends with 0 where all was as the header says. */
+ * A page has a button, and the button has a listener, which knows the button. All three are let go, and are collected in slices.
+ * Script objects that nothing holds are freed in slices, too. The program has an element of its own for each native, and one for
+ * the listener, and frees it when its object is told as freed. Then each status is met once. The program prints what it does, and
+ * ends with 0 where all was as the header says. */
 #include "ccollect.h"
 #include "expect.h"
 
 static const cc_object nothing = {0, 0, 0, CC_NOTHING};
 
-/* What the program has of a native. The native knows it by its number. */
+/* What the program has of an object. The object knows it by its number of the program's. */
 struct element {
     const char *title;
 };
 
 static int elements;
 
-static void give_element(cc_collector *c, const cc_object *native, const char *title) {
+static void give_element(cc_collector *c, const cc_object *x, const char *title) {
     struct element *element = malloc(sizeof *element);
     if (element == NULL) exit(1);
     element->title = title;
     elements++;
-    TRY(cc_set_data(c, native, (uint64_t)(uintptr_t)element));
+    TRY(cc_set_data(c, x, (uint64_t)(uintptr_t)element));
 }
 
-static struct element *element_of(cc_collector *c, const cc_object *native) {
+static struct element *element_of(cc_collector *c, const cc_object *x) {
     uint64_t data;
-    TRY(cc_data(c, native, &data));
+    TRY(cc_data(c, x, &data));
     return (struct element *)(uintptr_t)data;
 }
 
@@ -42,7 +43,7 @@ static int is_same(const cc_object *x, const cc_object *y) {
     return x->mark == y->mark && x->key == y->key && x->number == y->number && x->kind == y->kind;
 }
 
-/* Fetches what was told, prints it, and frees the elements of natives that are freed. How many objects were freed. */
+/* Fetches what was told, prints it, and frees the elements of what is freed. How many objects were freed. */
 static unsigned fetch(cc_collector *c) {
     static const char *const did[] = {"?", "unlinked", "freed", "given up"};
     cc_told told;
@@ -53,7 +54,7 @@ static unsigned fetch(cc_collector *c) {
         printf("    told: %s %s", name(told.kind, told.number), did[told.what]);
         if (told.what == CC_FREED) {
             freed++;
-            if (told.kind == CC_NATIVE && told.data != 0) {
+            if (told.data != 0) {
                 struct element *element = (struct element *)(uintptr_t)told.data;
                 printf(", and with it goes the element \"%s\"", element->title);
                 free(element);
@@ -123,13 +124,15 @@ static void build(cc_collector *c, struct page *p) {
     printf("  %s is what script has of the button\n", name(p->reflector.kind, p->reflector.number));
 
     TRY(cc_new_plain(c, 1, 1, &p->listener));
+    HOLDS(element_of(c, &p->listener) == NULL);
+    give_element(c, &p->listener, "listener");
     TRY(cc_store(c, &p->listener, 0, &p->reflector));
     TRY(cc_store(c, &p->button, 0, &p->listener));
     TRY(cc_slots(c, &p->button, &slots));
     TRY(cc_slot(c, &p->button, 0, &found));
     HOLDS(slots == 2 && is_same(&found, &p->listener));
-    printf("  %s is a listener: the button holds it, and it holds %s\n", name(p->listener.kind, p->listener.number),
-           name(p->reflector.kind, p->reflector.number));
+    printf("  %s is a %s: the button holds it, and it holds %s\n", name(p->listener.kind, p->listener.number),
+           element_of(c, &p->listener)->title, name(p->reflector.kind, p->reflector.number));
 
     TRY(cc_new_map(c, 2, &p->map));
     TRY(cc_new_plain(c, 3, 1, &p->note));
@@ -352,6 +355,96 @@ static void hold_many(cc_collector *c) {
     HOLDS(fetch(c) == 1);
 }
 
+/* A reflector has a number beside that of its native. The one that is made when it is gone has none. */
+static void number_reflectors(cc_collector *c) {
+    cc_object native, reflector;
+    cc_told told;
+    uint64_t data;
+    printf("A reflector gets a number of its own.\n");
+    TRY(cc_new_native(c, 2, 0, &native));
+    TRY(cc_set_data(c, &native, 5));
+    TRY(cc_wrap(c, &native, &reflector));
+    TRY(cc_data(c, &reflector, &data));
+    HOLDS(data == 0);
+    TRY(cc_set_data(c, &reflector, 6));
+    TRY(cc_wrap(c, &native, &reflector));
+    TRY(cc_data(c, &reflector, &data));
+    HOLDS(data == 6);
+    TRY(cc_data(c, &native, &data));
+    HOLDS(data == 5);
+    TRY(cc_gc(c));
+    TRY(cc_next_told(c, &told));
+    HOLDS(told.what == CC_FREED && told.kind == CC_REFLECTOR && told.data == 6);
+    TRY(cc_wrap(c, &native, &reflector));
+    TRY(cc_data(c, &reflector, &data));
+    HOLDS(data == 0);
+    /* what was told of the one before and is fetched later has the number of the new one */
+    TRY(cc_set_data(c, &reflector, 7));
+    TRY(cc_gc(c));
+    TRY(cc_wrap(c, &native, &reflector));
+    TRY(cc_set_data(c, &reflector, 8));
+    TRY(cc_next_told(c, &told));
+    HOLDS(told.what == CC_FREED && told.kind == CC_REFLECTOR && told.data == 8);
+    TRY(cc_gc(c));
+    TRY(cc_set_native_root(c, 2, &nothing));
+    TRY(cc_next_told(c, &told));
+    HOLDS(told.what == CC_FREED && told.kind == CC_REFLECTOR && told.data == 8);
+    TRY(cc_next_told(c, &told));
+    HOLDS(told.what == CC_FREED && told.kind == CC_NATIVE && told.data == 5);
+    HOLDS(fetch(c) == 0);
+}
+
+/* A walk over all objects, and one over the entries of a weak map. */
+static void walk_over(cc_collector *c) {
+    cc_object x = nothing, next, key = nothing, value, map, a[3], found;
+    uint64_t natives, scripts, count = 0, before, after;
+    uint32_t due;
+    uint16_t r = 0;
+    printf("A program walks over what is there.\n");
+    TRY(cc_bytes(c, &before));
+    TRY(cc_new_map(c, 13, &map));
+    for (; r < 3; r++) {
+        TRY(cc_new_plain(c, (uint16_t)(10 + r), 2, &a[r]));
+        TRY(cc_set_entry(c, &map, &a[r], &map));
+    }
+    TRY(cc_set_entry(c, &map, &a[0], &a[1]));
+    TRY(cc_bytes(c, &after));
+    HOLDS(after == before + 4 * 254 + 3 * 2 * 8 + 3 * 44);
+    printf("  objects:");
+    while (cc_next_object(c, &x, &next) == CC_OK) {
+        printf(" %s", name(next.kind, next.number));
+        HOLDS(next.kind != CC_NATIVE || x.kind == CC_NOTHING || x.kind == CC_NATIVE);
+        x = next;
+        count++;
+    }
+    printf("\n");
+    TRY(cc_natives(c, &natives));
+    TRY(cc_scripts(c, &scripts));
+    HOLDS(count == natives + scripts && is_same(&x, &a[2]));
+    /* the entry that was set first comes last, also where it was set again */
+    while (cc_next_entry(c, &map, &key, &next, &value) == CC_OK) {
+        HOLDS(r > 0 && is_same(&next, &a[--r]) && is_same(&value, r == 0 ? &a[1] : &map));
+        key = next;
+    }
+    HOLDS(r == 0);
+    WANT(cc_next_entry(c, &map, &map, &next, &value), CC_NONE);
+    /* what is gone has nothing behind it */
+    x = a[1];
+    TRY(cc_unset_entry(c, &map, &a[0]));
+    TRY(cc_set_script_root(c, 11, &nothing));
+    TRY(cc_settle(c));
+    HOLDS(fetch(c) == 1);
+    WANT(cc_next_object(c, &x, &found), CC_GONE);
+    WANT(cc_next_entry(c, &map, &x, &next, &value), CC_GONE);
+    TRY(cc_next_object(c, &a[0], &found));
+    HOLDS(is_same(&found, &a[2]));
+    TRY(cc_is_due(c, &due));
+    HOLDS(due == 0);
+    for (r = 10; r < 14; r++) TRY(cc_set_script_root(c, r, &nothing));
+    TRY(cc_settle(c));
+    HOLDS(fetch(c) == 3);
+}
+
 /* A native that only a weak reference knows is brought back, until a collection unlinked it. */
 static void refer_weakly(cc_collector *c) {
     cc_object kept, found;
@@ -489,7 +582,7 @@ static void meet_each_status(cc_collector *c, const struct page *p) {
     WANT(cc_reflector(c, &plain, &out), CC_KIND);
     WANT(cc_is_preserved(c, &plain, &over), CC_KIND);
     WANT(cc_delegate(c, &native, &out), CC_KIND);
-    WANT(cc_set_data(c, &plain, 1), CC_KIND);
+    WANT(cc_set_data(c, &nothing, 1), CC_KIND);
     WANT(cc_set_entry(c, &plain, &plain, &plain), CC_KIND);
     WANT(cc_entry(c, &p->map, &native, &out), CC_KIND);
     printf("  CC_KIND: an object of the wrong kind\n");
@@ -523,6 +616,8 @@ int main(void) {
     move_and_proxy(&c);
     use_the_last(&c);
     hold_many(&c);
+    number_reflectors(&c);
+    walk_over(&c);
     refer_weakly(&c);
     meet_each_status(&c, &page);
 

@@ -224,7 +224,16 @@ static void call_each() {
     WANT(c.set_entry(map, reflector, listener) == CC_OK && c.entry(map, reflector)->number == listener.number);
     WANT(c.unset_entry(map, reflector) == CC_OK && c.entry(map, reflector)->kind == CC_NOTHING);
     WANT(c.set_data(element, 77) == CC_OK && *c.data(element) == 77);
-    WANT(*c.natives() == 2 && *c.scripts() == 4 && *c.has_suspects());
+    WANT(*c.natives() == 2 && *c.scripts() == 4 && *c.has_suspects() && !*c.is_due());
+    WANT(*c.bytes() == 2 * 272 + 2 * 8 + 4 * 254 + 1 * 8 + 4 * 8);
+    unsigned objects = 0;
+    cc::object last = cc::nothing();
+    for (cc::expected<cc::object> x = c.next_object(last); x; x = c.next_object(last), objects++) last = *x;
+    WANT(objects == 6 && last.number == element.number && last.kind == CC_REFLECTOR && c.next_object(last).status() == CC_NONE);
+    WANT(c.next_entry(map, cc::nothing()).status() == CC_NONE && c.set_entry(map, proxy, listener) == CC_OK);
+    const cc::expected<cc::key_and_value> entry = c.next_entry(map, cc::nothing());
+    WANT(entry && entry->key.number == proxy.number && entry->value.number == listener.number);
+    WANT(c.next_entry(map, entry->key)->key.kind == CC_NOTHING && c.unset_entry(map, proxy) == CC_OK);
     WANT(*c.why(child));
     unsigned steps = 0;
     for (cc::expected<cc_step> step = c.next_step(); step; step = c.next_step()) steps++;

@@ -108,11 +108,9 @@ static uint64_t take_picture(struct program *m) {
             TRY(cc_slot(&m->c, &p.seen[i], j, &x));
             see(&p, &x);
         }
-        if (p.seen[i].kind == CC_NATIVE) {
-            uint64_t data;
-            TRY(cc_data(&m->c, &p.seen[i], &data));
-            mix(&p, data);
-        }
+        uint64_t data;
+        TRY(cc_data(&m->c, &p.seen[i], &data));
+        mix(&p, data);
         if (p.seen[i].kind == CC_REFLECTOR) {
             TRY(cc_unwrap(&m->c, &p.seen[i], &x));
             see(&p, &x);
@@ -132,9 +130,10 @@ static void fetch(struct program *m) {
     while (cc_next_told(&m->c, &told) == CC_OK) {
         if (told.what == CC_ABANDONED) m->told_given_up++;
         if (told.what != CC_FREED) continue;
+        /* each element and its reflector were given a number, and of script objects the listeners */
+        HOLDS(told.data == 1000u * told.kind + told.number || (told.kind == CC_SCRIPT && told.data == 0));
         if (told.kind == CC_NATIVE) {
             HOLDS(told.number < sizeof m->freed_natives / sizeof m->freed_natives[0]);
-            HOLDS(told.data == 1000u + told.number);
             m->freed_natives[told.number]++;
         } else if (told.kind == CC_SCRIPT) {
             HOLDS(told.number < sizeof m->freed_scripts / sizeof m->freed_scripts[0]);
@@ -181,20 +180,26 @@ static void after_refusal(struct program *m, uint64_t before, const char *call, 
     }
 }
 
+static void give_number(struct program *m, const cc_object *x) {
+    ASK(m, cc_set_data(&m->c, x, 1000u * x->kind + x->number));
+}
+
 static void make_element(struct program *m, uint16_t i) {
     cc_object found;
     /* root 0 still holds the one before, which must stay there where this one finds no memory */
     ASK(m, cc_new_native(&m->c, 0, 2, &m->native[i]));
     m->natives_made++;
     ASK(m, cc_set_native_root(&m->c, i, &m->native[i]));
-    ASK(m, cc_set_data(&m->c, &m->native[i], 1000u + m->native[i].number));
+    give_number(m, &m->native[i]);
     ASK(m, cc_hold(&m->c, &m->native[i], &m->held[i]));
     m->is_held[i] = true;
     TRY(cc_weak_of(&m->c, &m->native[i], &m->weak[i]));
     ASK(m, cc_wrap(&m->c, &m->native[i], &m->reflector[i]));
     ASK(m, cc_set_script_root(&m->c, 0, &m->reflector[i]));
+    give_number(m, &m->reflector[i]);
     ASK(m, cc_new_plain(&m->c, 1, 2, &m->listener[i]));
     m->scripts_made++;
+    give_number(m, &m->listener[i]);
     ASK(m, cc_store(&m->c, &m->listener[i], 0, &m->reflector[i]));
     ASK(m, cc_store(&m->c, &m->native[i], 0, &m->listener[i]));
     ASK(m, cc_new_plain(&m->c, 3, 1, &m->note[i]));

@@ -1,5 +1,5 @@
 -- The machine value of a handle.
-use Rattle.cc_session.specs.Sessions.{State}
+use Rattle.cc_host.specs.Hosts.{State}
 use Rattle.std.proofs.Common.{◌≡◌, List, [], ◌∷◌, ◌++◌, refl, subst}
 use Rattle.std.specs.Prelude.{Option}
 use seplogic.Ra.Ura.{Ura}
@@ -19,12 +19,12 @@ abbrev pub word : Ptr → Val
 word p = vstruct (vcons (ptr_val p) vnil)
 
 module _ {M : Type 1} {𝓤 : Ura M} {𝓛 : Logic 𝓤} {K : Type 0} {Γ : List (Item 𝓤)} {G : Goal 𝓤 𝓛.H} where
-  pub handle_in : K → (p : Ptr) (o : Option State) → Step K 𝓛 (‵ ((handle.the_row).own_val (record { at = p; session = o }) (word p ∷ [])) ∷ Γ) G (‵ (opened p o) ∷ Γ) G
+  pub handle_in : K → (p : Ptr) (o : Option State) → Step K 𝓛 (‵ ((handle.the_row).own_val (record { at = p; host = o }) (word p ∷ [])) ∷ Γ) G (‵ (opened p o) ∷ Γ) G
   handle_in t p o = step (λ s.
       nothing t $ feq_i t (List Val) (ptr_val p ∷ []) (ptr_val p ∷ []) refl $ fjoin t $ feq_i t (List Val) (word p ∷ []) (word p ∷ []) refl $ fjoin t $
       fpack t (Valss (RawPtr ∷ [])) (within (shape handle.the_type) (p, tt) (word p ∷ [])) (ptr_val p ∷ [], tt) $ fjoin t $ s)
 
-  pub handle_out : K → (d : (handle.the_row).Denot) (vs : List Val) → (vs ≡ word d.at ∷ [] → Seq K 𝓛 (‵ (opened d.at d.session) ∷ Γ) G) → Seq K 𝓛 (‵ ((handle.the_row).own_val d vs) ∷ Γ) G
+  pub handle_out : K → (d : (handle.the_row).Denot) (vs : List Val) → (vs ≡ word d.at ∷ [] → Seq K 𝓛 (‵ (opened d.at d.host) ∷ Γ) G) → Seq K 𝓛 (‵ ((handle.the_row).own_val d vs) ∷ Γ) G
   handle_out t d vs k =
       fsplit t $ fpick t (λ vss. fsplit t $ feq_l t (λ ev. fsplit t $ feq_l t (λ ep. drop t $
       k (subst (λ (ps : List Val). vs ≡ vstruct (of_list (ps ++ [])) ∷ []) ep ev))))

@@ -1,12 +1,14 @@
--- A status from what a session answered.
+-- A status from what a host answered.
 use Rattle.std.proofs.Common.{◌≡◌, ℕ, inl, inr, refl, sym, ap, subst, ◌∙◌}
 use Rattle.std.specs.Prelude.{Option, None, Some, Result, Ok, Err, ◌⊎◌}
 use Rattle.std.proofs.lemmas.Bool.{false≢true}
 use Rattle.cc_host.specs.declared.stop.Stop.{Stop}
 use Rattle.cc_host.specs.declared.stop.Stop.TheVariants.{NoMemory, Full}
 use Rattle.cc_host.specs.Stops.{IsStoppedBy, IsStoppedOrRefused}
-use Rattle.cc_session.specs.Sessions.{State}
-use Rattle.cc_session.specs.Refusals.{IsStoppedOrWants, IsRootRefused}
+use Rattle.cc_host.specs.Hosts.{State}
+use Rattle.cc_host.specs.Calls.{Comes}
+use Rattle.cc_host.specs.declared.object.Object.{Object}
+use Rattle.cc_host.specs.Refusals.{IsStoppedOrWants, IsRootRefused}
 use Rattle.cc_c.specs.Values.{IsStatus, IsStatusOrRefused, IsStatusOrWants, IsRootStatus, status_of}
 
 abbrev Same : (T : Type 0) → Result T Stop → Result T Stop → Type 0
@@ -73,15 +75,19 @@ pair_of a b = (a, b)
 pub both : {A B : Type 0} (a x : A) (b y : B) → a ≡ x → b ≡ y → pair_of a b ≡ pair_of x y
 both a x b y e f = ap (λ z. pair_of z b) e ∙ ap (pair_of x) f
 
--- what a session was, of which an open collector's box was taken
+-- what a host was, of which an open collector's box was taken
 pub taken : (now v s : State) (o : Option State) → now ≡ v → Some v ≡ o → o ≡ Some s → now ≡ s
 taken now v s o e f g = cc
 
--- what a session became, which an open collector got
+-- what a host became, which an open collector got
 pub given_back : (now t : State) (o : Option State) → o ≡ Some now → o ≡ Some t → now ≡ t
 given_back now t o e f = cc
 
--- what a call made of the session that it took out, of the collector that it was handed
+-- what a call made of the host that it took out, of the collector that it was handed
 pub carried : (R : State → State → Type 0) (was is v s t : State) (o p : Option State) →
     was ≡ v → Some v ≡ o → o ≡ Some s → p ≡ Some is → p ≡ Some t → R was is → R s t
 carried R was is v s t o p e f g h k r = subst (λ (x : State). R x t) (taken was v s o e f g) (subst (λ (x : State). R was x) (given_back is t p h k) r)
+
+-- what came, as it is shown to C
+pub came_as : (made x : Object) (s t : State) → made ≡ x → Comes x.name s.host t.host → Comes made.name s.host t.host
+came_as made x s t e r = subst (λ (o : Object). Comes o.name s.host t.host) (sym e) r

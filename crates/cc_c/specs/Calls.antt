@@ -1,7 +1,8 @@
 -- WHAT A CALL MAKES OF A COLLECTOR.
-use Rattle.std.specs.Prelude.{◌≡◌, ℕ, false, [], Option, None, Some, IsSome}
-use Rattle.cc_model.specs.Heap.{empty_heap}
-use Rattle.cc_session.specs.Sessions.{State}
+use Rattle.std.specs.Prelude.{◌≡◌, ℕ, List, Option, None, Some, IsSome}
+use Rattle.cc_names.specs.declared.name.Name.{Name}
+use Rattle.cc_host.specs.Hosts.{State}
+use Rattle.cc_host.specs.Spots.{IsWritten, Spot, WritesOnly}
 
 -- a closed one stays closed, and the call says so; an open one stays open
 pub record Stays (old new : Option State) (result : ℕ) : Type 0 where
@@ -16,11 +17,10 @@ Open old new R = (s t : State) → old ≡ Some s → new ≡ Some t → R s t
 abbrev pub Reads : Option State → (State → Type 0) → Type 0
 Reads now R = (s : State) → now ≡ Some s → R s
 
--- A NEW SESSION: no objects, no roots, nothing told
-pub record IsNew (its_mark natives scripts : ℕ) (s : State) : Type 0 where
-  pub heap : s.host.heaps.heap ≡ empty_heap (record { natives = natives; scripts = scripts; bytes = 0 })
-  pub idle : s.host.running ≡ None
-  pub unmarked : s.host.marking ≡ false
-  pub mark : s.host.mark ≡ its_mark
-  pub told : s.told ≡ []
-  pub books : s.books ≡ record { given = []; roots = []; last = 0 }
+-- THESE SPOTS ALONE ARE WRITTEN
+abbrev pub Writes : List Spot → State → State → Type 0
+Writes spots s t = WritesOnly spots s.host.heaps.heap t.host.heaps.heap
+
+-- and one of them holds this from then on
+abbrev pub Wrote : Spot → Option Name → State → Type 0
+Wrote spot x t = IsWritten spot x t.host.heaps.heap

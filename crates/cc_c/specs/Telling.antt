@@ -9,8 +9,8 @@ use Rattle.cc_model.specs.declared.item.Item.TheVariants.{Event, Listed, Step, R
 use Rattle.cc_model.specs.declared.item.Event.TheVariants.{Unlinked, Freed, Abandoned}
 use Rattle.cc_model.specs.declared.item.Reason.{Reason}
 use Rattle.cc_model.specs.declared.item.Reason.TheVariants.{Root, Edge, Pair}
-use Rattle.cc_host.specs.declared.host.rooted.TheConstants.{FIRST_PLACE}
-use Rattle.cc_session.specs.Sessions.{State, Books, data_at}
+use Rattle.cc_host.specs.declared.runtime.rooted.TheConstants.{FIRST_PLACE}
+use Rattle.cc_host.specs.Hosts.{State, Books, data_at}
 use Rattle.cc_c.specs.declared.values.CTold.{CTold}
 use Rattle.cc_c.specs.declared.values.CStep.{CStep}
 
@@ -20,15 +20,9 @@ kind_of (name.Native k) = 1
 kind_of (name.Script k) = 2
 kind_of (name.Reflector k) = 3
 
--- the program's number for a native, 0 of all else
-abbrev pub data_in : Books → Name → ℕ
-data_in b (name.Native k) = data_at b k.0
-data_in b (name.Script k) = 0
-data_in b (name.Reflector k) = 0
-
 -- what was told of an object
 abbrev pub told_of : Books → ℕ → Name → CTold
-told_of b what x = record { value = data_in b x; what = what; kind = kind_of x; number = number_of x }
+told_of b what x = record { value = data_at b x; what = what; kind = kind_of x; number = number_of x }
 
 -- and of none
 abbrev pub told_alone : ℕ → CTold

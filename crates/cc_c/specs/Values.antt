@@ -11,9 +11,9 @@ use Rattle.cc_host.specs.declared.object.Object.{Object}
 use Rattle.cc_host.specs.declared.weak.Weak.{Weak}
 use Rattle.cc_host.specs.declared.stop.Stop.{Stop}
 use Rattle.cc_host.specs.declared.stop.Stop.TheVariants.{Foreign, Gone, Kind, Index, Full, NoMemory}
-use Rattle.cc_session.specs.declared.hindrance.Hindrance.{Hindrance}
-use Rattle.cc_session.specs.declared.hindrance.Hindrance.TheVariants as hindrance
-use Rattle.cc_session.specs.declared.root.Root.{Root}
+use Rattle.cc_host.specs.declared.hindrance.Hindrance.{Hindrance}
+use Rattle.cc_host.specs.declared.hindrance.Hindrance.TheVariants as hindrance
+use Rattle.cc_host.specs.declared.root.Root.{Root}
 use Rattle.cc_c.specs.declared.values.CObject.{CObject}
 use Rattle.cc_c.specs.declared.values.CRoot.{CRoot}
 use Rattle.cc_c.specs.declared.values.CWeak.{CWeak}

@@ -1,52 +1,52 @@
-//! A session's box as C holds it.
+//! A host's box as C holds it.
 ghost use Rattle.std.specs.Prelude.{◌≡◌, Option, None, Some, IsSome};
-ghost use Rattle.cc_session.specs.Sessions.{State};
+ghost use Rattle.cc_host.specs.Hosts.{State};
 
-use cc_session::Session;
-use cc_session::loose::Loose;
+use cc_host::Host;
+use cc_host::loose::Loose;
 use std::alloc::Global;
 use std::marker::Model;
 
-/// The pointer of a session's box, or nothing.
+/// The pointer of a host's box, or nothing.
 #[repr(C)]
 #[derive(Drop)]
 pub struct Handle {
     at: *mut u8,
-    pub ghost session: { Option State },
+    pub ghost host: { Option State },
 }
 
 impl Model for Handle {
     ghost use Rattle.cc_c.specs.Own.{opened};
 
-    ghost also_owns = { λ h. opened h.at h.session };
+    ghost also_owns = { λ h. opened h.at h.host };
 }
 
 impl Handle {
     /// Nothing.
     pub fn closed() -> Handle
-        ensures { result.session ≡ None }
+        ensures { result.host ≡ None }
     {
         Handle {
             at: std::ptr::null_mut(),
         }
     }
 
-    /// A session's box.
-    pub fn of(session: Loose<Session, Global>) -> Handle
-        ensures { result.session ≡ Some session.value }
+    /// A host's box.
+    pub fn of(host: Loose<Host, Global>) -> Handle
+        ensures { result.host ≡ Some host.value }
     {
-        let Loose { at, alloc: _ } = session;
+        let Loose { at, alloc: _ } = host;
         Handle { at: at as *mut u8 }
     }
 
     /// The box again.
-    pub fn into_loose(self, alloc: Global) -> Loose<Session, Global>
-        requires { IsSome self.session }
-        ensures { Some result.value ≡ self.session }
+    pub fn into_loose(self, alloc: Global) -> Loose<Host, Global>
+        requires { IsSome self.host }
+        ensures { Some result.value ≡ self.host }
     {
         let Handle { at } = self;
         Loose {
-            at: at as *mut Session,
+            at: at as *mut Host,
             alloc,
         }
     }

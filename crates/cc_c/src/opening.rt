@@ -1,11 +1,10 @@
 //! A collector opened and closed.
 ghost use Rattle.std.specs.Prelude.{◌≡◌, ◌≢◌, ◌⊎◌, ◌<◌, ◌≤◌, IsSome, IfSome, None};
-ghost use Rattle.cc_c.specs.Calls.{IsNew};
+ghost use Rattle.cc_host.specs.Hosts.{IsNew};
 
 use crate::collector::Collector;
 use crate::status::{LIMIT, NO_MEMORY, OK, OPEN};
-use cc_names::Limits;
-use cc_session::Session;
+use cc_host::{Host, Stop};
 use std::alloc::Global;
 
 /// Opens a collector without objects, whose roots hold nothing; as many natives, and as many script objects, may ever be made as
@@ -18,25 +17,24 @@ pub extern "C" fn cc_open_with_mark(
     natives: u32,
     scripts: u32,
 ) -> u32
-    ensures open { IsSome c.old.handle.session → result ≡ 2 }
-    ensures limit { c.old.handle.session ≡ None → (1000000 < natives) ⊎ (1000000 < scripts) → result ≡ 9 }
-    ensures opens { c.old.handle.session ≡ None → natives ≤ 1000000 → scripts ≤ 1000000 → (result ≡ 0) ⊎ (result ≡ 8) }
-    ensures opened { result ≡ 0 → IsSome c.new.handle.session }
-    ensures made { result ≡ 0 → IfSome c.new.handle.session (IsNew mark natives scripts) }
-    ensures same { result ≢ 0 → c.new.handle.session ≡ c.old.handle.session }
+    ensures open { IsSome c.old.handle.host → result ≡ 2 }
+    ensures limit { c.old.handle.host ≡ None → (1000000 < natives) ⊎ (1000000 < scripts) → result ≡ 9 }
+    ensures opens { c.old.handle.host ≡ None → natives ≤ 1000000 → scripts ≤ 1000000 → (result ≡ 0) ⊎ (result ≡ 8) }
+    ensures opened { result ≡ 0 → IsSome c.new.handle.host }
+    ensures made { result ≡ 0 → IfSome c.new.handle.host (IsNew mark natives scripts) }
+    ensures same { result ≢ 0 → c.new.handle.host ≡ c.old.handle.host }
 {
     if c.is_open() {
         return OPEN;
     }
-    if natives > Limits::MOST || scripts > Limits::MOST {
-        return LIMIT;
-    }
-    let Ok(session) = Session::new(alloc, Limits::new(natives, scripts, 0), mark) else {
-        return NO_MEMORY;
+    let host = match Host::with_mark(alloc, natives, scripts, mark) {
+        Ok(host) => host,
+        Err(Stop::Index) => return LIMIT,
+        Err(_) => return NO_MEMORY,
     };
-    match Box::new(alloc, session) {
-        Ok(session) => {
-            *c = Collector::of(session);
+    match Box::new(alloc, host) {
+        Ok(host) => {
+            *c = Collector::of(host);
             OK
         }
         Err(_) => NO_MEMORY,
@@ -46,7 +44,7 @@ pub extern "C" fn cc_open_with_mark(
 /// Closes a collector, and frees all that it has; nothing is told. A closed one stays closed.
 #[unsafe(no_mangle)]
 pub extern "C" fn cc_close(alloc: Global, c: &mut Collector)
-    ensures { c.new.handle.session ≡ None }
+    ensures { c.new.handle.host ≡ None }
 {
-    let _session = c.take(alloc);
+    let _host = c.take(alloc);
 }

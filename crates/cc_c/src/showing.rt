@@ -1,15 +1,14 @@
 //! What was told, and steps by which an object is reached, for C.
 ghost use Rattle.std.specs.Prelude.{◌≡◌, [], None, Some};
 ghost use Rattle.cc_names.specs.Names.{number_of};
-ghost use Rattle.cc_c.specs.Telling.{FetchesStep, FetchesTold, data_in, kind_of, shown, shown_step, step_by, step_by_root, step_for, told_alone, told_of};
+ghost use Rattle.cc_c.specs.Telling.{FetchesStep, FetchesTold, kind_of, shown, shown_step, step_by, step_by_root, step_for, told_alone, told_of};
 ghost use Rattle.cc_c.specs.declared.values.CStep.{CStep};
 ghost use Rattle.cc_c.specs.declared.values.CTold.{CTold};
 
 use crate::values::{CStep, CTold};
-use cc_host::FIRST_PLACE;
+use cc_host::{FIRST_PLACE, Host};
 use cc_model::{Event, Item, Reason};
 use cc_names::{Name, Reg, RegNo};
-use cc_session::Session;
 
 // The kind and the number of an object.
 fn kind_of(x: Name) -> (u32, u32)
@@ -23,24 +22,13 @@ fn kind_of(x: Name) -> (u32, u32)
     }
 }
 
-// The program's number for a native, 0 of all else.
-fn data_in(session: &Session, x: Name) -> u64
-    ensures { result ≡ data_in session.now.books x }
-{
-    match x {
-        Name::Native(k) => session.data_of(k.0),
-        Name::Script(_) => 0,
-        Name::Reflector(_) => 0,
-    }
-}
-
 // What was told of an object.
-fn told_of(session: &Session, what: u32, x: Name) -> CTold
-    ensures { result ≡ told_of session.now.books what x }
+fn told_of(host: &Host, what: u32, x: Name) -> CTold
+    ensures { result ≡ told_of host.now.books what x }
 {
     let (kind, number) = kind_of(x);
     CTold {
-        value: data_in(session, x),
+        value: host.data_of(x),
         what,
         kind,
         number,
@@ -60,12 +48,12 @@ fn told_alone(what: u32) -> CTold
 }
 
 // An item for C.
-fn shown(session: &Session, item: Item) -> CTold
-    ensures { result ≡ shown session.now.books item }
+fn shown(host: &Host, item: Item) -> CTold
+    ensures { result ≡ shown host.now.books item }
 {
     match item {
-        Item::Event(Event::Unlinked(x)) => told_of(session, 1, x),
-        Item::Event(Event::Freed(x)) => told_of(session, 2, x),
+        Item::Event(Event::Unlinked(x)) => told_of(host, 1, x),
+        Item::Event(Event::Freed(x)) => told_of(host, 2, x),
         Item::Event(Event::Abandoned) => told_alone(3),
         Item::Listed(_) => told_alone(0),
         Item::Step(_, _) => told_alone(0),
@@ -148,22 +136,22 @@ fn shown_step(item: Item) -> CStep
 }
 
 /// The first item that was told and not fetched yet, which is fetched then.
-pub fn next_told(session: &mut Session) -> Option<CTold>
-    ensures next { (x : CTold) → result ≡ Some x → FetchesTold session.old session.new x }
-    ensures none { result ≡ None → (session.new ≡ session.old) × (session.old.told ≡ []) }
+pub fn next_told(host: &mut Host) -> Option<CTold>
+    ensures next { (x : CTold) → result ≡ Some x → FetchesTold host.old host.new x }
+    ensures none { result ≡ None → (host.new ≡ host.old) × (host.old.told ≡ []) }
 {
-    match session.next_told() {
-        Some(item) => Some(shown(session, item)),
+    match host.next_told() {
+        Some(item) => Some(shown(host, item)),
         None => None,
     }
 }
 
 /// The next step of the last answer why an object is there, which is fetched then.
-pub fn next_step(session: &mut Session) -> Option<CStep>
-    ensures next { (x : CStep) → result ≡ Some x → FetchesStep session.old session.new x }
-    ensures none { result ≡ None → (session.new ≡ session.old) × (session.old.steps ≡ []) }
+pub fn next_step(host: &mut Host) -> Option<CStep>
+    ensures next { (x : CStep) → result ≡ Some x → FetchesStep host.old host.new x }
+    ensures none { result ≡ None → (host.new ≡ host.old) × (host.old.steps ≡ []) }
 {
-    match session.next_step() {
+    match host.next_step() {
         Some(item) => Some(shown_step(item)),
         None => None,
     }

@@ -2,8 +2,7 @@
 ghost use Rattle.std.specs.Prelude.{◌≡◌, ◌≢◌};
 ghost use Rattle.cc_c.specs.Values.{status_of, status_of_hindrance};
 
-use cc_host::Stop;
-use cc_session::Hindrance;
+use cc_host::{Hindrance, Stop};
 
 pub const OK: u32 = 0;
 

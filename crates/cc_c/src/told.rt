@@ -12,18 +12,18 @@ use std::alloc::Global;
 /// The first item that was told and not fetched yet, which is fetched then.
 #[unsafe(no_mangle)]
 pub extern "C" fn cc_next_told(alloc: Global, c: &mut Collector, told: &mut CTold) -> u32
-    ensures stays { Stays c.old.handle.session c.new.handle.session result }
-    ensures status { Reads c.old.handle.session (λ s. (result ≡ 0) ⊎ (result ≡ 10)) }
-    ensures next { result ≡ 0 → Open c.old.handle.session c.new.handle.session (λ s t. FetchesTold s t told.new) }
-    ensures none { result ≡ 10 → Reads c.old.handle.session (λ s. s.told ≡ []) }
-    ensures same { result ≢ 0 → c.new.handle.session ≡ c.old.handle.session }
+    ensures stays { Stays c.old.handle.host c.new.handle.host result }
+    ensures status { Reads c.old.handle.host (λ s. (result ≡ 0) ⊎ (result ≡ 10)) }
+    ensures next { result ≡ 0 → Open c.old.handle.host c.new.handle.host (λ s t. FetchesTold s t told.new) }
+    ensures none { result ≡ 10 → Reads c.old.handle.host (λ s. s.told ≡ []) }
+    ensures same { result ≢ 0 → c.new.handle.host ≡ c.old.handle.host }
     ensures left { result ≢ 0 → told.new ≡ told.old }
 {
-    let Some(mut session) = c.take(alloc) else {
+    let Some(mut host) = c.take(alloc) else {
         return CLOSED;
     };
-    let answer = next_told(&mut session);
-    *c = Collector::of(session);
+    let answer = next_told(&mut host);
+    *c = Collector::of(host);
     match answer {
         Some(item) => {
             *told = item;
@@ -36,18 +36,18 @@ pub extern "C" fn cc_next_told(alloc: Global, c: &mut Collector, told: &mut CTol
 /// The next step of the last answer to `cc_why`, which is fetched then.
 #[unsafe(no_mangle)]
 pub extern "C" fn cc_next_step(alloc: Global, c: &mut Collector, step: &mut CStep) -> u32
-    ensures stays { Stays c.old.handle.session c.new.handle.session result }
-    ensures status { Reads c.old.handle.session (λ s. (result ≡ 0) ⊎ (result ≡ 10)) }
-    ensures next { result ≡ 0 → Open c.old.handle.session c.new.handle.session (λ s t. FetchesStep s t step.new) }
-    ensures none { result ≡ 10 → Reads c.old.handle.session (λ s. s.steps ≡ []) }
-    ensures same { result ≢ 0 → c.new.handle.session ≡ c.old.handle.session }
+    ensures stays { Stays c.old.handle.host c.new.handle.host result }
+    ensures status { Reads c.old.handle.host (λ s. (result ≡ 0) ⊎ (result ≡ 10)) }
+    ensures next { result ≡ 0 → Open c.old.handle.host c.new.handle.host (λ s t. FetchesStep s t step.new) }
+    ensures none { result ≡ 10 → Reads c.old.handle.host (λ s. s.steps ≡ []) }
+    ensures same { result ≢ 0 → c.new.handle.host ≡ c.old.handle.host }
     ensures left { result ≢ 0 → step.new ≡ step.old }
 {
-    let Some(mut session) = c.take(alloc) else {
+    let Some(mut host) = c.take(alloc) else {
         return CLOSED;
     };
-    let answer = next_step(&mut session);
-    *c = Collector::of(session);
+    let answer = next_step(&mut host);
+    *c = Collector::of(host);
     match answer {
         Some(item) => {
             *step = item;

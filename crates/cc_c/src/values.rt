@@ -2,9 +2,8 @@
 ghost use Rattle.std.specs.Prelude.{◌≡◌, Some};
 ghost use Rattle.cc_c.specs.Values.{flag, number_of_kind, to_content, to_object, to_root, to_weak};
 
-use cc_host::{Object, Weak};
+use cc_host::{Object, Root, Weak};
 use cc_names::{Kind, NKey, Name, NativeNo, ScriptNo};
-use cc_session::Root;
 
 /// What C holds of an object: nothing (kind 0), a native (1), a script object (2), or the reflector of a native (3).
 #[repr(C)]
@@ -35,7 +34,7 @@ pub struct CWeak {
 }
 
 /// What was told: a native was unlinked (1), an object was freed (2), a collection was abandoned (3). `value` is the program's
-/// number for a native.
+/// number for the object.
 #[repr(C)]
 #[derive(Clone, Copy, Drop)]
 pub struct CTold {

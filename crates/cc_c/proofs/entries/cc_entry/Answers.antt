@@ -1,6 +1,6 @@
 use Rattle.cc_host.specs.declared.object.Object.{Object}
 use Rattle.cc_host.specs.Stops.{stop_entry}
-use Rattle.cc_session.specs.Sessions.{State}
+use Rattle.cc_host.specs.Hosts.{State}
 use Rattle.cc_c.specs.Values.{IsStatus, to_object}
 use Rattle.cc_c.proofs.Statuses.{answered, both, status-err, taken}
 use Rattle.cc_c.proofs.entries.cc_entry.Goals as goal

@@ -1,5 +1,5 @@
 use Rattle.cc_host.specs.Calls.{NoneComes}
-use Rattle.cc_session.specs.Sessions.{State}
+use Rattle.cc_host.specs.Hosts.{State}
 use Rattle.cc_c.proofs.Statuses.{carried}
 use Rattle.cc_c.proofs.roots.cc_hold.Goals as goal
 

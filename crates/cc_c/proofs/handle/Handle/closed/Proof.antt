@@ -27,11 +27,11 @@ unfolding opened
 closed_spec 𝓤 𝓛 𝓜 𝓡 wired =
     let c = f.clauses 𝓛 𝓜.mem 𝓡.returns in let 𝓣 = tables 𝓤 𝓛.H 𝓜 𝓡 𝓡.env in
     proved_at 𝓛 f.ended stayed c 𝓜 𝓡 tt f.Key.name code.function (code.unfolded 𝓤 𝓛.H 𝓜 𝓡 wired) (λ z are.
-    let made : (handle.the_row).Denot = record { at = null_ptr; session = None } in
+    let made : (handle.the_row).Denot = record { at = null_ptr; host = None } in
     let Post = (walk_of 𝓛 f.ended stayed c).post z in
     qed 𝓛 (raw ((walk_of 𝓛 f.ended stayed c).pre z) ∷ []) ∵ drop ! $
     enter ! 𝓣.C 𝓣.Λ code.function [] Post $ alloc_all ! (λ l. pass_all ! refl tt $
     sets ! (agg ! (and_then ! (lit ! tt) (no_more !))) refl (tt, (record { fits = lit< tt }, tt)) $
     returns ! (look_at ! 0 refl) $ free_all ! refl $
-    use0 𝓛 (raw (fact 𝓤 (made.session ≡ None))) (fact_i 𝓤 (made.session ≡ None) (emp 𝓤) refl) $
+    use0 𝓛 (raw (fact 𝓤 (made.host ≡ None))) (fact_i 𝓤 (made.host ≡ None) (emp 𝓤) refl) $
     nothing ! $ handle_in ! null_ptr None $ nothing ! $ nothing ! $ by ! (leaves 𝓛 f.ended stayed c z (word null_ptr) made tt tt)))
