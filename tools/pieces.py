@@ -5,11 +5,14 @@
     tools/pieces.py --check    writes nothing; says which piece is not that of its file, and exits 1 where one is not
 
 A piece is what stands between two fences, and its file is the one that the paragraph before it names last, in backquotes. Each
-piece of docs/EMBEDDING.md is compared, and each piece of rust of README.md.
+piece of docs/EMBEDDING.md is compared, and each piece of rust of README.md and of docs/HOST.md.
 
 On docs/EMBEDDING.md a piece is the whole text of its file, so that who copies it has what the gate proves; but one of the
-program crates/ccdom is some lines of its file, and so is a piece of README.md: each part between two empty lines stands there in
-a row, indented or not, one part after the other.
+program crates/ccdom is some lines of its file, and so is a piece of the other pages: each part between two empty lines stands
+there in a row, indented or not, one part after the other; or in the file without its `///` comments and attributes.
+
+On docs/HOST.md stands each public call of the facade, by its signature: in backquotes, from `fn` on, as its file has it but for
+the breaks of its lines.
 """
 import re
 import sys
@@ -18,7 +21,9 @@ from pathlib import Path
 ROOT = Path(__file__).resolve().parent.parent
 EMBEDDING = ROOT / 'docs' / 'EMBEDDING.md'
 README = ROOT / 'README.md'
+HOST = ROOT / 'docs' / 'HOST.md'
 IN_PARTS = ROOT / 'crates' / 'ccdom'
+FACADE = ROOT / 'crates' / 'cc_host' / 'src'
 FENCE = '```'
 
 
@@ -96,6 +101,11 @@ def indented(lines, indent):
     return [indent + line if line else line for line in lines]
 
 
+def bare(lines):
+    """The lines that are no `///` comment and no attribute."""
+    return [line for line in lines if not line.lstrip().startswith(('///', '#['))]
+
+
 def stands_in(piece, lines):
     """Whether there is a part, and each part between empty lines stands in the file, one after the other."""
     parts = paragraphs(piece.lines)
@@ -117,7 +127,8 @@ def fault_of_whole(piece):
 
 
 def fault_of_some(piece):
-    if stands_in(piece, lines_of(piece.path)):
+    lines = lines_of(piece.path)
+    if stands_in(piece, lines) or stands_in(piece, bare(lines)):
         return None
     return f'the piece does not stand in {piece.path.relative_to(ROOT)}'
 
@@ -135,16 +146,43 @@ def fault(piece):
     return fault_of_some(piece)
 
 
+# The calls of the facade
+
+def in_one_line(text):
+    """A signature without the breaks of its lines."""
+    return ' '.join(text.split()).replace('( ', '(').replace(', )', ')')
+
+
+def facade_files():
+    return [FACADE / 'host.rt', FACADE / 'marks.rt', *sorted((FACADE / 'host').glob('*.rt'))]
+
+
+def signatures(path):
+    """Those of the public calls of a file, from `fn` on: each ends where its contract or its body begins."""
+    text = path.read_text(encoding='utf-8')
+    found = re.findall(r'^    pub (fn .*?)(?=\n *requires|\n *ensures|\s*\{)', text, re.DOTALL | re.MULTILINE)
+    return [in_one_line(signature) for signature in found]
+
+
+def faults_of_calls():
+    """Each call of the facade that is not on its page, and each on the page that is none."""
+    wanted = [signature for path in facade_files() for signature in signatures(path)]
+    shown = re.findall(r'`(fn [^`]*)`', HOST.read_text(encoding='utf-8'))
+    page = HOST.relative_to(ROOT)
+    lacking = [f'{page}: a call of the facade is not there: {call}' for call in wanted if call not in shown]
+    return lacking + [f'{page}: the facade has no such call: {call}' for call in shown if call not in wanted]
+
+
 # All of it
 
 def compared():
     """Each piece that is compared with its file."""
-    return pieces(EMBEDDING) + [piece for piece in pieces(README) if piece.language == 'rust']
+    return pieces(EMBEDDING) + [piece for page in (README, HOST) for piece in pieces(page) if piece.language == 'rust']
 
 
 def faults():
     found = [(piece, fault(piece)) for piece in compared()]
-    return [f'{piece.place()}: {what}' for piece, what in found if what]
+    return [f'{piece.place()}: {what}' for piece, what in found if what] + faults_of_calls()
 
 
 def write_page():
